@@ -1,0 +1,48 @@
+-- A galley's characters (document 01, "Galley").
+--     valid              a character is valid
+--     characterField     its field
+--     characterAt        the character whose field starts at a place
+--     isCharacter        the bytes start with the whole field of a valid character
+use Prim.Native.Nat.{ℕ, _+_}
+use mathlib.Core.Bool.{Bool, true, false, _&&_}
+use mathlib.Core.List.{List, [], _∷_, _++_}
+use lib.Dec.{leb, ltb}
+use lib.IntN.{ℤ, pos, negsuc}
+use lib.ListN.{getD}
+use lib.Signed.{leZ}
+use Rattle.octets.specs.Octets.{natAt, signedAt, signedBytes}
+use Rattle.octets.specs.Field.{field, startsField}
+use Rattle.measure.specs.Place.{heightEnd, within}
+use Rattle.galley_file.specs.Font.{sizeIndex, isDouble}
+use Rattle.galley_file.specs.declared.character.Character.{Character}
+
+-- single sizes 0 ≤ x ≤ 3,239, double sizes -55 ≤ x ≤ 3,184
+abbrev pub validX : Bool → ℤ → Bool
+validX false x = leZ (pos 0) x && leZ x (pos 3239)
+validX true x = leZ (negsuc 54) x && leZ x (pos 3184)
+
+-- font number 0 to 119, character 1 to 108, x by its size, height 0 to 65,535
+unfoldable pub valid : Character → Bool
+valid c =
+    ltb (c .font) 120 && leb 1 (c .code) && leb (c .code) 108 && validX (isDouble (sizeIndex (c .font))) (c .x .0)
+    && within heightEnd (c .height .0)
+
+-- x (2), height (2), font number (1), character (1). Two bytes hold a valid height as it is.
+unfoldable pub characterBody : Character → List ℕ
+characterBody c = signedBytes 2 (c .x .0) ++ (signedBytes 2 (c .height .0) ++ (c .font ∷ c .code ∷ []))
+
+-- tag 1, length 6
+unfoldable pub characterField : Character → List ℕ
+characterField c = field 1 (characterBody c)
+
+unfoldable pub characterAt : List ℕ → ℕ → Character
+characterAt s i =
+    record {
+      x = record { 0 = signedAt 2 (i + 3) s };
+      height = record { 0 = pos (natAt 2 (i + 5) s) };
+      font = getD s (i + 7) 0;
+      code = getD s (i + 8) 0;
+    }
+
+unfoldable pub isCharacter : List ℕ → Bool
+isCharacter s = startsField 1 6 s && valid (characterAt s 0)

@@ -1,0 +1,8 @@
+-- The galley (document 01, "Galley"), and what its check and its reading back answer.
+pub mod Font
+pub mod Character
+pub mod CharacterLaws
+pub mod Galley
+pub mod Outcome
+pub mod GalleyLaws
+pub mod Faults

@@ -1,0 +1,52 @@
+-- What the operations on galleys answer (document 01, "Numbers given back").
+use Prim.Native.Nat.{ℕ, _+_}
+use mathlib.Core.Bool.{cond}
+use mathlib.Core.List.{List}
+use lib.Dec.{ltb}
+use lib.IntN.{pos}
+use lib.ListN.{length, getD}
+use Rattle.octets.specs.Answer.{Outcome, accepted, refused, noCharacter, galleyTooLong, galleyMalformed}
+use Rattle.galley_file.specs.declared.character.Character.{Character}
+use Rattle.galley_file.specs.declared.Found.{Found}
+use Rattle.galley_file.specs.Galley.{maxGalley, Reading, whole, malformed, readGalley}
+
+-- a run read after n characters: accepted with the number of all characters, or 41
+abbrev pub countOutcome : ℕ → Reading → Outcome
+countOutcome n (whole cs) = accepted (n + length cs)
+countOutcome n (malformed p) = refused galleyMalformed p
+
+-- the check: 40, then 41
+unfoldable pub checkOutcome : List ℕ → Outcome
+checkOutcome g = cond (ltb maxGalley (length g)) (refused galleyTooLong 0) (countOutcome 0 (readGalley g))
+
+-- What reading back gives: a character, or a refusal's number and place
+pub data FoundOutcome : Type 0 where
+  found : Character → FoundOutcome
+  notFound : ℕ → ℕ → FoundOutcome
+
+-- reading back writes nothing, so the length of an accepted call is 0
+abbrev pub outcomeOfFound : FoundOutcome → Outcome
+outcomeOfFound (found c) = accepted 0
+outcomeOfFound (notFound number place) = refused number place
+
+-- all four numbers are 0 in a refusal
+abbrev pub zeros : Character
+zeros = record { x = record { 0 = pos 0 }; height = record { 0 = pos 0 }; font = 0; code = 0 }
+
+abbrev pub characterOfFound : FoundOutcome → Character
+characterOfFound (found c) = c
+characterOfFound (notFound number place) = zeros
+
+-- the outcome that each case of the answer stands for
+abbrev pub foundOf : Found → FoundOutcome
+foundOf (Found.Placed c) = found c
+foundOf (Found.Refused number place) = notFound number place
+
+-- character n of a galley that was read: 41, then 11
+abbrev pub pickFound : ℕ → Reading → FoundOutcome
+pickFound n (whole cs) = cond (ltb n (length cs)) (found (getD cs n zeros)) (notFound noCharacter 0)
+pickFound n (malformed p) = notFound galleyMalformed p
+
+-- reading back: 40, 41, 11
+unfoldable pub readBackOutcome : List ℕ → ℕ → FoundOutcome
+readBackOutcome g n = cond (ltb maxGalley (length g)) (notFound galleyTooLong 0) (pickFound n (readGalley g))

@@ -1,0 +1,113 @@
+// A galley's characters and their fields (document 01, "Galley").
+use measure::Quanta;
+use measure::Units;
+use octets::field;
+use octets::number;
+ghost use mathlib.Core.Path.{_≡_};
+ghost use Prim.Native.Nat.{_+_, _≤_};
+ghost use lib.ListN.{length};
+ghost use Rattle.octets.specs.Write.{Wrote};
+ghost use Rattle.measure.specs.Place.{heightEnd, within};
+ghost use Rattle.galley_file.specs.Character.{validX, valid, characterField, characterAt, isCharacter};
+
+pub struct Character {
+    pub x: Units,
+    pub height: Quanta,
+    // The font number, 0 to 119.
+    pub font: u8,
+    // The character, 1 to 108.
+    pub code: u8,
+}
+
+const TAG: u8 = 1;
+
+const LENGTH: u32 = 6;
+
+// The bytes of a whole field.
+pub const FIELD: usize = 9;
+
+const FONTS: u8 = 120;
+
+const LAST_CODE: u8 = 108;
+
+// Whether x is valid in a single or a double size.
+fn valid_x(double: bool, x: Units) -> bool
+    ensures { λ r. ⌜ r ≡ validX double (x .0) ⌝ }
+{
+    let v = x.0;
+    if double {
+        if -55 <= v { v <= 3_184 } else { false }
+    } else {
+        if 0 <= v { v <= 3_239 } else { false }
+    }
+}
+
+fn valid_height(h: Quanta) -> bool
+    ensures { λ r. ⌜ r ≡ within heightEnd (h .0) ⌝ }
+{
+    let v = h.0;
+    if 0 <= v {
+        v <= measure::HEIGHT_END
+    } else {
+        false
+    }
+}
+
+pub fn is_valid(c: Character) -> bool
+    ensures { λ r. ⌜ r ≡ valid c ⌝ }
+{
+    let font = c.font;
+    let code = c.code;
+    if FONTS <= font {
+        return false;
+    }
+    if code < 1 {
+        return false;
+    }
+    if LAST_CODE < code {
+        return false;
+    }
+    if valid_x(crate::font::is_double(crate::font::size_index(font)), c.x) {
+        valid_height(c.height)
+    } else {
+        false
+    }
+}
+
+// The character whose field starts at i.
+pub fn character_at(s: &[u8], i: usize) -> Character
+    requires { ⌜ i + 9 ≤ length (now s) ⌝ }
+    ensures { λ r. ⌜ r ≡ characterAt (now (s .entry)) i ⌝ }
+{
+    let x = number::signed2_at(s, i + 3);
+    let height = number::nat2_at(s, i + 5) as i32;
+    Character {
+        x: Units(x),
+        height: Quanta(height),
+        font: s[i + 7],
+        code: s[i + 8],
+    }
+}
+
+// Whether s starts with the whole field of a valid character.
+pub fn is_character(s: &[u8]) -> bool
+    ensures { λ r. ⌜ r ≡ isCharacter (now (s .entry)) ⌝ }
+{
+    if field::starts_field(s, TAG, LENGTH) {
+        is_valid(character_at(s, 0))
+    } else {
+        false
+    }
+}
+
+// Writes a character's field; gives the place after it.
+pub fn put_character(out: &mut [u8], at: usize, c: Character) -> usize
+    requires { ⌜ at + 9 ≤ length (now out) ⌝ }
+    ensures { λ r. ⌜ Wrote (now (out .entry)) at (characterField c) (now (out .exit)) r ⌝ }
+{
+    let mut to = field::put_head(out, at, TAG, LENGTH);
+    to = number::put_signed2(out, to, c.x.0);
+    to = number::put_signed2(out, to, c.height.0);
+    to = number::put_byte(out, to, c.font);
+    number::put_byte(out, to, c.code)
+}

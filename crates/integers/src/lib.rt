@@ -1,0 +1,1 @@
+// The laws on ℤ that the tactic `omega` lacks: see specs/Parts.antt.

@@ -1,0 +1,46 @@
+-- Moves of the carriage and of the height (document 01, "Tape codes"): a move ends at a place in its range, or outside it.
+--     directedBy      a distance, negative where it goes backward
+--     carriageAt      where the carriage stands: 0 to 3,239, or outside
+--     heightAt        the height: 0 to 65,535, or outside
+use mathlib.Core.Bool.{Bool, true, false, cond, _&&_}
+use Prim.Native.Nat.{ℕ}
+use lib.IntN.{ℤ, pos, negℤ}
+use lib.Signed.{leZ}
+use Rattle.measure.specs.declared.Place as P
+use Rattle.measure.specs.declared.Place.the-variants as PV
+use Rattle.measure.specs.declared.Carriage as C
+use Rattle.measure.specs.declared.Carriage.the-variants as CV
+use Rattle.measure.specs.declared.Height as H
+use Rattle.measure.specs.declared.Height.the-variants as HV
+
+-- the last place of the carriage, and the greatest height
+abbrev pub carriageEnd : ℤ
+carriageEnd = pos 3239
+
+abbrev pub heightEnd : ℤ
+heightEnd = pos 65535
+
+unfoldable pub directedBy : Bool → ℕ → ℤ
+directedBy true n = negℤ (pos n)
+directedBy false n = pos n
+
+-- 0 ≤ z ≤ top
+abbrev pub within : ℤ → ℤ → Bool
+within top z = leZ (pos 0) z && leZ z top
+
+unfoldable pub placeAt : ℤ → ℤ → P.Place
+placeAt top z = cond (within top z) (PV.At z) PV.Outside
+
+abbrev pub carriageOf : P.Place → C.Carriage
+carriageOf (PV.At z) = CV.At (record { 0 = z })
+carriageOf PV.Outside = CV.Outside
+
+unfoldable pub carriageAt : ℤ → C.Carriage
+carriageAt z = carriageOf (placeAt carriageEnd z)
+
+abbrev pub heightOf : P.Place → H.Height
+heightOf (PV.At z) = HV.At (record { 0 = z })
+heightOf PV.Outside = HV.Outside
+
+unfoldable pub heightAt : ℤ → H.Height
+heightAt z = heightOf (placeAt heightEnd z)

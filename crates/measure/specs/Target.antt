@@ -1,0 +1,27 @@
+-- A character's x, and the targets of a place in rsu (document 01, "DVI").
+--     xOf         a character's x: the carriage, less 55 in a double size
+--     xTarget     the whole number nearest to 32,768 x / 3
+--     yTarget     32,768 times the height
+--     Near        a number is nearest to a third of another
+use mathlib.Core.Bool.{Bool, true, false}
+use Prim.Native.Nat.{ℕ, suc, _+_, _/_, _≤_}
+use lib.IntN.{ℤ, pos, negsuc, negℤ, natAbs, _-ℤ_, _*ℤ_}
+
+unfoldable pub xOf : ℤ → Bool → ℤ
+xOf z true = z -ℤ pos 55
+xOf z false = z
+
+-- the whole number nearest to n / 3
+abbrev pub third : ℤ → ℤ
+third (pos n) = pos ((n + 1) / 3)
+third (negsuc n) = negℤ (pos ((suc n + 1) / 3))
+
+unfoldable pub xTarget : ℤ → ℤ
+xTarget x = third (pos 32768 *ℤ x)
+
+unfoldable pub yTarget : ℤ → ℤ
+yTarget h = pos 32768 *ℤ h
+
+-- three times t, less n, is -1, 0 or 1
+abbrev pub Near : ℤ → ℤ → Type 0
+Near n t = natAbs (pos 3 *ℤ t -ℤ n) ≤ 1

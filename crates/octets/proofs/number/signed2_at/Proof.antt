@@ -1,0 +1,33 @@
+-- `octets::number::signed2_at` meets its contract: shifted to the top of 32 bits and back.
+-- Assumes nothing.
+use mathlib.Core.Path.{sym, ap, _∙_}
+use Prim.Native.Nat.{_<_}
+use native.Mathlib.Omega.{arith}
+use lib.IntN.{ℤ}
+use lib.Signed.{shrZ}
+use Rattle.octets.specs.Octets.{twos}
+use Rattle.octets.specs.OctetsLaws.{shifted, shift-right, signedAt-twos}
+use borrow.Author.Needs.{needs}
+use Rattle.octets.proofs.number.signed2_at.Statement.{statement}
+use Rattle.octets.proofs.number.signed2_at.Tie as tie
+
+nat2-at-requires : tie.Need-nat2-at-requires
+nat2-at-requires c κs = search needs
+
+mul-of-bits : tie.Need-mul-of-bits
+mul-of-bits c = search needs
+
+of-bits-requires : tie.Need-of-bits-requires
+of-bits-requires c κs = search needs
+
+returns : tie.Need-returns
+returns c =
+    let s = c .before .before .before in
+    let n = c .before .nat2-at .result in
+    let b : n < 65536 = c .before .nat2-at .ensures .1 in
+    shift-right (c .of-bits .result) (twos 65536 n) 65536 (c .of-bits .ok) (ap (λ (z : ℤ). shrZ z 65536) (c .of-bits .ensures) ∙ shifted 65536 65536 n (λ h. (omega arith, omega arith)) (λ h. (omega arith, omega arith)))
+    ∙ ap (twos 65536) (c .before .nat2-at .ensures .0)
+    ∙ sym (signedAt-twos 2 (s .args .at) (s .args .s .now) (s .pre))
+
+pub signed2-at-spec : {M : Type 1} → statement M
+signed2-at-spec = tie.close (tie.spec nat2-at-requires mul-of-bits of-bits-requires returns)

@@ -1,0 +1,98 @@
+-- What a call gives back (document 01, "Numbers given back").
+--     Outcome     accepted with a length, or refused with a number and a place
+--     Result      of an operation that fills a buffer: the bytes that it writes, or a refusal
+--     outcome     the outcome of a result
+--     after       the lent buffer after a result
+--     ifRoom      a result for a buffer of so many bytes: room comes last
+use Prim.Native.Nat.{ℕ}
+use mathlib.Core.Bool.{cond}
+use mathlib.Core.List.{List, [], _∷_, _++_}
+use lib.Dec.{ltb}
+use lib.ListN.{length, drop}
+use Rattle.octets.specs.declared.answer.Answer.{Answer}
+use Rattle.octets.specs.declared.answer.Answer.the-variants.{Accepted, Refused}
+
+-- ---- the numbers of the refusals
+
+abbrev pub tapeTooLong : ℕ
+tapeTooLong = 1
+
+abbrev pub illegalCode : ℕ
+illegalCode = 2
+
+abbrev pub notInitialized : ℕ
+notInitialized = 3
+
+abbrev pub afterStop : ℕ
+afterStop = 4
+
+abbrev pub stillParked : ℕ
+stillParked = 5
+
+abbrev pub noSize : ℕ
+noSize = 6
+
+abbrev pub outOfRange : ℕ
+outOfRange = 7
+
+abbrev pub aboveHalf : ℕ
+aboveHalf = 8
+
+abbrev pub noStop : ℕ
+noStop = 9
+
+abbrev pub noCharacter : ℕ
+noCharacter = 11
+
+abbrev pub noGalleyRoom : ℕ
+noGalleyRoom = 12
+
+abbrev pub galleyTooLong : ℕ
+galleyTooLong = 40
+
+abbrev pub galleyMalformed : ℕ
+galleyMalformed = 41
+
+-- ---- outcomes
+
+pub data Outcome : Type 0 where
+  accepted : ℕ → Outcome  -- the length
+  refused : ℕ → ℕ → Outcome  -- the number and the place
+
+-- an accepted call's number and place are 0, and a refusal's length is 0
+abbrev pub numberOf : Outcome → ℕ
+numberOf (accepted n) = 0
+numberOf (refused number place) = number
+
+abbrev pub placeOf : Outcome → ℕ
+placeOf (accepted n) = 0
+placeOf (refused number place) = place
+
+abbrev pub lengthOf : Outcome → ℕ
+lengthOf (accepted n) = n
+lengthOf (refused number place) = 0
+
+-- the outcome that each case of an answer stands for
+abbrev pub outcomeOf : Answer → Outcome
+outcomeOf (Accepted n) = accepted n
+outcomeOf (Refused number place) = refused number place
+
+-- ---- results
+
+pub data Result : Type 0 where
+  refusal : ℕ → ℕ → Result  -- the number and the place
+  written : List ℕ → Result
+
+abbrev pub outcome : Result → Outcome
+outcome (refusal number place) = refused number place
+outcome (written bs) = accepted (length bs)
+
+-- the bytes, and beyond them the buffer unchanged; a refusal changes nothing
+abbrev pub after : List ℕ → Result → List ℕ
+after buffer (refusal number place) = buffer
+after buffer (written bs) = bs ++ drop (length bs) buffer
+
+-- where the room is too little, this refusal, at the bytes needed
+unfoldable pub ifRoom : ℕ → ℕ → Result → Result
+ifRoom number room (refusal n place) = refusal n place
+ifRoom number room (written bs) = cond (ltb room (length bs)) (refusal number (length bs)) (written bs)

@@ -1,0 +1,286 @@
+-- Reading what was written gives the number, and writing what was read gives the bytes, for every number of bytes at once.
+-- Assumes nothing.
+use mathlib.Core.Path.{_≡_, refl, sym, ap, subst, _∙_}
+use mathlib.Core.Bool.{Bool, true, false, cond}
+use mathlib.Core.List.{List, [], _∷_, _++_}
+use Prim.Native.Nat.{ℕ, zero, suc, _+_, _*_, _-_, _/_, _%_, _^_, _≤_, _<_}
+use native.Mathlib.Nat.{add-zero, pow-suc, pow-succ', mod-lt, mod-eq-of-lt, one-le-pow, pow-le-pow-right, div-one, div-div-eq-div-mul, add-mul}
+use native.Mathlib.Omega.{arith}
+use borrow.Author.Tests.{lt-ltb, le-ltb, ltb-true, ltb-false}
+use lib.Arith.{mod-mul, digits-mod}
+use lib.Dec.{ltb, lit<}
+use lib.IntN.{ℤ, pos, negsuc, natAbs, _-ℤ_}
+use lib.ListN.{length, getD, take, drop, length-drop}
+use lib.Signed.{mag, shrZ, mag-shr, _<ℤ_, _≤ℤ_}
+use mir.Syntax.{w32}
+use mir.Val.{SFits, toZ, ofZ}
+use Rattle.integers.specs.Parts.{integers, plain, dif-parts}
+use lib.Seq.{length-take-le, getD-drop, getD-take, take-suc, take-at}
+use Rattle.octets.specs.Octets.{Bytes, numberFrom, number, twos, signed, natAt, signedAt, bytes, residue, signedBytes, Holds, widthOf}
+
+-- ---- lists of bytes
+
+pub bytes-drop : (k : ℕ) (s : List ℕ) → Bytes s → Bytes (drop k s)
+bytes-drop k s b i = rw (getD-drop k s i 0) (b (k + i))
+
+-- ---- the number in some bytes
+
+pub number-more : (a : ℕ) (bs : List ℕ) (b : ℕ) → numberFrom a (bs ++ (b ∷ [])) ≡ numberFrom a bs * 256 + b
+unfolding numberFrom
+number-more a [] b = refl
+number-more a (x ∷ bs) b = number-more (a * 256 + x) bs b
+
+pub natAt-none : (at : ℕ) (s : List ℕ) → natAt 0 at s ≡ 0
+unfolding numberFrom
+natAt-none at s = refl
+
+-- one byte more
+pub natAt-more : (k at : ℕ) (s : List ℕ) → at + k < length s → natAt (suc k) at s ≡ natAt k at s * 256 + getD s (at + k) 0
+natAt-more k at s h =
+    let l : k < length (drop at s) = omega (arith, length-drop at s) in
+    ap number (take-suc (drop at s) k 0 l)
+    ∙ number-more 0 (take k (drop at s)) (getD (drop at s) k 0)
+    ∙ ap (λ (b : ℕ). natAt k at s * 256 + b) (getD-drop at s k 0)
+
+pub natAt-below : (k at : ℕ) (s : List ℕ) → Bytes s → at + k ≤ length s → natAt k at s < 256 ^ k
+natAt-below zero at s b h = omega (arith, natAt-none at s)
+natAt-below (suc k) at s b h =
+    let e = natAt-more k at s (omega arith) in
+    omega (arith, natAt-below k at s b (omega arith), b (at + k), pow-suc 256 k)
+
+pub length-natAt : (k at : ℕ) (s : List ℕ) → at + k ≤ length s → length (take k (drop at s)) ≡ k
+length-natAt k at s h = length-take-le k (drop at s) (omega (arith, length-drop at s))
+
+pub signedAt-twos : (k at : ℕ) (s : List ℕ) → at + k ≤ length s → signedAt k at s ≡ twos (256 ^ k) (natAt k at s)
+unfolding signed
+signedAt-twos k at s h = ap (λ (j : ℕ). twos (256 ^ j) (natAt k at s)) (length-natAt k at s h)
+
+-- ---- the bytes of a number
+
+pub length-bytes : (k n : ℕ) → length (bytes k n) ≡ k
+unfolding bytes
+length-bytes zero n = refl
+length-bytes (suc k) n = ap suc (length-bytes k n)
+
+pub length-signedBytes : (k : ℕ) (z : ℤ) → length (signedBytes k z) ≡ k
+unfolding signedBytes
+length-signedBytes k z = length-bytes k (residue (256 ^ k) z)
+
+-- the last byte, after those of the quotient
+pub bytes-last : (k n : ℕ) → bytes (suc k) n ≡ bytes k (n / 256) ++ (n % 256 ∷ [])
+unfolding bytes
+bytes-last zero n = ap (λ (m : ℕ). m % 256 ∷ []) (div-one n)
+bytes-last (suc k) n =
+    let q : n / 256 ^ suc k ≡ n / 256 / 256 ^ k = ap (λ (m : ℕ). n / m) (pow-succ' 256 k) ∙ sym (div-div-eq-div-mul n 256 (256 ^ k)) in
+    (λ i. q i % 256 ∷ bytes-last k n i)
+
+power-positive : (k : ℕ) → 0 < 256 ^ k
+power-positive k = one-le-pow k 256 (lit< tt)
+
+mod-power : (k n : ℕ) → n % 256 ^ suc k ≡ n / 256 % 256 ^ k * 256 + n % 256
+mod-power k n = ap (λ (x : ℕ). n % x) (pow-suc 256 k) ∙ mod-mul n (power-positive k) (lit< tt)
+
+-- the number in the k bytes of n is n, but for what lies above them
+pub number-bytes : (k n : ℕ) → number (bytes k n) ≡ n % 256 ^ k
+unfolding numberFrom bytes
+number-bytes zero n = omega arith
+number-bytes (suc k) n =
+    ap number (bytes-last k n)
+    ∙ number-more 0 (bytes k (n / 256)) (n % 256)
+    ∙ ap (λ (m : ℕ). m * 256 + n % 256) (number-bytes k (n / 256))
+    ∙ sym (mod-power k n)
+
+-- what lies above them does not count
+pub bytes-mod : (k n : ℕ) → bytes k (n % 256 ^ k) ≡ bytes k n
+unfolding bytes
+bytes-mod zero n = refl
+bytes-mod (suc k) n =
+    let m = mod-power k n in
+    let q : n % 256 ^ suc k / 256 ≡ n / 256 % 256 ^ k = omega arith in
+    let d : n % 256 ^ suc k % 256 ≡ n % 256 = omega arith in
+    bytes-last k (n % 256 ^ suc k)
+    ∙ (λ i. bytes k (q i) ++ (d i ∷ []))
+    ∙ ap (λ (l : List ℕ). l ++ (n % 256 ∷ [])) (bytes-mod k (n / 256))
+    ∙ sym (bytes-last k n)
+
+-- writing what was read gives the bytes
+pub bytes-natAt : (k at : ℕ) (s : List ℕ) → Bytes s → at + k ≤ length s → bytes k (natAt k at s) ≡ take k (drop at s)
+unfolding bytes
+bytes-natAt zero at s b h = refl
+bytes-natAt (suc k) at s b h =
+    let n = natAt k at s in
+    let x = getD s (at + k) 0 in
+    let q : (n * 256 + x) / 256 ≡ n = omega (arith, b (at + k)) in
+    let r : (n * 256 + x) % 256 ≡ x = omega (arith, b (at + k)) in
+    let l : k < length (drop at s) = omega (arith, length-drop at s) in
+    ap (bytes (suc k)) (natAt-more k at s (omega arith))
+    ∙ bytes-last k (n * 256 + x)
+    ∙ (λ i. bytes k (q i) ++ (r i ∷ []))
+    ∙ ap (λ (m : ℕ). bytes k n ++ (m ∷ [])) (sym (getD-drop at s k 0))
+    ∙ ap (λ (t : List ℕ). t ++ (getD (drop at s) k 0 ∷ [])) (bytes-natAt k at s b (omega arith))
+    ∙ sym (take-suc (drop at s) k 0 l)
+
+-- ---- two's complement
+
+pub twos-low : (m v : ℕ) → v + v < m → twos m v ≡ pos v
+unfolding twos
+twos-low m v h = rw (lt-ltb (v + v) m h)
+
+pub twos-high : (m v : ℕ) → m ≤ v + v → twos m v ≡ negsuc (m - suc v)
+unfolding twos
+twos-high m v h = rw (le-ltb (v + v) m h)
+
+-- a test and its outcome, as a fact
+pub by-test : {X : Type 0} (a b : ℕ) → (a < b → X) → (b ≤ a → X) → X
+by-test {X} a b f g = go (ltb a b) refl
+  where
+    go : (t : Bool) → ltb a b ≡ t → X
+    go true e = f (ltb-true a b e)
+    go false e = g (ltb-false a b e)
+
+pub twos-residue : (m : ℕ) (z : ℤ) → 2 * suc (mag z) ≤ m → twos m (residue m z) ≡ z
+unfolding residue
+twos-residue m (pos n) h = ap (twos m) (mod-eq-of-lt (omega arith)) ∙ twos-low m n (omega arith)
+twos-residue m (negsuc n) h =
+    ap (λ (v : ℕ). twos m (m - suc v)) (mod-eq-of-lt (omega arith))
+    ∙ twos-high m (m - suc n) (omega arith)
+    ∙ ap negsuc (omega arith)
+
+pub residue-twos : (m v : ℕ) → v < m → residue m (twos m v) ≡ v
+unfolding residue
+residue-twos m v h =
+    by-test (v + v) m
+    (λ l. ap (residue m) (twos-low m v l) ∙ mod-eq-of-lt h)
+    (λ l.
+    let e : (m - suc v) % m ≡ m - suc v = mod-eq-of-lt (omega arith) in
+    ap (residue m) (twos-high m v l) ∙ ap (λ (x : ℕ). m - suc x) e ∙ (omega arith))
+
+-- reading what was written gives the number
+pub signed-signedBytes : (k : ℕ) (z : ℤ) → Holds k z → signed (signedBytes k z) ≡ z
+unfolding signed signedBytes residue
+signed-signedBytes k z f =
+    let m = 256 ^ k in
+    ap (λ (j : ℕ). twos (256 ^ j) (number (bytes k (residue m z)))) (length-bytes k (residue m z))
+    ∙ ap (twos m) (number-bytes k (residue m z) ∙ mod-eq-of-lt (residue-below m z (power-positive k)))
+    ∙ twos-residue m z (f .half)
+  where
+    residue-below : (m : ℕ) (z : ℤ) → 0 < m → residue m z < m
+    residue-below m (pos n) h = mod-lt n h
+    residue-below m (negsuc n) h = omega (arith, mod-lt n h)
+
+-- writing what was read gives the bytes
+pub signedBytes-signedAt : (k at : ℕ) (s : List ℕ) → Bytes s → at + k ≤ length s → signedBytes k (signedAt k at s) ≡ take k (drop at s)
+unfolding signedBytes
+signedBytes-signedAt k at s b h =
+    ap (λ (z : ℤ). bytes k (residue (256 ^ k) z)) (signedAt-twos k at s h)
+    ∙ ap (bytes k) (residue-twos (256 ^ k) (natAt k at s) (natAt-below k at s b h))
+    ∙ bytes-natAt k at s b h
+
+-- the same for a number that is not negative, read and written as such
+pub number-signedBytes : (k n : ℕ) → n < 256 ^ k → number (signedBytes k (pos n)) ≡ n
+unfolding signedBytes residue
+number-signedBytes k n h = ap number (bytes-mod k n) ∙ number-bytes k n ∙ mod-eq-of-lt h
+
+pub signedBytes-natAt : (k at : ℕ) (s : List ℕ) → Bytes s → at + k ≤ length s → signedBytes k (pos (natAt k at s)) ≡ take k (drop at s)
+unfolding signedBytes residue
+signedBytes-natAt k at s b h = bytes-mod k (natAt k at s) ∙ bytes-natAt k at s b h
+
+-- a residue of a residue, where the first modulus is a multiple of the second
+residue-mod : (q m : ℕ) (z : ℤ) → 0 < q → 0 < m → residue (q * m) z % m ≡ residue m z
+unfolding residue
+residue-mod q m (pos n) hq hm = ap (λ (x : ℕ). x % m) (mod-mul n hq hm) ∙ digits-mod (n / m % q) (mod-lt n hm)
+residue-mod q m (negsuc n) hq hm =
+    let a = n / m % q in
+    let r = n % m in
+    let ha : a < q = mod-lt (n / m) hq in
+    let hr : r < m = mod-lt n hm in
+    let d = q - suc a in
+    let split : q * m ≡ (a + suc d) * m = ap (λ (x : ℕ). x * m) (omega arith) in
+    let e : q * m - suc (n % (q * m)) ≡ d * m + (m - suc r) = omega (arith, mod-mul n hq hm, split, add-mul a (suc d) m) in
+    ap (λ (x : ℕ). x % m) e ∙ digits-mod d (omega arith)
+
+-- the last k bytes of z's 32 bits are z in k bytes
+pub word-bytes : (k : ℕ) (z : ℤ) → k ≤ 4 → bytes k (residue 4294967296 z) ≡ signedBytes k z
+unfolding signedBytes
+word-bytes k z h =
+    let w = whole k h in
+    ap (λ (m : ℕ). bytes k (residue m z)) (w .1)
+    ∙ sym (bytes-mod k (residue (suc (w .0) * 256 ^ k) z))
+    ∙ ap (bytes k) (residue-mod (suc (w .0)) (256 ^ k) z (omega arith) (power-positive k))
+  where
+    whole : (k : ℕ) → k ≤ 4 → (q : ℕ) × (4294967296 ≡ suc q * 256 ^ k)
+    whole zero h = (4294967295, refl)
+    whole (suc zero) h = (16777215, refl)
+    whole (suc (suc zero)) h = (65535, refl)
+    whole (suc (suc (suc zero))) h = (255, refl)
+    whole (suc (suc (suc (suc zero)))) h = (0, refl)
+    whole (suc (suc (suc (suc (suc k))))) h = absurd (omega arith)
+
+-- ---- the fewest bytes of 2, 3 and 4: they hold the number, and fewer do not
+
+by-width : (P : ℕ → Type 0) (z : ℤ) → (mag z < 32768 → P 2) → (32768 ≤ mag z → mag z < 8388608 → P 3) → (8388608 ≤ mag z → P 4) → P (widthOf z)
+unfolding widthOf
+by-width P z a b c =
+    by-test (mag z) 32768
+    (λ h. rw (lt-ltb (mag z) 32768 h) (a h))
+    (λ h.
+    by-test (mag z) 8388608
+    (λ l. rw (le-ltb (mag z) 32768 h, lt-ltb (mag z) 8388608 l) (b h l))
+    (λ l. rw (le-ltb (mag z) 32768 h, le-ltb (mag z) 8388608 l) (c l)))
+
+pub width-holds : (z : ℤ) → mag z < 2147483648 → Holds (widthOf z) z
+width-holds z f =
+    by-width (λ (k : ℕ). Holds k z) z
+    (λ h. record { half = omega arith })
+    (λ l h. record { half = omega arith })
+    (λ l. record { half = omega arith })
+
+pub width-least : (k : ℕ) (z : ℤ) → 2 ≤ k → k < widthOf z → Holds k z → ⊥
+width-least k z h =
+    by-width (λ (w : ℕ). k < w → Holds k z → ⊥) z
+    (λ a l f. omega arith)
+    (λ a b l f. omega (arith, f .half, pow-le-pow-right {n = 256} (lit< tt) {i = k} {j = 2} (omega arith)))
+    (λ a l f. omega (arith, f .half, pow-le-pow-right {n = 256} (lit< tt) {i = k} {j = 3} (omega arith)))
+
+pub width-range : (z : ℤ) → (2 ≤ widthOf z) × (widthOf z ≤ 4)
+width-range z = by-width (λ (w : ℕ). (2 ≤ w) × (w ≤ 4)) z (λ h. omega arith) (λ l h. omega arith) (λ l. omega arith)
+
+-- ---- as the code computes: 2 and 4 bytes, and the 32 bits of a number
+
+pub natAt-two : (at : ℕ) (s : List ℕ) → at + 2 ≤ length s → natAt 2 at s ≡ getD s at 0 * 256 + getD s (at + 1) 0
+natAt-two at s h =
+    let first : getD s (at + 0) 0 ≡ getD s at 0 = ap (λ (i : ℕ). getD s i 0) (add-zero at) in
+    let one : natAt 1 at s ≡ getD s at 0 = omega (arith, natAt-more 0 at s (omega arith), natAt-none at s, first) in
+    natAt-more 1 at s (omega arith) ∙ ap (λ (n : ℕ). n * 256 + getD s (at + 1) 0) one
+
+pub natAt-four : (at : ℕ) (s : List ℕ) → at + 4 ≤ length s → natAt 4 at s ≡ (natAt 2 at s * 256 + getD s (at + 2) 0) * 256 + getD s (at + 3) 0
+natAt-four at s h =
+    natAt-more 3 at s (omega arith) ∙ ap (λ (n : ℕ). n * 256 + getD s (at + 3) 0) (natAt-more 2 at s (omega arith))
+
+pub residue-negative : (z : ℤ) → SFits w32 z → z <ℤ pos 0 → 4294967295 - natAbs (negsuc 0 -ℤ z) ≡ residue 4294967296 z
+unfolding residue
+residue-negative (pos n) f h = absurd (omega integers)
+residue-negative (negsuc n) f h =
+    let e : n % 4294967296 ≡ n = mod-eq-of-lt (omega (arith, f .sfits)) in
+    let d : negsuc 0 -ℤ negsuc n ≡ pos n = omega (integers, dif-parts (negsuc 0) (negsuc n)) in
+    rw (e, d) (omega arith)
+
+pub residue-natural : (z : ℤ) → SFits w32 z → pos 0 ≤ℤ z → natAbs z ≡ residue 4294967296 z
+unfolding residue
+residue-natural (pos n) f h = sym (mod-eq-of-lt (omega (arith, f .sfits)))
+residue-natural (negsuc n) f h = absurd (h .le)
+
+-- sign extension: v below m, shifted to the top of 32 bits and back. What it takes of the numbers m and k, the caller computes.
+pub shifted : (m k v : ℕ) → (v + v < m → (v * k + v * k < 4294967296) × (v * k / k ≡ v))
+    → (m ≤ v + v → (4294967296 ≤ v * k + v * k) × ((4294967296 - suc (v * k)) / k ≡ m - suc v)) → shrZ (twos 4294967296 (v * k)) k ≡ twos m v
+shifted m k v low high =
+    by-test (v + v) m
+    (λ h. ap (λ (z : ℤ). shrZ z k) (twos-low 4294967296 (v * k) (low h .0)) ∙ ap pos (low h .1) ∙ sym (twos-low m v h))
+    (λ h. ap (λ (z : ℤ). shrZ z k) (twos-high 4294967296 (v * k) (high h .0)) ∙ ap negsuc (high h .1) ∙ sym (twos-high m v h))
+
+-- a shift to the right stays in 32 bits
+pub shift-right : (r z : ℤ) (k : ℕ) → mag r < 2147483648 → shrZ r k ≡ z → toZ w32 (ofZ w32 (shrZ (toZ w32 (ofZ w32 r)) k)) ≡ z
+shift-right r z k ok e =
+    let f : SFits w32 r = record { sfits = ok } in
+    let g : SFits w32 (shrZ r k) = record { sfits = omega (arith, mag-shr r k) } in
+    ap (λ (y : ℤ). toZ w32 (ofZ w32 (shrZ y k))) (plain f) ∙ plain g ∙ e

@@ -1,0 +1,49 @@
+-- Bytes written into a buffer, one run after another.
+-- Assumes nothing.
+use mathlib.Core.Path.{_≡_, refl, sym, ap, subst, _∙_}
+use mathlib.Core.List.{List, [], _∷_, _++_}
+use Prim.Native.Nat.{ℕ, suc, _+_, _≤_}
+use native.Mathlib.Nat.{add-zero, add-suc, suc-add, zero-add}
+use native.Mathlib.Omega.{arith}
+use lib.ListN.{length, drop, set, length-append}
+use lib.Seq.{sets, sets-eq, length-sets}
+
+-- The bytes xs were written at `at` into o₀, which is now o₁, and `next` is the place after them.
+pub record Wrote (o₀ : List ℕ) (at : ℕ) (xs o₁ : List ℕ) (next : ℕ) : Type 0 where
+  pub buffer-is : o₁ ≡ sets o₀ at xs
+  pub next-is : next ≡ at + length xs
+
+pub sets-append : (l : List ℕ) (i : ℕ) (xs ys : List ℕ) → sets l i (xs ++ ys) ≡ sets (sets l i xs) (i + length xs) ys
+sets-append l i [] ys = ap (λ (j : ℕ). sets l j ys) (sym (add-zero i))
+sets-append l i (a ∷ xs) ys =
+    sets-append (set l i a) (suc i) xs ys
+    ∙ ap (λ (j : ℕ). sets (sets (set l i a) (suc i) xs) j ys) (suc-add i (length xs) ∙ sym (add-suc i (length xs)))
+
+-- a run from the start of a buffer that has room: the bytes, and the rest of the buffer as it was
+pub sets-start : (o xs : List ℕ) → length xs ≤ length o → sets o 0 xs ≡ xs ++ drop (length xs) o
+sets-start o xs h = sets-eq xs o 0 (omega arith) ∙ ap (λ (j : ℕ). xs ++ drop j o) (zero-add (length xs))
+
+pub wrote-none : (o : List ℕ) (at : ℕ) → Wrote o at [] o at
+wrote-none o at = record { buffer-is = refl; next-is = omega arith }
+
+pub length-wrote : {o₀ : List ℕ} {at : ℕ} {xs o₁ : List ℕ} {next : ℕ} → Wrote o₀ at xs o₁ next → length o₁ ≡ length o₀
+length-wrote {o₀} {at} {xs} w = ap length (w .buffer-is) ∙ length-sets o₀ at xs
+
+-- one run after another
+pub then : {o₀ : List ℕ} {at : ℕ} {xs o₁ : List ℕ} {i : ℕ} {ys o₂ : List ℕ} {j : ℕ} → Wrote o₀ at xs o₁ i → Wrote o₁ i ys o₂ j → Wrote o₀ at (xs ++ ys) o₂ j
+then {o₀} {at} {xs} {o₁} {i} {ys} {o₂} {j} w v =
+    let l = length-append xs ys in
+    let e = w .next-is in
+    let f = v .next-is in
+    record {
+      buffer-is =
+          v .buffer-is
+          ∙ ap (λ (o : List ℕ). sets o i ys) (w .buffer-is)
+          ∙ ap (λ (k : ℕ). sets (sets o₀ at xs) k ys) (w .next-is)
+          ∙ sym (sets-append o₀ at xs ys);
+      next-is = omega arith;
+    }
+
+-- the same bytes, named otherwise
+pub named : {o₀ : List ℕ} {at : ℕ} {xs ys o₁ : List ℕ} {i : ℕ} → xs ≡ ys → Wrote o₀ at xs o₁ i → Wrote o₀ at ys o₁ i
+named {o₀} {at} {xs} {ys} {o₁} {i} e w = subst (λ (l : List ℕ). Wrote o₀ at l o₁ i) e w

@@ -1,0 +1,98 @@
+// Numbers in bytes, the high byte first, and in two's complement.
+ghost use mathlib.Core.Path.{_≡_};
+ghost use mathlib.Core.List.{[], _∷_};
+ghost use Prim.Native.Nat.{_+_, _≤_, _<_};
+ghost use lib.ListN.{length};
+ghost use Rattle.octets.specs.Octets.{twos, natAt, signedAt, bytes, residue, signedBytes};
+ghost use Rattle.octets.specs.Write.{Wrote};
+
+fn wide(b: u8) -> u32
+    ensures { λ r. ⌜ (r ≡ b) × (r < 256) ⌝ }
+{
+    b as u32
+}
+
+// The signed number whose 32 bits are v.
+fn of_bits(v: u32) -> i32
+    ensures { λ r. ⌜ r ≡ twos 4294967296 v ⌝ }
+{
+    if v < 2_147_483_648 {
+        v as i32
+    } else {
+        -1 - ((4_294_967_295 - v) as i32)
+    }
+}
+
+// The 32 bits of z.
+fn to_bits(z: i32) -> u32
+    ensures { λ r. ⌜ r ≡ residue 4294967296 z ⌝ }
+{
+    if z < 0 {
+        4_294_967_295 - ((-1 - z) as u32)
+    } else {
+        z as u32
+    }
+}
+
+// The number in the two bytes from `at`.
+pub fn nat2_at(s: &[u8], at: usize) -> u32
+    requires { ⌜ at + 2 ≤ length (now s) ⌝ }
+    ensures { λ r. ⌜ (r ≡ natAt 2 at (now (s .entry))) × (r < 65536) ⌝ }
+{
+    wide(s[at]) * 256 + wide(s[at + 1])
+}
+
+// The number in the four bytes from `at`.
+pub fn nat4_at(s: &[u8], at: usize) -> u32
+    requires { ⌜ at + 4 ≤ length (now s) ⌝ }
+    ensures { λ r. ⌜ r ≡ natAt 4 at (now (s .entry)) ⌝ }
+{
+    (nat2_at(s, at) * 256 + wide(s[at + 2])) * 256 + wide(s[at + 3])
+}
+
+// The two's complement number in the two bytes from `at`.
+pub fn signed2_at(s: &[u8], at: usize) -> i32
+    requires { ⌜ at + 2 ≤ length (now s) ⌝ }
+    ensures { λ r. ⌜ r ≡ signedAt 2 at (now (s .entry)) ⌝ }
+{
+    of_bits(nat2_at(s, at) * 65536) >> 16
+}
+
+// Writes one byte; gives the place after it, as the others do.
+pub fn put_byte(out: &mut [u8], at: usize, b: u8) -> usize
+    requires { ⌜ at + 1 ≤ length (now out) ⌝ }
+    ensures { λ r. ⌜ Wrote (now (out .entry)) at (b ∷ []) (now (out .exit)) r ⌝ }
+{
+    out[at] = b;
+    at + 1
+}
+
+// Writes the last two bytes of n.
+pub fn put_nat2(out: &mut [u8], at: usize, n: u32) -> usize
+    requires { ⌜ at + 2 ≤ length (now out) ⌝ }
+    ensures { λ r. ⌜ Wrote (now (out .entry)) at (bytes 2 n) (now (out .exit)) r ⌝ }
+{
+    out[at] = (n / 256 % 256) as u8;
+    out[at + 1] = (n % 256) as u8;
+    at + 2
+}
+
+// Writes the four bytes of n.
+pub fn put_nat4(out: &mut [u8], at: usize, n: u32) -> usize
+    requires { ⌜ at + 4 ≤ length (now out) ⌝ }
+    ensures { λ r. ⌜ Wrote (now (out .entry)) at (bytes 4 n) (now (out .exit)) r ⌝ }
+{
+    out[at] = (n / 16_777_216 % 256) as u8;
+    out[at + 1] = (n / 65_536 % 256) as u8;
+    out[at + 2] = (n / 256 % 256) as u8;
+    out[at + 3] = (n % 256) as u8;
+    at + 4
+}
+
+// Writes z in two's complement, in two bytes.
+pub fn put_signed2(out: &mut [u8], at: usize, z: i32) -> usize
+    requires { ⌜ at + 2 ≤ length (now out) ⌝ }
+    ensures { λ r. ⌜ Wrote (now (out .entry)) at (signedBytes 2 z) (now (out .exit)) r ⌝ }
+{
+    put_nat2(out, at, to_bits(z))
+}
