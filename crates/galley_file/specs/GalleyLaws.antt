@@ -189,6 +189,16 @@ length-fields (c ∷ cs) =
     let l = length-characterField c in
     length-append (characterField c) (fields cs) ∙ (omega arith)
 
+pub fields-append : (cs ds : List Character) → fields (cs ++ ds) ≡ fields cs ++ fields ds
+unfolding fields
+fields-append [] ds = refl
+fields-append (c ∷ cs) ds =
+    ap (λ (l : List ℕ). characterField c ++ l) (fields-append cs ds) ∙ sym (append-assoc (characterField c) (fields cs) (fields ds))
+
+pub fields-one : (c : Character) → fields (c ∷ []) ≡ characterField c
+unfolding fields
+fields-one c = append-nil (characterField c)
+
 pub length-galley : (cs : List Character) → length (galley cs) ≡ 9 * length cs + 7
 unfolding galley
 length-galley cs =

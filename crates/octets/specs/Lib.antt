@@ -5,3 +5,4 @@ pub mod Write
 pub mod Field
 pub mod FieldLaws
 pub mod Answer
+pub mod AnswerLaws

@@ -1,0 +1,74 @@
+-- The classes of the 256 codes: low bits by masks, and the code's sorting by top bits against the table, by one computed test.
+-- Assumes nothing.
+use mathlib.Core.Path.{_≡_, refl, sym, _∙_, ap}
+use mathlib.Core.Bool.{cond}
+use mathlib.Core.List.{List, [], _∷_, map}
+use Prim.Native.Nat.{ℕ, zero, suc, _+_, _-_, _/_, _%_, _<_}
+use native.Mathlib.Nat.{add-zero, add-suc, suc-add, zero-add, le-of-suc-le-suc, not-suc-le-zero}
+use native.Mathlib.Omega.{arith}
+use lib.Bits.{bitAnd, and-mask}
+use lib.Dec.{eqb}
+use lib.ListN.{getD}
+use Rattle.tape.specs.declared.code.Code.{Code}
+use Rattle.tape.specs.declared.code.Code.the-variants.{Ignored, Illegal, Ordered}
+use Rattle.tape.specs.declared.code.Order.the-variants.{Flash, Size, Lead, Escape}
+use Rattle.tape.specs.Code.{codeOf, controls}
+
+pub low-seven : (b : ℕ) → b < 256 → bitAnd (255 - b) 127 ≡ 127 - b % 128
+low-seven b h = and-mask (255 - b) 7 ∙ omega arith
+
+pub low-five : (b : ℕ) → b < 256 → bitAnd (255 - b) 31 ≡ 31 - b % 32
+low-five b h = and-mask (255 - b) 5 ∙ omega arith
+
+-- two functions that agree on a list of the numbers below n agree at each of them
+abbrev numbers : ℕ → ℕ → List ℕ
+numbers k zero = []
+numbers k (suc n) = k ∷ numbers (suc k) n
+
+at-number : {A : Type 0} (f : ℕ → A) (d : A) (n k i : ℕ) → i < n → getD (map f (numbers k n)) i d ≡ f (k + i)
+at-number f d zero k i h = absurd (not-suc-le-zero h)
+at-number f d (suc n) k zero h = ap f (sym (add-zero k))
+at-number f d (suc n) k (suc i) h = at-number f d n (suc k) i (le-of-suc-le-suc h) ∙ ap f (suc-add k i ∙ sym (add-suc k i))
+
+agree : {A : Type 0} (f g : ℕ → A) (d : A) (n : ℕ) → map f (numbers 0 n) ≡ map g (numbers 0 n) → (i : ℕ) → i < n → f i ≡ g i
+agree f g d n e i h =
+    ap f (sym (zero-add i)) ∙ sym (at-number f d n 0 i h) ∙ ap (λ (l : List _). getD l i d) e ∙ at-number g d n 0 i h ∙ ap g (zero-add i)
+
+-- a code sorted by its top bits, as the code sorts it
+abbrev pub sorted : ℕ → Code
+sorted b =
+    cond (eqb b 0) Ignored
+    (cond (eqb b 255) Illegal
+    (cond (eqb (b / 128) 1) (Ordered (Escape (127 - b % 128)))
+    (cond (eqb (b / 64) 0) (Ordered (Flash b))
+    (cond (eqb (b / 32) 3) (Ordered (Lead (31 - b % 32)))
+    (cond (eqb (b / 16) 4) (getD controls (b % 16) Illegal)
+    (cond (eqb b 95) Illegal
+    (Ordered (Size (b % 16)))))))))
+
+all-codes : map sorted (numbers 0 256) ≡ map codeOf (numbers 0 256)
+unfolding codeOf
+all-codes = refl
+
+pub sorted-is : (b : ℕ) → b < 256 → sorted b ≡ codeOf b
+sorted-is b h = agree sorted codeOf Illegal 256 all-codes b h
+
+-- what the control codes' match leaves is illegal
+pub rest-illegal : (x : ℕ) → ((((((((((((((Unit {0}) × (x ≡ 0 → ⊥)) × (x ≡ 1 → ⊥)) × (x ≡ 2 → ⊥)) × (x ≡ 3 → ⊥)) × (x ≡ 4 → ⊥)) × (x ≡ 5 → ⊥)) × (x ≡ 6 → ⊥)) × (x ≡ 7 → ⊥)) × (x ≡ 8 → ⊥)) × (x ≡ 9 → ⊥)) × (x ≡ 10 → ⊥)) × (x ≡ 12 → ⊥)) × (x ≡ 14 → ⊥)) × (x ≡ 15 → ⊥) → Illegal ≡ getD controls x Illegal
+rest-illegal zero r = absurd (r .0 .0 .0 .0 .0 .0 .0 .0 .0 .0 .0 .0 .0 .1 refl)
+rest-illegal (suc zero) r = absurd (r .0 .0 .0 .0 .0 .0 .0 .0 .0 .0 .0 .0 .1 refl)
+rest-illegal (suc (suc zero)) r = absurd (r .0 .0 .0 .0 .0 .0 .0 .0 .0 .0 .0 .1 refl)
+rest-illegal (suc (suc (suc zero))) r = absurd (r .0 .0 .0 .0 .0 .0 .0 .0 .0 .0 .1 refl)
+rest-illegal (suc (suc (suc (suc zero)))) r = absurd (r .0 .0 .0 .0 .0 .0 .0 .0 .0 .1 refl)
+rest-illegal (suc (suc (suc (suc (suc zero))))) r = absurd (r .0 .0 .0 .0 .0 .0 .0 .0 .1 refl)
+rest-illegal (suc (suc (suc (suc (suc (suc zero)))))) r = absurd (r .0 .0 .0 .0 .0 .0 .0 .1 refl)
+rest-illegal (suc (suc (suc (suc (suc (suc (suc zero))))))) r = absurd (r .0 .0 .0 .0 .0 .0 .1 refl)
+rest-illegal (suc (suc (suc (suc (suc (suc (suc (suc zero)))))))) r = absurd (r .0 .0 .0 .0 .0 .1 refl)
+rest-illegal (suc (suc (suc (suc (suc (suc (suc (suc (suc zero))))))))) r = absurd (r .0 .0 .0 .0 .1 refl)
+rest-illegal (suc (suc (suc (suc (suc (suc (suc (suc (suc (suc zero)))))))))) r = absurd (r .0 .0 .0 .1 refl)
+rest-illegal (suc (suc (suc (suc (suc (suc (suc (suc (suc (suc (suc zero))))))))))) r = refl
+rest-illegal (suc (suc (suc (suc (suc (suc (suc (suc (suc (suc (suc (suc zero)))))))))))) r = absurd (r .0 .0 .1 refl)
+rest-illegal (suc (suc (suc (suc (suc (suc (suc (suc (suc (suc (suc (suc (suc zero))))))))))))) r = refl
+rest-illegal (suc (suc (suc (suc (suc (suc (suc (suc (suc (suc (suc (suc (suc (suc zero)))))))))))))) r = absurd (r .0 .1 refl)
+rest-illegal (suc (suc (suc (suc (suc (suc (suc (suc (suc (suc (suc (suc (suc (suc (suc zero))))))))))))))) r = absurd (r .1 refl)
+rest-illegal (suc (suc (suc (suc (suc (suc (suc (suc (suc (suc (suc (suc (suc (suc (suc (suc x)))))))))))))))) r = refl

@@ -1,0 +1,5 @@
+mod Codes
+mod Steps
+mod Quicks
+mod Passes
+mod Results

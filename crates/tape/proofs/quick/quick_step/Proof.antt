@@ -1,0 +1,91 @@
+-- `tape::quick::quick_step` meets its contract: what it answers, `Quicks` shows to be the code's effect.
+-- Assumes nothing.
+use mathlib.Core.Path.{ap, _∙_}
+use native.Mathlib.Omega.{arith}
+use borrow.Author.Needs.{needs}
+use Rattle.measure.specs.Target.{xOf}
+use Rattle.tape.specs.Quick.{Flashing}
+use Rattle.tape.proofs.Quicks.{half-taken, quick-ignored, quick-set, quick-at}
+use Rattle.tape.proofs.quick.quick_step.Statement.{statement}
+use Rattle.tape.proofs.quick.quick_step.Tie as tie
+
+returns : tie.Need-returns
+returns c = let a = c .before .before .before .before .args in quick-ignored (a .s) (a .b) (c .before .if2 .taken)
+
+is-double-requires : tie.Need-is-double-requires
+is-double-requires c κs = search needs
+
+x-requires : tie.Need-x-requires
+x-requires c κs = search needs
+
+-- a code from 1 to the last flash
+flashing : (c : tie.Else2) → let a = c .before .before .before .args in Flashing (a .s) (a .d)
+flashing c = c .before .before .before .pre .1 .flashing (omega (arith, c .if2 .left, c .before .if1 .taken))
+
+code-in-requires : tie.Need-code-in-requires
+code-in-requires c κs =
+    let e = c .before .before .before in
+    let a = e .before .before .before .args in
+    half-taken (a .s .modes .«upper_half») (a .b) (omega (arith, flashing e .last, e .before .if1 .taken)) .1
+
+returns-2 : tie.Need-returns-2
+returns-2 c =
+    let e = c .before .before .before .before in
+    let a = e .before .before .before .args in
+    let x = c .before .before .x in
+    let d = c .before .before .before .is-double in
+    quick-set (a .s) (a .b) (a .d) (flashing e) (omega (arith, e .if2 .left)) (e .before .if1 .taken) (x .result) (c .code-in .result)
+    (x .ensures ∙ ap (xOf (a .s .carriage .0)) (d .ensures)) (c .code-in .ensures)
+
+returns-3 : tie.Need-returns-3
+returns-3 c = search needs
+
+returns-4 : tie.Need-returns-4
+returns-4 c = search needs
+
+escape-size-requires : tie.Need-escape-size-requires
+escape-size-requires c κs = search needs
+
+escape-requires : tie.Need-escape-requires
+escape-requires c κs = search needs
+
+enum-known-c : tie.Need-enum-known-c
+enum-known-c c = search needs
+
+enum-told : tie.Need-enum-told
+enum-told c = search needs
+
+returns-5 : tie.Need-returns-5
+returns-5 c =
+    let k = c .before in
+    let e = k .before .before in
+    let t = e .before .before in
+    let s = t .before .before .before .before .before in
+    let a = s .args in
+    quick-at (a .s) (a .b) (s .pre .1 .running-is (t .if5 .taken)) (t .before .before .if3 .left) (omega (arith, t .before .if4 .left, s .fits .b .fits)) (k .c .given .0 .0)
+    (cc (e .escape .ensures, e .before .escape-size .ensures, k .c .given .1))
+
+returns-6 : tie.Need-returns-6
+returns-6 c = search needs
+
+returns-7 : tie.Need-returns-7
+returns-7 c = search needs
+
+pub quick-step-spec : {M : Type 1} → statement M
+quick-step-spec =
+    tie.close
+    (tie.spec
+    returns
+    is-double-requires
+    x-requires
+    code-in-requires
+    returns-2
+    returns-3
+    returns-4
+    escape-size-requires
+    escape-requires
+    enum-known-c
+    enum-told
+    returns-5
+    returns-6
+    returns-7)

@@ -1,0 +1,19 @@
+-- `tape::quick::running` meets its contract.
+-- Assumes nothing.
+use mathlib.Core.Path.{sym}
+use mathlib.Core.Bool.{true≢false}
+use borrow.Author.Tests.{not-true}
+use Rattle.tape.proofs.quick.running.Statement.{statement}
+use Rattle.tape.proofs.quick.running.Tie as tie
+
+returns : tie.Need-returns
+returns c = λ h. absurd (true≢false (sym h))
+
+returns-2 : tie.Need-returns-2
+returns-2 c = λ h. record { begun = c .before .before .if1 .taken; unstopped = c .before .if2 .left; unparked = not-true _ h }
+
+returns-3 : tie.Need-returns-3
+returns-3 c = λ h. absurd (true≢false (sym h))
+
+pub running-spec : {M : Type 1} → statement M
+running-spec = tie.close (tie.spec returns returns-2 returns-3)

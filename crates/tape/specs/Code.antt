@@ -1,0 +1,43 @@
+-- Document 01, "Tape codes (000)": what each code means.
+use Prim.Native.Nat.{ℕ, _-_, _%_}
+use mathlib.Core.Bool.{true, false, cond}
+use mathlib.Core.List.{List, [], _∷_}
+use lib.ListN.{getD}
+use lib.Dec.{eqb, ltb}
+use Rattle.tape.specs.declared.code.Order.{Order}
+use Rattle.tape.specs.declared.code.Order.the-variants.{Flash, Rail, Mag, Half, EscapeWay, LeadWay, Tilt, Size, Stop, Lead, Escape}
+use Rattle.tape.specs.declared.code.Code.{Code}
+use Rattle.tape.specs.declared.code.Code.the-variants.{Ignored, Illegal, Initialize, Ordered}
+
+-- codes 40 to 4F. A Bool is true for upper, backward and down
+abbrev pub controls : List Code
+controls =
+    Initialize  -- 40 initialize
+    ∷ Ordered (Rail false)  -- 41 lower rail
+    ∷ Ordered (Rail true)  -- 42 upper rail
+    ∷ Ordered (Mag true)  -- 43 upper mag
+    ∷ Ordered (Mag false)  -- 44 lower mag
+    ∷ Ordered (Half false)  -- 45 lower half
+    ∷ Ordered (Half true)  -- 46 upper half
+    ∷ Ordered (EscapeWay false)  -- 47 escape forward
+    ∷ Ordered (EscapeWay true)  -- 48 escape backward
+    ∷ Ordered Stop  -- 49 stop
+    ∷ Ordered (LeadWay false)  -- 4A lead forward
+    ∷ Illegal  -- 4B
+    ∷ Ordered (LeadWay true)  -- 4C lead backward
+    ∷ Illegal  -- 4D
+    ∷ Ordered (Tilt false)  -- 4E tilt up
+    ∷ Ordered (Tilt true)  -- 4F tilt down
+    ∷ []
+
+-- the table of codes, from the top: 00; 01-3F; 40-4F; 50-5E; 5F; 60-7F; 80-FE; FF
+unfoldable pub codeOf : ℕ → Code
+codeOf b =
+    cond (eqb b 0x00) Ignored
+    (cond (ltb b 0x40) (Ordered (Flash b))
+    (cond (ltb b 0x50) (getD controls (b - 0x40) Illegal)
+    (cond (ltb b 0x5F) (Ordered (Size (b - 0x50)))
+    (cond (ltb b 0x60) Illegal
+    (cond (ltb b 0x80) (Ordered (Lead (31 - b % 32)))
+    (cond (ltb b 0xFF) (Ordered (Escape (127 - b % 128)))
+    Illegal))))))

@@ -1,0 +1,45 @@
+-- What the quick step's contracts cite; nothing here is part of what a call promises.
+use mathlib.Core.Path.{_≡_}
+use mathlib.Core.Bool.{Bool, true, false}
+use Prim.Native.Nat.{ℕ, _≤_, _<_}
+use Rattle.measure.specs.declared.Units.{Units}
+use Rattle.galley_file.specs.Font.{fontNumber}
+use Rattle.tape.specs.declared.machine.State.{State}
+use Rattle.tape.specs.declared.machine.Effect.the-variants.{Moved, Flashed}
+use Rattle.tape.specs.declared.quick.Derived.{Derived}
+use Rattle.tape.specs.declared.quick.Quick.{Quick}
+use Rattle.tape.specs.declared.quick.Quick.the-variants as quick
+use Rattle.tape.specs.Machine.{fontIn, effectOf}
+
+-- initialized, not stopped and past the left switch
+pub record Running (s : State) : Type 0 where
+  pub begun : s .initialized ≡ true
+  pub unstopped : s .stopped ≡ false
+  pub unparked : s .parked ≡ false
+
+-- the last flash of a half
+abbrev pub halfSize : Bool → ℕ
+halfSize true = 45
+halfSize false = 63
+
+-- what is derived from a state that takes flashes
+pub record Flashing (s : State) (d : Derived) : Type 0 where
+  pub runs : Running s
+  pub sized : s .size < 15
+  pub last : d .«last_flash» ≡ halfSize (s .modes .«upper_half»)
+  pub number : d .font ≡ fontNumber (fontIn (s .modes)) (s .size)
+
+-- what is derived from a state: nothing of it is about the carriage or the height
+pub record DerivedFrom (s : State) (d : Derived) : Type 0 where
+  pub running-is : d .running ≡ true → Running s
+  pub flashing : 1 ≤ d .«last_flash» → Flashing s d
+
+-- a state with its carriage elsewhere
+abbrev pub placed : State → Units → State
+placed s c = record { initialized = s .initialized; parked = s .parked; stopped = s .stopped; modes = s .modes; size = s .size; carriage = c; height = s .height }
+
+-- what `quick_step` says of a code; of Slow it says nothing
+abbrev pub Quickly : State → ℕ → Quick → Type 0
+Quickly s b (quick.Set c) = effectOf s b ≡ Flashed c
+Quickly s b (quick.At place) = effectOf s b ≡ Moved (placed s place)
+Quickly s b quick.Slow = Unit {0}
