@@ -8,7 +8,7 @@ use mathlib.Core.Option.{some}
 use lib.IntN.{ℤ, pos, _*ℤ_}
 use lib.ListN.{length, getElem?}
 use Rattle.octets.specs.Answer.{written}
-use Rattle.measure.specs.Target.{Near}
+use Rattle.measure.specs.Target.{xTarget, yTarget, Near}
 use Rattle.galley_file.specs.declared.character.Character.{Character}
 use Rattle.dvi.specs.Page.{Mark, pageMark, charMark, ruleMark}
 use Rattle.dvi.specs.File.{shows, readDvi}
@@ -26,6 +26,10 @@ pub record ShowsCharacter (c : Character) (m : Mark) : Type 0 where
 pub data ShowsAll : List Character → List Mark → Type 0 where
   shows-none : ShowsAll [] []
   shows-next : {c : Character} {m : Mark} {cs : List Character} {ms : List Mark} → ShowsCharacter c m → ShowsAll cs ms → ShowsAll (c ∷ cs) (m ∷ ms)
+
+-- what is shown of a character: no other mark shows it
+unfoldable pub markOf : Character → Mark
+markOf c = charMark (xTarget (c .x .0)) (yTarget (c .height .0)) (pos (c .font)) (c .code)
 
 -- the file of cs, read with these widths
 pub record Faithful (widths : List ℤ) (cs : List Character) : Type 0 where
