@@ -2,9 +2,7 @@
 -- every move between them and every place fits 32 bits.
 -- Assumes nothing.
 use mathlib.Core.Path.{_≡_, refl}
-use mathlib.Core.Bool.{true}
 use mathlib.Core.List.{List, [], _∷_, map}
-use Prim.Native.Nat.{ℕ}
 use native.Mathlib.Omega.{arith}
 use lib.IntN.{ℤ, pos, negsuc, _-ℤ_}
 use lib.Signed.{_≤ℤ_}
@@ -14,8 +12,7 @@ use Rattle.integers.specs.Parts.{integers}
 use Rattle.measure.specs.Target.{xTarget, yTarget}
 use Rattle.measure.specs.TargetLaws.{target-parts, y-parts, x-move-fits, y-move-fits}
 use Rattle.galley_file.specs.declared.character.Character.{Character}
-use Rattle.galley_file.specs.Character.{valid}
-use Rattle.galley_file.specs.CharacterLaws.{Valid, valid-parts, x-range, Height, height-range}
+use Rattle.galley_file.specs.CharacterLaws.{Valid, valid-parts, x-range, height-range}
 use Rattle.galley_file.specs.Galley.{AllValid}
 use Rattle.galley_file.specs.Galley as galley
 use Rattle.dvi.specs.Page.{newPage}

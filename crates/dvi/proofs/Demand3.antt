@@ -7,14 +7,14 @@
 -- Assumes nothing.
 use mathlib.Core.Path.{_≡_, refl, sym, ap, _∙_}
 use mathlib.Core.List.{List, [], _∷_, map}
-use mathlib.Core.Option.{Option, none, some}
+use mathlib.Core.Option.{some}
 use Prim.Native.Nat.{ℕ, zero, suc, _+_, _*_, _%_, _≤_}
 use native.Mathlib.Omega.{arith}
 use borrow.Author.Tests.{le-ltb, eq-eqb}
-use lib.IntN.{ℤ, pos, _*ℤ_}
+use lib.IntN.{ℤ, pos}
 use lib.ListN.{length, getElem?, length-append}
 use Rattle.integers.specs.Parts.{integers}
-use Rattle.octets.specs.Answer.{Result, written, ifRoom, noSheetRoom}
+use Rattle.octets.specs.Answer.{written, ifRoom, noSheetRoom}
 use Rattle.measure.specs.Target.{xTarget, yTarget}
 use Rattle.measure.specs.TargetLaws.{target-near, target-only, target-injective, y-parts}
 use Rattle.galley_file.specs.declared.character.Character.{Character}

@@ -12,13 +12,13 @@ use lib.ListN.{length}
 use mir.Syntax.{w32}
 use mir.Val.{SFits}
 use Rattle.integers.specs.Parts.{integers, eqZ, eqZ-true, dif-parts}
-use Rattle.octets.specs.Octets.{bytes, signedBytes, Holds, widthOf, fits32}
+use Rattle.octets.specs.Octets.{bytes, signedBytes, widthOf}
 use Rattle.octets.specs.OctetsLaws.{by-cond, signedBytes-pos, width-holds, width-range, true-fits32}
 use Rattle.measure.specs.TargetLaws.{move-ends}
-use Rattle.dvi.specs.Command.{HORZCHAR, FONT, X4, Y4, FONTNUM, Command, horzChar, setFont, moveX, moveY, Form, bare, takes, forms, formOf, command, decode}
+use Rattle.dvi.specs.Command.{HORZCHAR, FONT, X4, Y4, FONTNUM, Command, horzChar, setFont, moveX, moveY, bare, takes, forms, formOf}
 use Rattle.dvi.specs.Page.{Numbers, Page, Mark, charMark, moved, marked, withNumbers, withFont, rightBy, downBy, setX, setY, ifFits, goTo, charHere, setStill, effect}
 use Rattle.dvi.specs.File.{inside}
-use Rattle.dvi.specs.Writer.{Pen, fontCommand, fontChange, move}
+use Rattle.dvi.specs.Writer.{Pen, fontCommand, fontChange, shortest, move}
 use Rattle.dvi.proofs.Runs.{Goes, goes-nil, goes-append, goes-moved, goes-marked, decode-takes, decode-bare}
 
 abbrev pub asSigned : Option ℕ → Option ℤ
@@ -135,7 +135,7 @@ module _ (ws : List ℤ) (last : ℤ) where
       → (m ≡ pos 0 → (p : Page) → Stands pen p → Stands to p)
       → ((p : Page) → Stands pen p → Stands to (after p))
       → ((p : Page) → Stands pen p → effect ws p (make m) ≡ moved (after p)) → Leads ws last pen (move op m) [] to
-  unfolding move
+  unfolding move shortest
   leads-move pen to op make m after forms fits still there eff =
       let w = width-range m in
       by-cond (λ (bs : List ℕ). Leads ws last pen bs [] to) (eqZ m (pos 0)) _ _

@@ -1,12 +1,12 @@
 -- The writer's postamble is one: each definition is passed over, and the trailer is right.
 -- Assumes nothing.
-use mathlib.Core.Path.{_≡_, refl, ap, _∙_}
+use mathlib.Core.Path.{_≡_, refl, _∙_}
 use mathlib.Core.Bool.{true, cond}
 use mathlib.Core.List.{List, [], _∷_, _++_, map, append-assoc}
 use Prim.Native.Nat.{ℕ, zero, suc, _+_, _/_, _%_, _≤_, _<_}
 use native.Mathlib.Omega.{arith}
 use borrow.Author.Tests.{le-leb, ne-eqb}
-use lib.IntN.{ℤ, pos, negsuc}
+use lib.IntN.{pos, negsuc}
 use lib.ListN.{length, drop}
 use Rattle.integers.specs.Parts.{eqZ, true-eqZ}
 use Rattle.octets.specs.Octets.{numberFrom, twos, signed, bytes, residue, signedBytes}

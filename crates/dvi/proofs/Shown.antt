@@ -10,7 +10,7 @@ use lib.IntN.{ℤ, pos, negsuc}
 use lib.ListN.{length}
 use mir.Syntax.{w32}
 use mir.Val.{SFits}
-use Rattle.integers.specs.Parts.{integers, eqZ, true-eqZ}
+use Rattle.integers.specs.Parts.{integers, true-eqZ}
 use Rattle.octets.specs.Octets.{bytes, signedBytes}
 use Rattle.octets.specs.OctetsLaws.{signed-first, holds-four}
 use Rattle.galley_file.specs.declared.character.Character.{Character}
@@ -22,7 +22,7 @@ use Rattle.dvi.specs.Writer.{newPen, commands, pageBytes, postambleBytes
 use Rattle.dvi.specs.WriterLaws.{penAfter, commands-most, length-onePage}
 use Rattle.dvi.specs.Demand3.{markOf}
 use Rattle.dvi.proofs.Runs.{Goes, goes-append, goes-step}
-use Rattle.dvi.proofs.Pieces.{Stands, Leads, Reached}
+use Rattle.dvi.proofs.Pieces.{Reached}
 use Rattle.dvi.proofs.Characters.{leads-commands, stands-new}
 use Rattle.dvi.proofs.Postambles.{postamble-right}
 

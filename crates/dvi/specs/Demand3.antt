@@ -1,5 +1,11 @@
 -- Demand 3 over lists of characters (document 01, "Demand 3 in these terms"): what the file of a list shows, in terms of the
--- characters alone, and two lists side by side.
+-- characters alone, clause by clause.
+--     ShowsCharacter     a mark shows a character
+--     ShowsAll           marks show characters, in order
+--     markOf             the one mark that shows a character
+--     Faithful           the file of a list shows it, and so does the sheet
+--     Alike              two characters, and the marks that show them
+--     Compared           two lists, and what their files show
 use mathlib.Core.Logic.{_↔_}
 use mathlib.Core.Path.{_≡_}
 use Prim.Native.Nat.{ℕ, _+_, _*_, _≤_}
@@ -27,15 +33,13 @@ pub data ShowsAll : List Character → List Mark → Type 0 where
   shows-none : ShowsAll [] []
   shows-next : {c : Character} {m : Mark} {cs : List Character} {ms : List Mark} → ShowsCharacter c m → ShowsAll cs ms → ShowsAll (c ∷ cs) (m ∷ ms)
 
--- what is shown of a character: no other mark shows it
 unfoldable pub markOf : Character → Mark
 markOf c = charMark (xTarget (c .x .0)) (yTarget (c .height .0)) (pos (c .font)) (c .code)
 
--- the file of cs, read with these widths
 pub record Faithful (widths : List ℤ) (cs : List Character) : Type 0 where
-  -- "the DVI file is the bytes it wrote": dviFile, and a reader takes a file of that length
+  -- "fixed to the last one by the writer's rules": the file is dviFile cs, of a length that the reader takes
   pub file-size : length (dviFile cs) ≤ maxDvi
-  -- "It shows page 1 and no rule", and each character
+  -- "It shows page 1 and no rule": page 1, and the characters' marks alone
   pub marks : List Mark
   pub shown : readDvi widths (dviFile cs) ≡ shows (pageMark (pos 1) ∷ marks)
   pub all-shown : ShowsAll cs marks
@@ -59,8 +63,8 @@ pub record Alike (c d : Character) (m n : Mark) : Type 0 where
   pub fonts : (shownFont m ≡ shownFont n) ↔ (c .font ≡ d .font)
   pub places : (shownPlace m ≡ shownPlace n) ↔ ((c .x ≡ d .x) × (c .height ≡ d .height))
 
--- two lists, and what their files show
 pub record Compared (cs ds : List Character) (ms ns : List Mark) : Type 0 where
+  -- two lists have the same file exactly if they are equal
   pub same-file : (dviFile cs ≡ dviFile ds) ↔ (cs ≡ ds)
   -- "at each character"
   pub each : (i : ℕ) (c d : Character) (m n : Mark) → getElem? cs i ≡ some c → getElem? ds i ≡ some d → getElem? ms i ≡ some m → getElem? ns i ≡ some n → Alike c d m n

@@ -3,7 +3,7 @@
 --     run-next, run-refuse, run-finish, run-end    what the rest shows, by the step that the command there makes
 -- Assumes nothing.
 use mathlib.Core.Path.{_≡_, refl, sym, ap, _∙_}
-use mathlib.Core.Bool.{Bool, true, false, cond, _&&_}
+use mathlib.Core.Bool.{Bool, cond, _&&_}
 use mathlib.Core.List.{List, [], _∷_, _++_, append-assoc}
 use Prim.Native.Nat.{ℕ, zero, suc, _+_, _≤_, _<_}
 use native.Mathlib.Nat.{add-zero}
@@ -11,15 +11,16 @@ use native.Mathlib.Numerals.{add-one}
 use native.Mathlib.Omega.{arith}
 use borrow.Author.Tests.{leb-true}
 use lib.Dec.{leb, eqb}
-use lib.IntN.{ℤ, pos}
-use lib.ListN.{length, getD, take, drop, drop-of-length-le}
+use lib.IntN.{ℤ}
+use lib.ListN.{length, getD, drop, drop-of-length-le}
 use lib.Seq.{drop-cons, drop-drop}
 use lib.Signed.{nonNeg}
 use Rattle.integers.specs.Parts.{eqZ}
-use Rattle.octets.specs.Octets.{signed, signedAt}
-use Rattle.octets.specs.Answer.{badCommand, dviEndsEarly, wrongOffset, badPostamble}
-use Rattle.dvi.specs.Command.{BOP, PST, Command, Form, barred, bare, takes, takesTwo, formOf, Decoded, noCommand, cutShort, command, withParameters, decode}
-use Rattle.dvi.specs.Page.{maxStack, Page, newPage, Mark, pageMark, Effect, fault, moved, marked, ended, effect}
+use Rattle.octets.specs.Octets.{signedAt}
+use Rattle.octets.specs.OctetsLaws.{by-cond}
+use Rattle.octets.specs.Answer.{dviEndsEarly}
+use Rattle.dvi.specs.Command.{BOP, PST, Form, barred, bare, takes, takesTwo, formOf, Decoded, noCommand, cutShort, command, withParameters, decode}
+use Rattle.dvi.specs.Page.{maxStack, Page, newPage, Mark, Effect, fault, moved, marked, ended, effect}
 use Rattle.dvi.specs.PageLaws.{LowEffect, effect-stack}
 use Rattle.dvi.specs.Postamble.{postamble}
 use Rattle.dvi.specs.File.{State, between, inside, Step, refuse, goOn, finish, afterEffect, inPage, beginPage, endFile, step, Shown, refusedAt, shows, showsFirst, follow, run}
@@ -49,16 +50,12 @@ Held k noCommand = Unit {0}
 Held k cutShort = Unit {0}
 Held k (command c n) = n ≤ k
 
-held-if : (k n : ℕ) (c : Command) (t : Bool) → leb n k ≡ t → Held k (cond t (command c n) cutShort)
-held-if k n c true e = leb-true n k e
-held-if k n c false e = tt
-
 held : (f : Form) (ps : List ℕ) → Held (length ps) (withParameters f ps)
 unfolding withParameters
 held barred ps = tt
 held (bare c) ps = omega arith
-held (takes n c) ps = held-if (length ps) n (c (signed (take n ps))) (leb n (length ps)) refl
-held (takesTwo c) ps = held-if (length ps) 8 (c (signed (take 4 ps)) (signedAt 4 4 ps)) (leb 8 (length ps)) refl
+held (takes n c) ps = by-cond (Held (length ps)) (leb n (length ps)) _ _ (λ e. leb-true n (length ps) e) (λ _. tt)
+held (takesTwo c) ps = by-cond (Held (length ps)) (leb 8 (length ps)) _ _ (λ e. leb-true 8 (length ps) e) (λ _. tt)
 
 page-sound : (ws : List ℤ) (k : ℕ) (last : ℤ) (p : Page) (d : Decoded) → Held k d → length (p .stack) ≤ maxStack → Sound k (inPage ws last p d)
 unfolding inPage
@@ -67,19 +64,14 @@ page-sound ws k last p cutShort h g = tt
 page-sound ws k last p (command c n) h g = effect-sound k last n (effect ws p c) h (effect-stack ws p g c)
 
 sound-if : (k : ℕ) (t : Bool) (e f : Step) → Sound k e → Sound k f → Sound k (cond t e f)
-sound-if k true e f h g = h
-sound-if k false e f h g = g
+sound-if k t e f h g = by-cond (Sound k) t e f (λ _. h) (λ _. g)
 
 begin-sound : (last : ℤ) (at : ℕ) (ps : List ℕ) → Sound (length ps) (beginPage last at ps)
 unfolding beginPage newPage
-begin-sound last at ps = go (leb 8 (length ps)) refl
-  where
-    good : Step
-    good = goOn (inside (pos at) newPage) (pageMark (signed (take 4 ps)) ∷ []) 8
-
-    go : (t : Bool) → leb 8 (length ps) ≡ t → Sound (length ps) (cond t (cond (eqZ (signedAt 4 4 ps) last) good (refuse wrongOffset)) (refuse dviEndsEarly))
-    go true e = sound-if (length ps) (eqZ (signedAt 4 4 ps) last) _ _ (leb-true 8 (length ps) e, omega arith) tt
-    go false e = tt
+begin-sound last at ps =
+    by-cond (Sound (length ps)) (leb 8 (length ps)) _ _
+    (λ e. sound-if (length ps) (eqZ (signedAt 4 4 ps) last) _ _ (omega (arith, leb-true 8 (length ps) e), omega arith) tt)
+    (λ _. tt)
 
 pub step-sound : (ws : List ℤ) (at : ℕ) (q : State) (op : ℕ) (ps : List ℕ) → Low q → Sound (length ps) (step ws at q op ps)
 unfolding step decode endFile

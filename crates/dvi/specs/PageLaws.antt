@@ -5,19 +5,20 @@
 --     effect-stack                   the stack has at most 200 entries
 -- Assumes nothing.
 use mathlib.Core.Path.{_≡_, refl, sym, ap}
-use mathlib.Core.Bool.{Bool, true, false, cond, _&&_}
+use mathlib.Core.Bool.{_&&_}
 use mathlib.Core.List.{List, [], _∷_}
 use mathlib.Core.Option.{Option, none, some}
 use Prim.Native.Nat.{ℕ, _≤_}
 use native.Mathlib.Omega.{arith}
-use borrow.Author.Tests.{ltb-true, lt-ltb}
+use borrow.Author.Tests.{ltb-true}
 use lib.Dec.{ltb}
 use lib.IntN.{ℤ, pos, negsuc}
 use lib.ListN.{length}
 use Rattle.octets.specs.Octets.{fits32}
-use Rattle.octets.specs.Answer.{cannotSet, stackFull}
+use Rattle.octets.specs.OctetsLaws.{by-cond}
+use Rattle.octets.specs.Answer.{cannotSet}
 use Rattle.dvi.specs.Command.{Command, setChar, nop, eop, push, pop, vertRule, horzRule, horzChar, setFont, moveW, moveW0, moveX, moveX0, moveY, moveY0, moveZ, moveZ0}
-use Rattle.dvi.specs.Page.{maxStack, fontChars, Numbers, Page, newPage, Mark, Effect, fault, moved, marked, ended, withNumbers, withFont, ifFits, goTo, showAndGoTo, charHere, widthIn, setMoving, setInFont, setStill, pushed, popped, endPage, effect}
+use Rattle.dvi.specs.Page.{maxStack, fontChars, Numbers, Page, newPage, Mark, Effect, fault, moved, marked, ended, withNumbers, withFont, ifFits, goTo, showAndGoTo, widthIn, setMoving, setInFont, setStill, pushed, popped, endPage, effect}
 
 -- "a character before a font command on the new page is 27"
 pub unset-char : (ws : List ℤ) (c : ℕ) → effect ws newPage (setChar c) ≡ fault cannotSet
@@ -32,28 +33,22 @@ unset-horzChar ws (negsuc c) = refl
 -- "Pop the W, X, Y, and Z-amounts, and the Y- and X-coordinates off the stack"
 pub push-pop : (ws : List ℤ) (p q : Page) → effect ws p push ≡ moved q → effect ws q pop ≡ moved p
 unfolding effect pushed popped
-push-pop ws p q = go (ltb (length (p .stack)) maxStack)
-  where
-    top : Page
-    top = record { numbers = p .numbers; font = p .font; stack = p .numbers ∷ p .stack }
-
-    go : (t : Bool) → cond t (moved top) (fault stackFull) ≡ moved q → popped q (q .stack) ≡ moved p
-    go true e = let s : top ≡ q = cc in ap (λ (r : Page). popped r (r .stack)) (sym s)
-    go false e = cc
+push-pop ws p q =
+    by-cond (λ (e : Effect). e ≡ moved q → popped q (q .stack) ≡ moved p) (ltb (length (p .stack)) maxStack) _ _
+    (λ _ e.
+    let s : record { numbers = p .numbers; font = p .font; stack = p .numbers ∷ p .stack } ≡ q = cc in
+    ap (λ (r : Page). popped r (r .stack)) (sym s))
+    (λ _ e. cc)
 
 -- "Set character 'c', but don't change the current value of the x-coordinate (or y-coordinate, either)"
 pub horzChar-stays : (ws : List ℤ) (p q : Page) (c : ℤ) (m : Mark) → effect ws p (horzChar c) ≡ marked q m → q ≡ p
 unfolding effect setStill
 horzChar-stays ws p q c m = go c (p .font)
   where
-    if : (t : Bool) (k : Mark) → cond t (marked p k) (fault cannotSet) ≡ marked q m → q ≡ p
-    if true k e = cc
-    if false k e = cc
-
     go : (c : ℤ) (f : Option ℤ) → setStill p c f ≡ marked q m → q ≡ p
     go (pos c) none e = cc
     go (negsuc c) none e = cc
-    go (pos c) (some f) e = if (ltb c fontChars) (charHere p f c) e
+    go (pos c) (some f) e = by-cond (λ (d : Effect). d ≡ marked q m → q ≡ p) (ltb c fontChars) _ _ (λ _ k. cc) (λ _ k. cc) e
     go (negsuc c) (some f) e = cc
 
 -- ---- at most 200 entries
@@ -66,11 +61,7 @@ LowEffect ended = Unit {0}
 
 fits-low : (n : Numbers) (e : Effect) → LowEffect e → LowEffect (ifFits n e)
 unfolding ifFits
-fits-low n e h = go (fits32 (n .atX) && fits32 (n .atY))
-  where
-    go : (t : Bool) → LowEffect (cond t e (fault 28))
-    go true = h
-    go false = tt
+fits-low n e h = by-cond LowEffect (fits32 (n .atX) && fits32 (n .atY)) _ _ (λ _. h) (λ _. tt)
 
 module _ (ws : List ℤ) (p : Page) (h : length (p .stack) ≤ maxStack) where
   go-low : (n : Numbers) → LowEffect (goTo p n)
@@ -95,20 +86,13 @@ module _ (ws : List ℤ) (p : Page) (h : length (p .stack) ≤ maxStack) where
   unfolding setStill
   still-low (pos c) none = tt
   still-low (negsuc c) none = tt
-  still-low (pos c) (some f) = go (ltb c fontChars)
-    where
-      go : (t : Bool) → LowEffect (cond t (marked p (charHere p f c)) (fault cannotSet))
-      go true = h
-      go false = tt
+  still-low (pos c) (some f) = by-cond LowEffect (ltb c fontChars) _ _ (λ _. h) (λ _. tt)
   still-low (negsuc c) (some f) = tt
 
   push-low : LowEffect (pushed p)
   unfolding pushed
-  push-low = go (ltb (length (p .stack)) maxStack) refl
-    where
-      go : (t : Bool) → ltb (length (p .stack)) maxStack ≡ t → LowEffect (cond t (moved (record { numbers = p .numbers; font = p .font; stack = p .numbers ∷ p .stack })) (fault stackFull))
-      go true e = ltb-true (length (p .stack)) maxStack e
-      go false e = tt
+  push-low =
+      by-cond LowEffect (ltb (length (p .stack)) maxStack) _ _ (λ e. ltb-true (length (p .stack)) maxStack e) (λ _. tt)
 
   pop-low : (s : List Numbers) → length s ≤ maxStack → LowEffect (popped p s)
   unfolding popped

@@ -53,9 +53,13 @@ unfoldable pub fontChange : Option ℕ → ℕ → List ℕ
 fontChange none f = fontCommand f
 fontChange (some g) f = cond (eqb g f) [] (fontCommand f)
 
--- a move, if not 0, by the shortest of three commands: op has four bytes, and the next two have three and two
+-- the shortest of three commands: op takes four bytes, and the next two take three and two
+unfoldable pub shortest : ℕ → ℤ → List ℕ
+shortest op m = (op + (4 - widthOf m)) ∷ signedBytes (widthOf m) m
+
+-- a move, if not 0
 unfoldable pub move : ℕ → ℤ → List ℕ
-move op m = cond (eqZ m (pos 0)) [] ((op + (4 - widthOf m)) ∷ signedBytes (widthOf m) m)
+move op m = cond (eqZ m (pos 0)) [] (shortest op m)
 
 -- the font, the horizontal move, the vertical move, HORZCHAR; moves are differences of targets
 unfoldable pub commandsOf : Pen → Character → List ℕ

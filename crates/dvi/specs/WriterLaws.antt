@@ -10,7 +10,7 @@ use mathlib.Core.Path.{_≡_, refl, sym, ap, _∙_}
 use mathlib.Core.Bool.{Bool, true, false, cond}
 use mathlib.Core.List.{List, [], _∷_, _++_, append-assoc, append-nil, foldl-append}
 use mathlib.Core.Option.{Option, none, some}
-use Prim.Native.Nat.{ℕ, zero, suc, _+_, _*_, _-_, _≤_}
+use Prim.Native.Nat.{ℕ, zero, suc, _+_, _*_, _≤_}
 use native.Mathlib.Omega.{arith}
 use lib.Dec.{ltb, eqb}
 use lib.IntN.{ℤ, pos, negsuc, _-ℤ_}
@@ -19,9 +19,9 @@ use Rattle.integers.specs.Parts.{eqZ, maxZ}
 use Rattle.octets.specs.Octets.{bytes, signedBytes, widthOf}
 use Rattle.octets.specs.OctetsLaws.{by-cond, length-signedBytes, width-range}
 use Rattle.galley_file.specs.declared.character.Character.{Character}
-use Rattle.dvi.specs.Command.{X4, Y4, EOP, FONT, FONTNUM}
+use Rattle.dvi.specs.Command.{EOP, X4, Y4}
 use Rattle.dvi.specs.Sheet.{maxDvi}
-use Rattle.dvi.specs.Writer.{xTargetOf, yTargetOf, Pen, newPen, penAt, fontCommand, fontChange, move, commandsOf, commands, pageBytes, largest, uses, usedFonts, nameOf, definition, definitionBytes, trailerBytes, postambleBytes, onePage, dviFile}
+use Rattle.dvi.specs.Writer.{xTargetOf, yTargetOf, Pen, newPen, penAt, fontCommand, fontChange, shortest, move, commandsOf, commands, pageBytes, largest, uses, usedFonts, nameOf, definition, definitionBytes, trailerBytes, postambleBytes, onePage, dviFile}
 
 -- ---- the commands of a character
 
@@ -40,10 +40,10 @@ fontChange-most (some g) f =
 
 -- a move's length does not depend on its command
 pub length-move : (op : ℕ) (m : ℤ) → length (move op m) ≡ cond (eqZ m (pos 0)) 0 (1 + widthOf m)
-unfolding move
+unfolding move shortest
 length-move op m = go (eqZ m (pos 0))
   where
-    go : (t : Bool) → length (cond t [] ((op + (4 - widthOf m)) ∷ signedBytes (widthOf m) m)) ≡ cond t 0 (1 + widthOf m)
+    go : (t : Bool) → length (cond t [] (shortest op m)) ≡ cond t 0 (1 + widthOf m)
     go true = refl
     go false = let l = length-signedBytes (widthOf m) m in omega arith
 
@@ -52,13 +52,10 @@ move-most op m =
     rw (length-move op m)
     (by-cond (λ (n : ℕ). n ≤ 5) (eqZ m (pos 0)) _ _ (λ _. omega arith) (λ _. omega (arith, width-range m)))
 
-pub length-commandsOf : (p : Pen) (c : Character) → length (commandsOf p c) ≡ length (fontChange (p .font) (c .font)) + (length (move X4 (xTargetOf c -ℤ p .x)) + (length (move Y4 (yTargetOf c -ℤ p .y)) + 2))
-unfolding commandsOf
-length-commandsOf p c = simp length-append
-
 pub commandsOf-most : (p : Pen) (c : Character) → length (commandsOf p c) ≤ 17
+unfolding commandsOf
 commandsOf-most p c =
-    rw (length-commandsOf p c)
+    simp length-append
     (omega (arith, fontChange-most (p .font) (c .font), move-most X4 (xTargetOf c -ℤ p .x), move-most Y4 (yTargetOf c -ℤ p .y)))
 
 -- ---- the commands of a list of characters
@@ -118,18 +115,18 @@ usedFonts-most (suc n) cs =
     (λ _. omega (arith, usedFonts-most n cs))
     (λ _. omega (arith, usedFonts-most n cs)))
 
+-- 14 bytes for each definition
+pub length-definitions : (fs : List ℕ) → length (definitionBytes fs) ≡ 14 * length fs
+unfolding definitionBytes definition nameOf signedBytes bytes
+length-definitions [] = refl
+length-definitions (f ∷ fs) = omega (arith, length-definitions fs)
+
 pub definitions-append : (fs gs : List ℕ) → definitionBytes (fs ++ gs) ≡ definitionBytes fs ++ definitionBytes gs
 unfolding definitionBytes
 definitions-append [] gs = refl
 definitions-append (f ∷ fs) gs =
     ap (λ (l : List ℕ). definition f ++ l) (definitions-append fs gs)
     ∙ sym (append-assoc (definition f) (definitionBytes fs) (definitionBytes gs))
-
--- 14 bytes for each definition
-pub length-definitions : (fs : List ℕ) → length (definitionBytes fs) ≡ 14 * length fs
-unfolding definitionBytes definition nameOf signedBytes bytes
-length-definitions [] = refl
-length-definitions (f ∷ fs) = omega (arith, length-definitions fs)
 
 pub length-postamble : (last pst : ℕ) (cs : List Character) → length (postambleBytes last pst cs) ≡ 26 + 14 * length (usedFonts 120 cs)
 unfolding postambleBytes trailerBytes signedBytes bytes

@@ -1,7 +1,7 @@
 -- Reading what was written gives the number, and writing what was read gives the bytes, for every number of bytes at once.
 -- Assumes nothing.
 use mathlib.Core.Path.{_≡_, refl, sym, ap, subst, _∙_}
-use mathlib.Core.Bool.{Bool, true, false, cond, _&&_}
+use mathlib.Core.Bool.{Bool, true, false, cond}
 use mathlib.Core.List.{List, [], _∷_, _++_}
 use Prim.Native.Nat.{ℕ, zero, suc, _+_, _*_, _-_, _/_, _%_, _^_, _≤_, _<_}
 use native.Mathlib.Nat.{add-zero, pow-suc, pow-succ', mod-lt, mod-eq-of-lt, one-le-pow, pow-le-pow-right, div-one, div-div-eq-div-mul, add-mul}
@@ -269,15 +269,6 @@ true-fits32 z f =
     let low : leZ (negsuc 2147483647) z ≡ true = omega (integers, bounds f) in
     let high : leZ z (pos 2147483647) ≡ true = omega (integers, bounds f) in
     rw (low, high)
-
-pub fits32-true : (z : ℤ) → fits32 z ≡ true → SFits w32 z
-unfolding fits32
-fits32-true z e = go (leZ (negsuc 2147483647) z) (leZ z (pos 2147483647)) refl refl e
-  where
-    go : (t u : Bool) → leZ (negsuc 2147483647) z ≡ t → leZ z (pos 2147483647) ≡ u → (t && u) ≡ true → SFits w32 z
-    go true true low high q = omega integers
-    go true false low high q = let n : _≡_ {A = ℕ} 0 1 = cc in absurd (omega arith)
-    go false u low high q = let n : _≡_ {A = ℕ} 0 1 = cc in absurd (omega arith)
 
 -- ---- as the code computes: 2 and 4 bytes, and the 32 bits of a number
 
