@@ -68,8 +68,8 @@ module _ (ws : List ℤ) (last : ℤ) where
   unfolding commandsOf markOf penAt
   leads-character pen c o v =
       leads-append ws last (leads-font ws last pen (c .font) (v .font))
-      (leads-append ws last (leads-x ws last (penIn ws last pen (c .font)) (xTargetOf c) move-x (x-fits to) (rw (o .y-is) (y-fits (o .place))))
-      (leads-append ws last (leads-y ws last (penX ws last (penIn ws last pen (c .font)) (xTargetOf c)) (yTargetOf c) move-y (y-fits to) (x-fits to))
+      (leads-append ws last (leads-x ws last (penIn pen (c .font)) (xTargetOf c) move-x (x-fits to) (rw (o .y-is) (y-fits (o .place))))
+      (leads-append ws last (leads-y ws last (penX (penIn pen (c .font)) (xTargetOf c)) (yTargetOf c) move-y (y-fits to) (x-fits to))
       (leads-char ws last (penAt c) (c .font) (c .code) refl (omega (arith, v .last)))))
     where
       from : Place (o .x) (o .h)

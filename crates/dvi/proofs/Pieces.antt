@@ -41,6 +41,19 @@ pub record Reached (ws : List ℤ) (last : ℤ) (p : Page) (bs : List ℕ) (ms :
 pub record Leads (ws : List ℤ) (last : ℤ) (pen : Pen) (bs : List ℕ) (ms : List Mark) (to : Pen) : Type 0 where
   pub lead : (p : Page) → Stands pen p → Reached ws last p bs ms to
 
+-- ---- the pen with another font, X or Y
+
+abbrev pub penIn : Pen → ℕ → Pen
+penIn pen f = record { font = some f; x = pen .x; y = pen .y }
+
+abbrev pub penX : Pen → ℤ → Pen
+penX pen a = record { font = pen .font; x = a; y = pen .y }
+
+abbrev pub penY : Pen → ℤ → Pen
+penY pen b = record { font = pen .font; x = pen .x; y = b }
+
+-- ---- single commands
+
 -- FONTNUM 0 to 63
 form-fontnum : (f : ℕ) → f < 64 → formOf (FONTNUM + f) ≡ bare (setFont (pos f))
 unfolding formOf
@@ -60,6 +73,25 @@ three op make e₂ e₃ e₄ (suc (suc (suc zero))) l h = e₃
 three op make e₂ e₃ e₄ (suc (suc (suc (suc zero)))) l h = e₄
 three op make e₂ e₃ e₄ (suc (suc (suc (suc (suc k))))) l h = absurd (omega arith)
 
+goTo-fits : (p : Page) (n : Numbers) → SFits w32 (n .atX) → SFits w32 (n .atY) → goTo p n ≡ moved (withNumbers p n)
+unfolding goTo ifFits
+goTo-fits p n h k = rw (true-fits32 (n .atX) h, true-fits32 (n .atY) k)
+
+no-move : (from to : ℤ) → to -ℤ from ≡ pos 0 → from ≡ to
+no-move from to e = omega (integers, dif-parts to from)
+
+set-still : (p : Page) (c : ℕ) (a b f : ℤ) → c < 128 → p .numbers .atX ≡ a → p .numbers .atY ≡ b → p .font ≡ some f
+    → setStill p (pos c) (p .font) ≡ marked p (charMark a b f c)
+unfolding setStill charHere
+set-still p c a b f h ex ey ef = rw (ef, lt-ltb c 128 h, ex, ey)
+
+-- the character's byte is its number
+byte : (c : ℕ) → c < 128 → signedBytes 1 (pos c) ≡ c ∷ []
+unfolding bytes
+byte c h = signedBytes-pos 1 c ∙ ap {B = List ℕ} (λ (n : ℕ). n ∷ []) (omega arith)
+
+-- ---- the pieces, one after another
+
 module _ (ws : List ℤ) (last : ℤ) where
   pub leads-nil : (pen : Pen) → Leads ws last pen [] [] pen
   leads-nil pen = record { lead = λ p h. record { page = p; stands = h; goes = λ at. goes-nil ws at (inside last p) } }
@@ -75,9 +107,6 @@ module _ (ws : List ℤ) (last : ℤ) where
       both r = chain r (g .lead (r .page) (r .stands))
 
   -- ---- the font
-
-  abbrev pub penIn : Pen → ℕ → Pen
-  penIn pen f = record { font = some f; x = pen .x; y = pen .y }
 
   goes-font : (at : ℕ) (p : Page) (f : ℕ) → f < 120 → Goes ws at (inside last p) (fontCommand f) [] (inside last (withFont p (pos f)))
   unfolding fontCommand effect formOf forms
@@ -126,10 +155,6 @@ module _ (ws : List ℤ) (last : ℤ) where
 
   -- ---- the moves
 
-  goTo-fits : (p : Page) (n : Numbers) → SFits w32 (n .atX) → SFits w32 (n .atY) → goTo p n ≡ moved (withNumbers p n)
-  unfolding goTo ifFits
-  goTo-fits p n h k = rw (true-fits32 (n .atX) h, true-fits32 (n .atY) k)
-
   -- a move by the shortest command, left out where it is 0
   leads-move : (pen to : Pen) (op : ℕ) (make : ℤ → Command) (m : ℤ) (after : Page → Page) → Three op make → SFits w32 m
       → (m ≡ pos 0 → (p : Page) → Stands pen p → Stands to p)
@@ -137,7 +162,9 @@ module _ (ws : List ℤ) (last : ℤ) where
       → ((p : Page) → Stands pen p → effect ws p (make m) ≡ moved (after p)) → Leads ws last pen (move op m) [] to
   unfolding move shortest
   leads-move pen to op make m after forms fits still there eff =
-      let w = width-range m in
+      let k = widthOf m in
+      let r = width-range m in
+      let decoded = decode-takes (op + (4 - k)) k make m (forms k (r .0) (r .1)) (width-holds m (fits .sfits)) in
       by-cond (λ (bs : List ℕ). Leads ws last pen bs [] to) (eqZ m (pos 0)) _ _
       (λ t. record {
         lead = λ p h. record { page = p; stands = still (eqZ-true m (pos 0) t) p h; goes = λ at. goes-nil ws at (inside last p) };
@@ -146,18 +173,9 @@ module _ (ws : List ℤ) (last : ℤ) where
         lead = λ p h. record {
           page = after p;
           stands = there p h;
-          goes = λ at. goes-moved ws at last p (after p) (make m) (op + (4 - widthOf m)) (signedBytes (widthOf m) m) (decode-takes (op + (4 - widthOf m)) (widthOf m) make m (forms (widthOf m) (w .0) (w .1)) (width-holds m (fits .sfits))) (eff p h);
+          goes = λ at. goes-moved ws at last p (after p) (make m) (op + (4 - k)) (signedBytes k m) decoded (eff p h);
         };
       })
-
-  no-move : (from to : ℤ) → to -ℤ from ≡ pos 0 → from ≡ to
-  no-move from to e = omega (integers, dif-parts to from)
-
-  abbrev pub penX : Pen → ℤ → Pen
-  penX pen a = record { font = pen .font; x = a; y = pen .y }
-
-  abbrev pub penY : Pen → ℤ → Pen
-  penY pen b = record { font = pen .font; x = pen .x; y = b }
 
   pub leads-x : (pen : Pen) (a : ℤ) → SFits w32 (a -ℤ pen .x) → SFits w32 a → SFits w32 (pen .y) → Leads ws last pen (move X4 (a -ℤ pen .x)) [] (penX pen a)
   unfolding withNumbers setX rightBy effect formOf forms
@@ -188,16 +206,6 @@ module _ (ws : List ℤ) (last : ℤ) where
       arrives p h = ap (λ (z : ℤ). z +ℤ m) (h .at-y) ∙ move-ends (pen .y) b
 
   -- ---- HORZCHAR
-
-  set-still : (p : Page) (c : ℕ) (a b f : ℤ) → c < 128 → p .numbers .atX ≡ a → p .numbers .atY ≡ b → p .font ≡ some f
-      → setStill p (pos c) (p .font) ≡ marked p (charMark a b f c)
-  unfolding setStill charHere
-  set-still p c a b f h ex ey ef = rw (ef, lt-ltb c 128 h, ex, ey)
-
-  -- the character's byte is its number
-  byte : (c : ℕ) → c < 128 → signedBytes 1 (pos c) ≡ c ∷ []
-  unfolding bytes
-  byte c h = signedBytes-pos 1 c ∙ ap {B = List ℕ} (λ (n : ℕ). n ∷ []) (omega arith)
 
   pub leads-char : (pen : Pen) (f c : ℕ) → pen .font ≡ some f → c < 128
       → Leads ws last pen (HORZCHAR ∷ c ∷ []) (charMark (pen .x) (pen .y) (pos f) c ∷ []) pen

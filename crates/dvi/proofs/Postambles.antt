@@ -46,6 +46,8 @@ module _ (pst : ℕ) where
   pub postamble-right : (last : ℕ) (cs : List Character) → last < 2147483648 → pst < 2147483648 → postamble (pos last) pst (drop 1 (postambleBytes last pst cs)) ≡ true
   unfolding postamble postambleBytes signedBytes bytes
   postamble-right last cs k h =
+      let rest = definitionBytes (usedFonts 120 cs) ++ trailerBytes pst in
+      let sizes = signedBytes 4 (largest (map yTargetOf cs)) ++ (signedBytes 4 (largest (map xTargetOf cs)) ++ rest) in
       rw (le-leb 12 (length (drop 1 (postambleBytes last pst cs))) (omega arith))
-      (rw (signed-first 4 (pos last) (signedBytes 4 (largest (map yTargetOf cs)) ++ (signedBytes 4 (largest (map xTargetOf cs)) ++ (definitionBytes (usedFonts 120 cs) ++ trailerBytes pst))) (record { half = omega arith }), true-eqZ (pos last) (pos last) refl)
+      (rw (signed-first 4 (pos last) sizes (record { half = omega arith }), true-eqZ (pos last) (pos last) refl)
       (pass-definitions 120 cs (trailerBytes pst) (omega arith) ∙ trailer-right h))

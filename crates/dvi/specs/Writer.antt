@@ -93,11 +93,11 @@ unfoldable pub usedFonts : ℕ → List Character → List ℕ
 usedFonts zero cs = []
 usedFonts (suc n) cs = usedFonts n cs ++ cond (uses n cs) (n ∷ []) []
 
--- C, the font digit, the point size in two digits
+-- C (67), the font digit, the point size in two digits (0 is 48)
 unfoldable pub nameOf : ℕ → List ℕ
 nameOf f = 67 ∷ (48 + fontOf f) ∷ (48 + pointSize f / 10) ∷ (48 + pointSize f % 10) ∷ []
 
--- ID and number are the font number; the name stands in quotes
+-- ID and number are the font number; the name stands in quotes (34)
 unfoldable pub definition : ℕ → List ℕ
 definition f = signedBytes 4 (pos f) ++ (signedBytes 4 (pos f) ++ (34 ∷ nameOf f ++ (34 ∷ [])))
 
