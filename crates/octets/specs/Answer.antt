@@ -47,11 +47,50 @@ noCharacter = 11
 abbrev pub noGalleyRoom : ℕ
 noGalleyRoom = 12
 
+abbrev pub dviTooLong : ℕ
+dviTooLong = 20
+
+abbrev pub widthsNotWhole : ℕ
+widthsNotWhole = 31
+
+abbrev pub badCommand : ℕ
+badCommand = 21
+
+abbrev pub dviEndsEarly : ℕ
+dviEndsEarly = 22
+
+abbrev pub wrongOffset : ℕ
+wrongOffset = 23
+
+abbrev pub stackFull : ℕ
+stackFull = 24
+
+abbrev pub stackEmpty : ℕ
+stackEmpty = 25
+
+abbrev pub entriesLeft : ℕ
+entriesLeft = 26
+
+abbrev pub cannotSet : ℕ
+cannotSet = 27
+
+abbrev pub outOf32Bits : ℕ
+outOf32Bits = 28
+
+abbrev pub badPostamble : ℕ
+badPostamble = 29
+
+abbrev pub noSheetRoom : ℕ
+noSheetRoom = 30
+
 abbrev pub galleyTooLong : ℕ
 galleyTooLong = 40
 
 abbrev pub galleyMalformed : ℕ
 galleyMalformed = 41
+
+abbrev pub noDviRoom : ℕ
+noDviRoom = 42
 
 -- ---- outcomes
 

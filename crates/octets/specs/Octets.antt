@@ -8,13 +8,14 @@
 --     signedBytes k z    z in k bytes, in two's complement
 --     Holds k z          k bytes hold z in two's complement
 --     widthOf z          the fewest of 2, 3 and 4 bytes that hold z
+--     fits32 z           z is a signed 32-bit number
 use Prim.Native.Nat.{ℕ, zero, suc, _+_, _*_, _-_, _/_, _%_, _^_, _≤_, _<_}
-use mathlib.Core.Bool.{cond}
+use mathlib.Core.Bool.{Bool, cond, _&&_}
 use mathlib.Core.List.{List, [], _∷_}
 use lib.Dec.{ltb}
 use lib.IntN.{ℤ, pos, negsuc}
 use lib.ListN.{length, getD, take, drop}
-use lib.Signed.{mag}
+use lib.Signed.{mag, leZ}
 
 abbrev pub Bytes : List ℕ → Type 0
 Bytes s = (i : ℕ) → getD s i 0 < 256
@@ -58,3 +59,6 @@ pub record Holds (k : ℕ) (z : ℤ) : Type 0 where
 
 unfoldable pub widthOf : ℤ → ℕ
 widthOf z = cond (ltb (mag z) 32768) 2 (cond (ltb (mag z) 8388608) 3 4)
+
+unfoldable pub fits32 : ℤ → Bool
+fits32 z = leZ (negsuc 2147483647) z && leZ z (pos 2147483647)

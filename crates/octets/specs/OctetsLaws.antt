@@ -11,12 +11,12 @@ use lib.Arith.{mod-mul, digits-mod}
 use lib.Dec.{ltb, lit<}
 use lib.IntN.{ℤ, pos, negsuc, natAbs, _-ℤ_}
 use lib.ListN.{length, getD, take, drop, length-drop}
-use lib.Signed.{mag, shrZ, mag-shr, _<ℤ_, _≤ℤ_}
+use lib.Signed.{mag, leZ, shrZ, mag-shr, _<ℤ_, _≤ℤ_}
 use mir.Syntax.{w32}
 use mir.Val.{SFits, toZ, ofZ}
-use Rattle.integers.specs.Parts.{integers, plain, dif-parts}
+use Rattle.integers.specs.Parts.{integers, plain, dif-parts, bounds}
 use lib.Seq.{length-take-le, getD-drop, getD-take, take-suc, take-at}
-use Rattle.octets.specs.Octets.{Bytes, numberFrom, number, twos, signed, natAt, signedAt, bytes, residue, signedBytes, Holds, widthOf}
+use Rattle.octets.specs.Octets.{Bytes, numberFrom, number, twos, signed, natAt, signedAt, bytes, residue, signedBytes, Holds, widthOf, fits32}
 
 -- ---- lists of bytes
 
@@ -138,6 +138,11 @@ by-test {X} a b f g = go (ltb a b) refl
     go true e = f (ltb-true a b e)
     go false e = g (ltb-false a b e)
 
+-- what holds of both sides of a choice holds of the choice
+pub by-cond {ℓ} : {A : Type 0} (P : A → Type ℓ) (t : Bool) (x y : A) → (t ≡ true → P x) → (t ≡ false → P y) → P (cond t x y)
+by-cond P true x y f g = f refl
+by-cond P false x y f g = g refl
+
 pub twos-residue : (m : ℕ) (z : ℤ) → 2 * suc (mag z) ≤ m → twos m (residue m z) ≡ z
 unfolding residue
 twos-residue m (pos n) h = ap (twos m) (mod-eq-of-lt (omega arith)) ∙ twos-low m n (omega arith)
@@ -168,6 +173,10 @@ signed-signedBytes k z f =
     residue-below m (pos n) h = mod-lt n h
     residue-below m (negsuc n) h = omega (arith, mod-lt n h)
 
+-- the same of bytes that stand first
+pub signed-first : (k : ℕ) (z : ℤ) (rest : List ℕ) → Holds k z → signed (take k (signedBytes k z ++ rest)) ≡ z
+signed-first k z rest f = ap signed (take-at (signedBytes k z) rest k (length-signedBytes k z)) ∙ signed-signedBytes k z f
+
 -- writing what was read gives the bytes
 pub signedBytes-signedAt : (k at : ℕ) (s : List ℕ) → Bytes s → at + k ≤ length s → signedBytes k (signedAt k at s) ≡ take k (drop at s)
 unfolding signedBytes
@@ -180,6 +189,10 @@ signedBytes-signedAt k at s b h =
 pub number-signedBytes : (k n : ℕ) → n < 256 ^ k → number (signedBytes k (pos n)) ≡ n
 unfolding signedBytes residue
 number-signedBytes k n h = ap number (bytes-mod k n) ∙ number-bytes k n ∙ mod-eq-of-lt h
+
+pub signedBytes-pos : (k n : ℕ) → signedBytes k (pos n) ≡ bytes k n
+unfolding signedBytes residue
+signedBytes-pos k n = bytes-mod k n
 
 pub signedBytes-natAt : (k at : ℕ) (s : List ℕ) → Bytes s → at + k ≤ length s → signedBytes k (pos (natAt k at s)) ≡ take k (drop at s)
 unfolding signedBytes residue
@@ -244,6 +257,18 @@ width-least k z h =
 
 pub width-range : (z : ℤ) → (2 ≤ widthOf z) × (widthOf z ≤ 4)
 width-range z = by-width (λ (w : ℕ). (2 ≤ w) × (w ≤ 4)) z (λ h. omega arith) (λ l h. omega arith) (λ l. omega arith)
+
+-- ---- signed 32-bit numbers: four bytes hold them
+
+pub holds-four : {z : ℤ} → SFits w32 z → Holds 4 z
+holds-four f = record { half = omega (arith, f .sfits) }
+
+pub true-fits32 : (z : ℤ) → SFits w32 z → fits32 z ≡ true
+unfolding fits32
+true-fits32 z f =
+    let low : leZ (negsuc 2147483647) z ≡ true = omega (integers, bounds f) in
+    let high : leZ z (pos 2147483647) ≡ true = omega (integers, bounds f) in
+    rw (low, high)
 
 -- ---- as the code computes: 2 and 4 bytes, and the 32 bits of a number
 

@@ -28,6 +28,32 @@ pub const NO_CHARACTER: u8 = 11;
 
 pub const NO_GALLEY_ROOM: u8 = 12;
 
+pub const DVI_TOO_LONG: u8 = 20;
+
+pub const WIDTHS_NOT_WHOLE: u8 = 31;
+
+pub const BAD_COMMAND: u8 = 21;
+
+pub const DVI_ENDS_EARLY: u8 = 22;
+
+pub const WRONG_OFFSET: u8 = 23;
+
+pub const STACK_FULL: u8 = 24;
+
+pub const STACK_EMPTY: u8 = 25;
+
+pub const ENTRIES_LEFT: u8 = 26;
+
+pub const CANNOT_SET: u8 = 27;
+
+pub const OUT_OF_32_BITS: u8 = 28;
+
+pub const BAD_POSTAMBLE: u8 = 29;
+
+pub const NO_SHEET_ROOM: u8 = 30;
+
 pub const GALLEY_TOO_LONG: u8 = 40;
 
 pub const GALLEY_MALFORMED: u8 = 41;
+
+pub const NO_DVI_ROOM: u8 = 42;

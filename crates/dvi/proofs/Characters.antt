@@ -1,0 +1,99 @@
+-- The commands of valid characters show them, one after the other, each at its targets. The pen stands at targets of valid places, so
+-- every move between them and every place fits 32 bits.
+-- Assumes nothing.
+use mathlib.Core.Path.{_≡_, refl}
+use mathlib.Core.List.{List, [], _∷_, map}
+use native.Mathlib.Omega.{arith}
+use lib.IntN.{ℤ, pos, negsuc, _-ℤ_}
+use lib.Signed.{_≤ℤ_}
+use mir.Syntax.{w32}
+use mir.Val.{SFits}
+use Rattle.integers.specs.Parts.{integers}
+use Rattle.measure.specs.Target.{xTarget, yTarget}
+use Rattle.measure.specs.TargetLaws.{target-parts, y-parts, x-move-fits, y-move-fits}
+use Rattle.galley_file.specs.declared.character.Character.{Character}
+use Rattle.galley_file.specs.CharacterLaws.{Valid, valid-parts, x-range, height-range}
+use Rattle.galley_file.specs.Galley.{AllValid}
+use Rattle.galley_file.specs.Galley as galley
+use Rattle.dvi.specs.Page.{newPage}
+use Rattle.dvi.specs.Writer.{xTargetOf, yTargetOf, Pen, newPen, penAt, commandsOf, commands}
+use Rattle.dvi.specs.WriterLaws.{penAfter}
+use Rattle.dvi.specs.Demand3.{markOf}
+use Rattle.dvi.proofs.Pieces.{Stands, Leads, leads-nil, leads-append, leads-font, leads-x, leads-y, leads-char, penIn, penX}
+
+-- where a valid character may be
+record Place (x h : ℤ) : Type 0 where
+  left : negsuc 54 ≤ℤ x
+  right : x ≤ℤ pos 3239
+  top : pos 0 ≤ℤ h
+  bottom : h ≤ℤ pos 65535
+
+place-of : (c : Character) → Valid c → Place (c .x .0) (c .height .0)
+place-of c v =
+    let r = x-range v in
+    let h = height-range v in
+    record { left = r .0; right = r .1; top = rw (h .height-is) (omega integers); bottom = rw (h .height-is) (omega (integers, h .below)) }
+
+x-fits : {x h : ℤ} → Place x h → SFits w32 (xTarget x)
+x-fits {x} p = omega (integers, p .left, p .right, target-parts x)
+
+y-fits : {x h : ℤ} → Place x h → SFits w32 (yTarget h)
+y-fits {x} {h} p = omega (integers, p .top, p .bottom, y-parts h)
+
+-- the pen stands at the targets of such a place
+record OnPage (pen : Pen) : Type 0 where
+  x : ℤ
+  h : ℤ
+  place : Place x h
+  x-is : pen .x ≡ xTarget x
+  y-is : pen .y ≡ yTarget h
+
+on-new : OnPage newPen
+unfolding newPen xTarget yTarget
+on-new =
+    record {
+      x = pos 0;
+      h = pos 0;
+      place = record { left = omega integers; right = omega integers; top = omega integers; bottom = omega integers };
+      x-is = refl;
+      y-is = refl;
+    }
+
+on-at : (c : Character) → Valid c → OnPage (penAt c)
+unfolding penAt
+on-at c v = record { x = c .x .0; h = c .height .0; place = place-of c v; x-is = refl; y-is = refl }
+
+module _ (ws : List ℤ) (last : ℤ) where
+  leads-character : (pen : Pen) (c : Character) → OnPage pen → Valid c → Leads ws last pen (commandsOf pen c) (markOf c ∷ []) (penAt c)
+  unfolding commandsOf markOf penAt
+  leads-character pen c o v =
+      leads-append ws last (leads-font ws last pen (c .font) (v .font))
+      (leads-append ws last (leads-x ws last (penIn pen (c .font)) (xTargetOf c) move-x (x-fits to) (rw (o .y-is) (y-fits (o .place))))
+      (leads-append ws last (leads-y ws last (penX (penIn pen (c .font)) (xTargetOf c)) (yTargetOf c) move-y (y-fits to) (x-fits to))
+      (leads-char ws last (penAt c) (c .font) (c .code) refl (omega (arith, v .last)))))
+    where
+      from : Place (o .x) (o .h)
+      from = o .place
+
+      to : Place (c .x .0) (c .height .0)
+      to = place-of c v
+
+      move-x : SFits w32 (xTargetOf c -ℤ pen .x)
+      move-x = rw (o .x-is) (x-move-fits (c .x .0) (o .x) (to .left) (to .right) (from .left) (from .right))
+
+      move-y : SFits w32 (yTargetOf c -ℤ pen .y)
+      move-y = rw (o .y-is) (y-move-fits (c .height .0) (o .h) (to .top) (to .bottom) (from .top) (from .bottom))
+
+  leads-from : (pen : Pen) {cs : List Character} → OnPage pen → AllValid cs → Leads ws last pen (commands pen cs) (map markOf cs) (penAfter pen cs)
+  unfolding commands penAfter
+  leads-from pen o galley.none = leads-nil ws last pen
+  leads-from pen o (galley.more {c = c} v vs) =
+      let p = valid-parts v in
+      leads-append ws last (leads-character pen c o p) (leads-from (penAt c) (on-at c p) vs)
+
+  pub leads-commands : {cs : List Character} → AllValid cs → Leads ws last newPen (commands newPen cs) (map markOf cs) (penAfter newPen cs)
+  leads-commands v = leads-from newPen on-new v
+
+pub stands-new : Stands newPen newPage
+unfolding newPen newPage
+stands-new = record { at-x = refl; at-y = refl; at-font = refl; at-stack = refl }

@@ -1,0 +1,223 @@
+-- What each of the writer's pieces does to a page that stands where the pen does: the font command, the two moves, HORZCHAR.
+-- Assumes nothing.
+use mathlib.Core.Path.{_≡_, refl, ap, _∙_}
+use mathlib.Core.List.{List, [], _∷_, _++_}
+use mathlib.Core.Option.{Option, none, some}
+use Prim.Native.Nat.{ℕ, zero, suc, _+_, _-_, _≤_, _<_}
+use native.Mathlib.Omega.{arith}
+use borrow.Author.Tests.{lt-ltb, le-ltb, ltb-true, eqb-true}
+use lib.Dec.{ltb, eqb}
+use lib.IntN.{ℤ, pos, _+ℤ_, _-ℤ_}
+use lib.ListN.{length}
+use mir.Syntax.{w32}
+use mir.Val.{SFits}
+use Rattle.integers.specs.Parts.{integers, eqZ, eqZ-true, dif-parts}
+use Rattle.octets.specs.Octets.{bytes, signedBytes, widthOf}
+use Rattle.octets.specs.OctetsLaws.{by-cond, signedBytes-pos, width-holds, width-range, true-fits32}
+use Rattle.measure.specs.TargetLaws.{move-ends}
+use Rattle.dvi.specs.Command.{HORZCHAR, FONT, X4, Y4, FONTNUM, Command, horzChar, setFont, moveX, moveY, bare, takes, forms, formOf}
+use Rattle.dvi.specs.Page.{Numbers, Page, Mark, charMark, moved, marked, withNumbers, withFont, rightBy, downBy, setX, setY, ifFits, goTo, charHere, setStill, effect}
+use Rattle.dvi.specs.File.{inside}
+use Rattle.dvi.specs.Writer.{Pen, fontCommand, fontChange, shortest, move}
+use Rattle.dvi.proofs.Runs.{Goes, goes-nil, goes-append, goes-moved, goes-marked, decode-takes, decode-bare}
+
+abbrev pub asSigned : Option ℕ → Option ℤ
+asSigned none = none
+asSigned (some f) = some (pos f)
+
+-- the page stands where the pen does, and its stack is empty
+pub record Stands (pen : Pen) (p : Page) : Type 0 where
+  pub at-x : p .numbers .atX ≡ pen .x
+  pub at-y : p .numbers .atY ≡ pen .y
+  pub at-font : p .font ≡ asSigned (pen .font)
+  pub at-stack : p .stack ≡ []
+
+pub record Reached (ws : List ℤ) (last : ℤ) (p : Page) (bs : List ℕ) (ms : List Mark) (pen : Pen) : Type 0 where
+  pub page : Page
+  pub stands : Stands pen page
+  pub goes : (at : ℕ) → Goes ws at (inside last p) bs ms (inside last page)
+
+-- from any page that stands at the one pen the bytes show ms and lead to one that stands at the other
+pub record Leads (ws : List ℤ) (last : ℤ) (pen : Pen) (bs : List ℕ) (ms : List Mark) (to : Pen) : Type 0 where
+  pub lead : (p : Page) → Stands pen p → Reached ws last p bs ms to
+
+-- ---- the pen with another font, X or Y
+
+abbrev pub penIn : Pen → ℕ → Pen
+penIn pen f = record { font = some f; x = pen .x; y = pen .y }
+
+abbrev pub penX : Pen → ℤ → Pen
+penX pen a = record { font = pen .font; x = a; y = pen .y }
+
+abbrev pub penY : Pen → ℤ → Pen
+penY pen b = record { font = pen .font; x = pen .x; y = b }
+
+-- ---- single commands
+
+-- FONTNUM 0 to 63
+form-fontnum : (f : ℕ) → f < 64 → formOf (FONTNUM + f) ≡ bare (setFont (pos f))
+unfolding formOf
+form-fontnum f h =
+    rw (le-ltb (FONTNUM + f) 128 (omega arith), le-ltb (FONTNUM + f) FONTNUM (omega arith), lt-ltb (FONTNUM + f) 218 (omega arith))
+    (ap (λ (n : ℕ). bare (setFont (pos n))) (omega arith))
+
+-- the three commands whose longest is op
+abbrev Three : ℕ → (ℤ → Command) → Type 0
+Three op make = (k : ℕ) → 2 ≤ k → k ≤ 4 → formOf (op + (4 - k)) ≡ takes k make
+
+three : (op : ℕ) (make : ℤ → Command) → formOf (op + 2) ≡ takes 2 make → formOf (op + 1) ≡ takes 3 make → formOf (op + 0) ≡ takes 4 make → Three op make
+three op make e₂ e₃ e₄ zero l h = absurd (omega arith)
+three op make e₂ e₃ e₄ (suc zero) l h = absurd (omega arith)
+three op make e₂ e₃ e₄ (suc (suc zero)) l h = e₂
+three op make e₂ e₃ e₄ (suc (suc (suc zero))) l h = e₃
+three op make e₂ e₃ e₄ (suc (suc (suc (suc zero)))) l h = e₄
+three op make e₂ e₃ e₄ (suc (suc (suc (suc (suc k))))) l h = absurd (omega arith)
+
+goTo-fits : (p : Page) (n : Numbers) → SFits w32 (n .atX) → SFits w32 (n .atY) → goTo p n ≡ moved (withNumbers p n)
+unfolding goTo ifFits
+goTo-fits p n h k = rw (true-fits32 (n .atX) h, true-fits32 (n .atY) k)
+
+no-move : (from to : ℤ) → to -ℤ from ≡ pos 0 → from ≡ to
+no-move from to e = omega (integers, dif-parts to from)
+
+set-still : (p : Page) (c : ℕ) (a b f : ℤ) → c < 128 → p .numbers .atX ≡ a → p .numbers .atY ≡ b → p .font ≡ some f
+    → setStill p (pos c) (p .font) ≡ marked p (charMark a b f c)
+unfolding setStill charHere
+set-still p c a b f h ex ey ef = rw (ef, lt-ltb c 128 h, ex, ey)
+
+-- the character's byte is its number
+byte : (c : ℕ) → c < 128 → signedBytes 1 (pos c) ≡ c ∷ []
+unfolding bytes
+byte c h = signedBytes-pos 1 c ∙ ap {B = List ℕ} (λ (n : ℕ). n ∷ []) (omega arith)
+
+-- ---- the pieces, one after another
+
+module _ (ws : List ℤ) (last : ℤ) where
+  pub leads-nil : (pen : Pen) → Leads ws last pen [] [] pen
+  leads-nil pen = record { lead = λ p h. record { page = p; stands = h; goes = λ at. goes-nil ws at (inside last p) } }
+
+  pub leads-append : {pen mid to : Pen} {bs cs : List ℕ} {ms ns : List Mark} → Leads ws last pen bs ms mid → Leads ws last mid cs ns to
+      → Leads ws last pen (bs ++ cs) (ms ++ ns) to
+  leads-append {pen} {mid} {to} {bs} {cs} {ms} {ns} f g = record { lead = λ p h. both (f .lead p h) }
+    where
+      chain : {p : Page} (r : Reached ws last p bs ms mid) → Reached ws last (r .page) cs ns to → Reached ws last p (bs ++ cs) (ms ++ ns) to
+      chain r s = record { page = s .page; stands = s .stands; goes = λ at. goes-append ws at (r .goes at) (s .goes (at + length bs)) }
+
+      both : {p : Page} → Reached ws last p bs ms mid → Reached ws last p (bs ++ cs) (ms ++ ns) to
+      both r = chain r (g .lead (r .page) (r .stands))
+
+  -- ---- the font
+
+  goes-font : (at : ℕ) (p : Page) (f : ℕ) → f < 120 → Goes ws at (inside last p) (fontCommand f) [] (inside last (withFont p (pos f)))
+  unfolding fontCommand effect formOf forms
+  goes-font at p f h =
+      by-cond (λ (bs : List ℕ). Goes ws at (inside last p) bs [] (inside last (withFont p (pos f)))) (ltb f 64) _ _
+      (λ e. goes-moved ws at last p (withFont p (pos f)) (setFont (pos f)) (FONTNUM + f) [] (decode-bare (FONTNUM + f) (setFont (pos f)) (form-fontnum f (ltb-true f 64 e))) refl)
+      (λ e. goes-moved ws at last p (withFont p (pos f)) (setFont (pos f)) FONT (signedBytes 4 (pos f)) (decode-takes FONT 4 setFont (pos f) refl (record { half = omega arith })) refl)
+
+  leads-fontCommand : (pen : Pen) (f : ℕ) → f < 120 → Leads ws last pen (fontCommand f) [] (penIn pen f)
+  unfolding withFont
+  leads-fontCommand pen f h =
+      record {
+        lead = λ p k. record {
+          page = withFont p (pos f);
+          stands = record { at-x = k .at-x; at-y = k .at-y; at-font = refl; at-stack = k .at-stack };
+          goes = λ at. goes-font at p f h;
+        };
+      }
+
+  -- no font command where the font stays
+  leads-same : (pen : Pen) (g f : ℕ) → pen .font ≡ some g → g ≡ f → Leads ws last pen [] [] (penIn pen f)
+  leads-same pen g f e k =
+      record {
+        lead = λ p h. record {
+          page = p;
+          stands = record {
+            at-x = h .at-x;
+            at-y = h .at-y;
+            at-font = h .at-font ∙ ap asSigned e ∙ ap (λ (n : ℕ). some (pos n)) k;
+            at-stack = h .at-stack;
+          };
+          goes = λ at. goes-nil ws at (inside last p);
+        };
+      }
+
+  pub leads-font : (pen : Pen) (f : ℕ) → f < 120 → Leads ws last pen (fontChange (pen .font) f) [] (penIn pen f)
+  unfolding fontChange
+  leads-font pen f h = go (pen .font) refl
+    where
+      go : (o : Option ℕ) → pen .font ≡ o → Leads ws last pen (fontChange o f) [] (penIn pen f)
+      go none e = leads-fontCommand pen f h
+      go (some g) e =
+          by-cond (λ (bs : List ℕ). Leads ws last pen bs [] (penIn pen f)) (eqb g f) _ _
+          (λ t. leads-same pen g f e (eqb-true g f t))
+          (λ t. leads-fontCommand pen f h)
+
+  -- ---- the moves
+
+  -- a move by the shortest command, left out where it is 0
+  leads-move : (pen to : Pen) (op : ℕ) (make : ℤ → Command) (m : ℤ) (after : Page → Page) → Three op make → SFits w32 m
+      → (m ≡ pos 0 → (p : Page) → Stands pen p → Stands to p)
+      → ((p : Page) → Stands pen p → Stands to (after p))
+      → ((p : Page) → Stands pen p → effect ws p (make m) ≡ moved (after p)) → Leads ws last pen (move op m) [] to
+  unfolding move shortest
+  leads-move pen to op make m after forms fits still there eff =
+      let k = widthOf m in
+      let r = width-range m in
+      let decoded = decode-takes (op + (4 - k)) k make m (forms k (r .0) (r .1)) (width-holds m (fits .sfits)) in
+      by-cond (λ (bs : List ℕ). Leads ws last pen bs [] to) (eqZ m (pos 0)) _ _
+      (λ t. record {
+        lead = λ p h. record { page = p; stands = still (eqZ-true m (pos 0) t) p h; goes = λ at. goes-nil ws at (inside last p) };
+      })
+      (λ t. record {
+        lead = λ p h. record {
+          page = after p;
+          stands = there p h;
+          goes = λ at. goes-moved ws at last p (after p) (make m) (op + (4 - k)) (signedBytes k m) decoded (eff p h);
+        };
+      })
+
+  pub leads-x : (pen : Pen) (a : ℤ) → SFits w32 (a -ℤ pen .x) → SFits w32 a → SFits w32 (pen .y) → Leads ws last pen (move X4 (a -ℤ pen .x)) [] (penX pen a)
+  unfolding withNumbers setX rightBy effect formOf forms
+  leads-x pen a fm fa fy =
+      leads-move pen (penX pen a) X4 moveX m (λ p. withNumbers p (setX m (rightBy m (p .numbers)))) (three X4 moveX refl refl refl) fm
+      (λ e p h. record { at-x = h .at-x ∙ no-move (pen .x) a e; at-y = h .at-y; at-font = h .at-font; at-stack = h .at-stack })
+      (λ p h. record { at-x = arrives p h; at-y = h .at-y; at-font = h .at-font; at-stack = h .at-stack })
+      (λ p h. goTo-fits p (setX m (rightBy m (p .numbers))) (rw (arrives p h) fa) (rw (h .at-y) fy))
+    where
+      m : ℤ
+      m = a -ℤ pen .x
+
+      arrives : (p : Page) → Stands pen p → p .numbers .atX +ℤ m ≡ a
+      arrives p h = ap (λ (z : ℤ). z +ℤ m) (h .at-x) ∙ move-ends (pen .x) a
+
+  pub leads-y : (pen : Pen) (b : ℤ) → SFits w32 (b -ℤ pen .y) → SFits w32 b → SFits w32 (pen .x) → Leads ws last pen (move Y4 (b -ℤ pen .y)) [] (penY pen b)
+  unfolding withNumbers setY downBy effect formOf forms
+  leads-y pen b fm fb fx =
+      leads-move pen (penY pen b) Y4 moveY m (λ p. withNumbers p (setY m (downBy m (p .numbers)))) (three Y4 moveY refl refl refl) fm
+      (λ e p h. record { at-x = h .at-x; at-y = h .at-y ∙ no-move (pen .y) b e; at-font = h .at-font; at-stack = h .at-stack })
+      (λ p h. record { at-x = h .at-x; at-y = arrives p h; at-font = h .at-font; at-stack = h .at-stack })
+      (λ p h. goTo-fits p (setY m (downBy m (p .numbers))) (rw (h .at-x) fx) (rw (arrives p h) fb))
+    where
+      m : ℤ
+      m = b -ℤ pen .y
+
+      arrives : (p : Page) → Stands pen p → p .numbers .atY +ℤ m ≡ b
+      arrives p h = ap (λ (z : ℤ). z +ℤ m) (h .at-y) ∙ move-ends (pen .y) b
+
+  -- ---- HORZCHAR
+
+  pub leads-char : (pen : Pen) (f c : ℕ) → pen .font ≡ some f → c < 128
+      → Leads ws last pen (HORZCHAR ∷ c ∷ []) (charMark (pen .x) (pen .y) (pos f) c ∷ []) pen
+  unfolding effect formOf forms
+  leads-char pen f c e k =
+      record {
+        lead = λ p h. record {
+          page = p;
+          stands = h;
+          goes = λ at.
+              goes-marked ws at last p p (horzChar (pos c)) (charMark (pen .x) (pen .y) (pos f) c) HORZCHAR (c ∷ [])
+              (λ rest. rw (byte c k) at (decode-takes HORZCHAR 1 horzChar (pos c) refl (record { half = omega arith }) rest))
+              (set-still p c (pen .x) (pen .y) (pos f) k (h .at-x) (h .at-y) (h .at-font ∙ ap asSigned e));
+        };
+      }

@@ -1,0 +1,14 @@
+-- The DVI file of 1980 (002): what it is, what it shows, the sheet that this makes, and the file of a list of characters.
+pub mod Command
+pub mod Page
+pub mod PageLaws
+pub mod Postamble
+pub mod File
+pub mod FileLaws
+pub mod Sheet
+pub mod SheetLaws
+pub mod Writer
+pub mod WriterLaws
+pub mod FontMarks
+pub mod FontMarksLaws
+pub mod Demand3

@@ -1,0 +1,1 @@
+// The DVI file of 1980 (002): definitions in specs/, demand 3 in proofs/.
