@@ -41,9 +41,6 @@ aboveHalf = 8
 abbrev pub noStop : ℕ
 noStop = 9
 
-abbrev pub noCharacter : ℕ
-noCharacter = 11
-
 abbrev pub noGalleyRoom : ℕ
 noGalleyRoom = 12
 
@@ -88,6 +85,9 @@ galleyTooLong = 40
 
 abbrev pub galleyMalformed : ℕ
 galleyMalformed = 41
+
+abbrev pub noCharacter : ℕ
+noCharacter = 11
 
 abbrev pub noDviRoom : ℕ
 noDviRoom = 42

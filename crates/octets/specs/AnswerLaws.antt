@@ -1,11 +1,14 @@
 -- Room comes last: the laws of `ifRoom`.
 -- Assumes nothing.
 use mathlib.Core.Path.{_≡_, refl}
+use mathlib.Core.Bool.{Bool, true, false, cond}
 use mathlib.Core.List.{List}
 use Prim.Native.Nat.{ℕ, _≤_, _<_}
-use borrow.Author.Tests.{lt-ltb, le-ltb}
+use native.Mathlib.Omega.{arith}
+use borrow.Author.Tests.{lt-ltb, le-ltb, ltb-false}
+use lib.Dec.{ltb}
 use lib.ListN.{length}
-use Rattle.octets.specs.Answer.{Result, refusal, written, ifRoom}
+use Rattle.octets.specs.Answer.{accepted, Result, refusal, written, outcome, ifRoom}
 
 module _ (number room : ℕ) where
   pub room-refused : (n place : ℕ) → ifRoom number room (refusal n place) ≡ refusal n place
@@ -19,3 +22,13 @@ module _ (number room : ℕ) where
   pub room-enough : (bs : List ℕ) → length bs ≤ room → ifRoom number room (written bs) ≡ written bs
   unfolding ifRoom
   room-enough bs h = rw (le-ltb _ _ h)
+
+-- what is accepted has room
+pub accepted-room : (number room n : ℕ) (r : Result) → accepted n ≡ outcome (ifRoom number room r) → n ≤ room
+unfolding ifRoom
+accepted-room number room n (refusal k place) e = let z : _≡_ {A = ℕ} 0 1 = cc in absurd (omega arith)
+accepted-room number room n (written bs) e = go (ltb room (length bs)) refl e
+  where
+    go : (t : Bool) → ltb room (length bs) ≡ t → accepted n ≡ outcome (cond t (refusal number (length bs)) (written bs)) → n ≤ room
+    go true q h = let z : _≡_ {A = ℕ} 0 1 = cc in absurd (omega arith)
+    go false q h = let l : n ≡ length bs = cc in omega (arith, ltb-false room (length bs) q)

@@ -24,8 +24,6 @@ pub const ABOVE_HALF: u8 = 8;
 
 pub const NO_STOP: u8 = 9;
 
-pub const NO_CHARACTER: u8 = 11;
-
 pub const NO_GALLEY_ROOM: u8 = 12;
 
 pub const DVI_TOO_LONG: u8 = 20;
@@ -55,5 +53,7 @@ pub const NO_SHEET_ROOM: u8 = 30;
 pub const GALLEY_TOO_LONG: u8 = 40;
 
 pub const GALLEY_MALFORMED: u8 = 41;
+
+pub const NO_CHARACTER: u8 = 11;
 
 pub const NO_DVI_ROOM: u8 = 42;

@@ -8,7 +8,8 @@ use native.Mathlib.Omega.{arith}
 use borrow.Author.Tests.{ltb-false}
 use lib.Dec.{ltb}
 use lib.ListN.{length}
-use Rattle.octets.specs.Answer.{Result, refusal, written, ifRoom, accepted, tapeTooLong, noStop, noGalleyRoom}
+use Rattle.octets.specs.Answer.{Result, refusal, written, outcome, ifRoom, accepted, tapeTooLong, noStop, noGalleyRoom}
+use Rattle.octets.specs.AnswerLaws.{accepted-room}
 use Rattle.galley_file.specs.declared.character.Character.{Character}
 use Rattle.galley_file.specs.Galley.{maxGalley, AllValid, galley, whole, readGalley}
 use Rattle.galley_file.specs.GalleyLaws.{length-galley, accepts, accepts-check}
@@ -67,3 +68,15 @@ accepted-tape tape room bs q =
       checked = ap checkOutcome (g .0) ∙ accepts-check (flashed tape) v few;
       size = omega (arith, ap length (g .0), length-galley (flashed tape));
     }
+
+-- what is accepted has room
+pub tape-room : (tape : List ℕ) (room n : ℕ) → accepted n ≡ outcome (tapeResult tape room) → n ≤ room
+unfolding tapeResult readResult
+tape-room tape room n = go (ltb maxTape (length tape))
+  where
+    rest : Result
+    rest = closing (length tape) (flashed tape) (run start 0 tape .ending)
+
+    go : (t : Bool) → accepted n ≡ outcome (cond t (refusal tapeTooLong 0) (ifRoom noGalleyRoom room rest)) → n ≤ room
+    go true e = let z : _≡_ {A = ℕ} 0 1 = cc in absurd (omega arith)
+    go false e = accepted-room noGalleyRoom room n rest e

@@ -1,0 +1,52 @@
+-- `galley::magnitude` meets its contract. a test's outcome is rewritten to the numbers, and then `omega integers` reads it.
+-- Assumes nothing.
+use mathlib.Core.Path.{_≡_, sym, _∙_}
+use Prim.Native.Nat.{_+_, _≤_, _<_}
+use lib.Dec.{T}
+use lib.IntN.{pos, natAbs, negℤ, _-ℤ_, +ℤ-idl}
+use lib.Signed.{nonNeg}
+use mir.Syntax.{w32, w64}
+use mir.Val.{Fits, SFits}
+use borrow.Author.Needs.{needs}
+use Rattle.integers.specs.Parts.{integers, up, dn, bounds, plain, wide, widened, dif-parts, neg-up, neg-dn, abs-parts, nonNeg-by}
+use Rattle.galley.proofs.magnitude.Statement.{statement}
+use Rattle.galley.proofs.magnitude.Tie as tie
+
+cast-result : tie.Need-cast-result
+cast-result c = rw (plain (c .before .fits .z)) (wide (c .before .fits .z))
+
+neg-fits : (s : tie.Start) → SFits w64 (negℤ (s .args .z))
+neg-fits s = omega (integers, bounds (s .fits .z), neg-up (s .args .z), neg-dn (s .args .z))
+
+sub-result : tie.Need-sub-result
+sub-result c = rw (widened (c .before .fits .z), +ℤ-idl) (neg-fits (c .before))
+
+cast-result-2 : tie.Need-cast-result-2
+cast-result-2 c =
+    let s = c .before in
+    let a = s .args .z in
+    let low = rw (plain (s .fits .z)) at (c .if1 .taken) in
+    rw (widened (s .fits .z), +ℤ-idl, plain (neg-fits s)) (
+      nonNeg-by (negℤ a) (omega (integers, low, neg-up a, neg-dn a)),
+      omega (integers, bounds (s .fits .z), abs-parts (negℤ a), neg-up a, neg-dn a),
+    )
+
+cast-result-3 : tie.Need-cast-result-3
+cast-result-3 c =
+    let s = c .before in
+    let a = s .args .z in
+    let high = rw (plain (s .fits .z)) at (c .if1 .left) in
+    rw (plain (s .fits .z)) (nonNeg-by a (omega (integers, high)), omega (integers, bounds (s .fits .z), abs-parts a))
+
+returns : tie.Need-returns
+returns c =
+    let s = c .before in
+    let a = s .args .z in
+    rw (widened (s .fits .z), +ℤ-idl, plain (neg-fits s)) (omega (integers, abs-parts (negℤ a), abs-parts a, neg-up a, neg-dn a))
+
+returns-2 : tie.Need-returns-2
+returns-2 c = search needs
+
+pub magnitude-spec : {M : Type 1} → statement M
+magnitude-spec =
+    tie.close (tie.spec cast-result sub-result cast-result-2 cast-result-3 returns returns-2)

@@ -1,0 +1,85 @@
+// Reads a tape on standard input and lists its galley (document 01, "Proof sheet").
+use galley_file::character;
+use galley_file::character::Character;
+use galley_file::font;
+use libc::STDIN_FILENO;
+use libc::STDOUT_FILENO;
+use octets::answer::Answer;
+ghost use mathlib.Core.Path.{_≡_};
+ghost use Prim.Native.Nat.{_≤_};
+ghost use lib.IntN.{natAbs};
+
+// The longest tape that is read.
+const MAX_TAPE: usize = 2_048;
+
+// How far z is from 0.
+fn magnitude(z: i32) -> u64
+    ensures { λ r. ⌜ r ≡ natAbs z ⌝ }
+{
+    if z < 0 {
+        (0 - z as i64) as u64
+    } else {
+        z as u64
+    }
+}
+
+fn write_number(n: u64) {
+    io::print_decimal(STDOUT_FILENO, n);
+    io::write_all(STDOUT_FILENO, b" ");
+}
+
+// A line: x, height, font, size and character.
+fn write_character(c: Character) {
+    if c.x.0 < 0 {
+        io::write_all(STDOUT_FILENO, b"-");
+    }
+    write_number(magnitude(c.x.0));
+    write_number(magnitude(c.height.0));
+    write_number(font::font_of(c.font) as u64);
+    write_number(font::point_size(c.font) as u64);
+    io::print_decimal(STDOUT_FILENO, c.code as u64);
+    io::write_all(STDOUT_FILENO, b"\n");
+}
+
+// The characters of an accepted galley: after each comes another, or End.
+fn write_galley(g: &[u8]) {
+    io::write_all(STDOUT_FILENO, b"x y font size char\n");
+    let mut at: usize = 0;
+    let mut count: u64 = 0;
+    while character::FIELD < g.len() - at {
+        write_character(character::character_at(g, at));
+        at += character::FIELD;
+        count += 1;
+    }
+    io::print_decimal(STDOUT_FILENO, count);
+    io::write_all(STDOUT_FILENO, b" glyphs\n");
+}
+
+fn write_refusal(number: u8, place: usize) {
+    io::write_all(STDOUT_FILENO, b"refused ");
+    io::print_decimal(STDOUT_FILENO, number as u64);
+    io::write_all(STDOUT_FILENO, b" at ");
+    io::print_decimal(STDOUT_FILENO, place as u64);
+    io::write_all(STDOUT_FILENO, b"\n");
+}
+
+// Reads a tape into the lent buffer, and lists it or says why not.
+fn list(tape: &[u8], galley: &mut [u8]) {
+    let answer = tape::read_tape(tape, galley);
+    match answer {
+        Answer::Refused(number, place) => write_refusal(number, place),
+        Answer::Accepted(length) => write_galley(&galley[..length]),
+    }
+}
+
+fn main() {
+    let mut tape = [0u8; 2049];
+    let n = io::read_full(STDIN_FILENO, &mut tape);
+    if MAX_TAPE < n {
+        io::write_all(STDOUT_FILENO, b"too long\n");
+        return;
+    }
+    // Room for a character for each byte, and End.
+    let mut galley = [0u8; 18439];
+    list(&tape[..n], &mut galley);
+}

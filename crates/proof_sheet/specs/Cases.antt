@@ -1,0 +1,93 @@
+-- Document 01, "Proof sheet": the cases marked P, as one table and one statement.
+-- Assumes nothing.
+use Prim.Native.Nat.{ℕ}
+use mathlib.Core.Path.{_≡_, refl}
+use mathlib.Core.Bool.{Bool}
+use mathlib.Core.List.{List, [], _∷_, map, _++_}
+use lib.IntN.{ℤ, pos, negsuc}
+use lib.ListN.{length, replicate}
+use Rattle.octets.specs.Octets.{numberFrom, twos, signed, bytes, residue, signedBytes, widthOf}
+use Rattle.octets.specs.Field.{field, endField, startsField, startsEnd}
+use Rattle.octets.specs.Answer.{Result, refusal, written, ifRoom}
+use Rattle.measure.specs.Place.{directedBy, placeAt, carriageAt, heightAt}
+use Rattle.measure.specs.Target.{xOf, xTarget}
+use Rattle.galley_file.specs.declared.character.Character.{Character}
+use Rattle.galley_file.specs.Character.{valid, characterBody, characterField, characterAt, isCharacter}
+use Rattle.galley_file.specs.Galley.{Reading, whole, malformed, fields, galley, readEnd, readFields, reading, readGalley}
+use Rattle.tape.specs.Code.{codeOf}
+use Rattle.tape.specs.Machine.{flashOf, escapeOf, leadOf, orderOf, codeEffect, effectOf}
+use Rattle.tape.specs.Tape.{run, readResult, tapeResult}
+
+-- a row of the sheet: what is given, and what comes of it
+pub data Case : Type 0 where
+  -- a tape, and its result with a buffer of 32 bytes
+  tapeCase : List ℕ → Result → Case
+  -- a galley, and the x, height, font number and character of each of its characters
+  galleyCase : List ℕ → Reading → Case
+  -- an x, and its target
+  targetCase : ℤ → ℤ → Case
+  -- a move down, and the bytes of its parameter: 2 for Y2, 3 for Y3
+  downCase : ℤ → ℕ → Case
+
+abbrev placed : ℤ → ℕ → ℕ → ℕ → Character
+placed x height font code = record { x = record { 0 = x }; height = record { 0 = pos height }; font = font; code = code }
+
+abbrev cases : List Case
+cases =
+    -- P1
+    tapeCase [] (refusal 9 0)
+    -- P2
+    ∷ tapeCase (0x40 ∷ 0xEF ∷ 0x49 ∷ []) (written (2 ∷ 0 ∷ 4 ∷ 0 ∷ 0 ∷ 0 ∷ 0 ∷ []))
+    -- P3
+    ∷ tapeCase (0x40 ∷ 0xEF ∷ 0x52 ∷ 0x4E ∷ 0x01 ∷ 0xFC ∷ 0x02 ∷ 0x49 ∷ []) (written p3)
+    ∷ galleyCase p3 (whole (placed (pos 0) 0 2 1 ∷ placed (pos 3) 0 2 2 ∷ []))
+    -- P4
+    ∷ tapeCase (0xEF ∷ []) (refusal 3 0)
+    -- P5
+    ∷ tapeCase (0x40 ∷ 0xF0 ∷ []) (refusal 5 1)
+    -- P6
+    ∷ tapeCase (0x40 ∷ 0xEF ∷ 0x01 ∷ []) (refusal 6 2)
+    -- P7, and with 2D and 49: character 108
+    ∷ tapeCase (0x40 ∷ 0xEF ∷ 0x46 ∷ 0x52 ∷ 0x2E ∷ []) (refusal 8 4)
+    ∷ tapeCase (0x40 ∷ 0xEF ∷ 0x46 ∷ 0x52 ∷ 0x2D ∷ 0x49 ∷ []) (written p7)
+    ∷ galleyCase p7 (whole (placed (pos 0) 0 17 108 ∷ []))
+    -- P8: x is -55, font number 24
+    ∷ tapeCase (0x40 ∷ 0xEF ∷ 0x59 ∷ 0x01 ∷ 0x49 ∷ []) (written p8)
+    ∷ galleyCase p8 (whole (placed (negsuc 54) 0 24 1 ∷ []))
+    -- P9
+    ∷ targetCase (negsuc 54) (negsuc 600746)
+    -- P10
+    ∷ targetCase (pos 3239) (pos 35378517)
+    -- P11
+    ∷ tapeCase (0x40 ∷ 0xEF ∷ 0x48 ∷ 0xFE ∷ []) (refusal 7 3)
+    -- P12
+    ∷ downCase (negsuc 32767) 2
+    ∷ downCase (pos 32768) 3
+    ∷ []
+  where
+    p3 : List ℕ
+    p3 =
+        0x01 ∷ 0x00 ∷ 0x06 ∷ 0x00 ∷ 0x00 ∷ 0x00 ∷ 0x00 ∷ 0x02 ∷ 0x01
+        ∷ 0x01 ∷ 0x00 ∷ 0x06 ∷ 0x00 ∷ 0x03 ∷ 0x00 ∷ 0x00 ∷ 0x02 ∷ 0x02
+        ∷ 0x02 ∷ 0x00 ∷ 0x04 ∷ 0x00 ∷ 0x00 ∷ 0x00 ∷ 0x02 ∷ []
+
+    p7 : List ℕ
+    p7 =
+        0x01 ∷ 0x00 ∷ 0x06 ∷ 0x00 ∷ 0x00 ∷ 0x00 ∷ 0x00 ∷ 0x11 ∷ 0x6C
+        ∷ 0x02 ∷ 0x00 ∷ 0x04 ∷ 0x00 ∷ 0x00 ∷ 0x00 ∷ 0x01 ∷ []
+
+    p8 : List ℕ
+    p8 =
+        0x01 ∷ 0x00 ∷ 0x06 ∷ 0xFF ∷ 0xC9 ∷ 0x00 ∷ 0x00 ∷ 0x18 ∷ 0x01
+        ∷ 0x02 ∷ 0x00 ∷ 0x04 ∷ 0x00 ∷ 0x00 ∷ 0x00 ∷ 0x01 ∷ []
+
+-- a row with what the definitions give in place of what the sheet says
+abbrev given : Case → Case
+given (tapeCase tape r) = tapeCase tape (tapeResult tape 32)
+given (galleyCase g r) = galleyCase g (readGalley g)
+given (targetCase x t) = targetCase x (xTarget x)
+given (downCase m k) = downCase m (widthOf m)
+
+pub sheet : map given cases ≡ cases
+unfolding numberFrom twos signed bytes residue signedBytes widthOf field endField startsField startsEnd ifRoom directedBy placeAt carriageAt heightAt xOf xTarget valid characterBody characterField characterAt isCharacter fields galley readEnd readFields reading readGalley codeOf flashOf escapeOf leadOf orderOf codeEffect effectOf run readResult tapeResult
+sheet = refl
