@@ -96,3 +96,11 @@ pub fn put_signed2(out: &mut [u8], at: usize, z: i32) -> usize
 {
     put_nat2(out, at, to_bits(z))
 }
+
+// Writes z in two's complement, in four bytes.
+pub fn put_signed4(out: &mut [u8], at: usize, z: i32) -> usize
+    requires { ⌜ at + 4 ≤ length (now out) ⌝ }
+    ensures { λ r. ⌜ Wrote (now (out .entry)) at (signedBytes 4 z) (now (out .exit)) r ⌝ }
+{
+    put_nat4(out, at, to_bits(z))
+}
