@@ -1,0 +1,61 @@
+// Directed cases of reading tapes, of the check and of reading back, run and compared. Each dot is a case that came out right; expected
+// answers are worked out by hand from document 01.
+mod compare;
+mod galleys;
+mod limits;
+mod tapes;
+
+use libc::STDOUT_FILENO;
+
+fn line(name: &[u8]) {
+    io::write_all(STDOUT_FILENO, b"\n");
+    io::write_all(STDOUT_FILENO, name);
+    io::write_all(STDOUT_FILENO, b" ");
+}
+
+fn run_tapes() {
+    line(b"at the start");
+    tapes::at_the_start();
+    line(b"around stop");
+    tapes::around_stop();
+    line(b"parked");
+    tapes::parked();
+    line(b"flashes");
+    tapes::flashes();
+    line(b"sizes");
+    tapes::sizes();
+    line(b"fonts");
+    tapes::fonts();
+}
+
+fn run_limits() {
+    line(b"carriage");
+    tapes::carriage();
+    line(b"heights");
+    tapes::heights();
+    limits::heights();
+    line(b"lengths");
+    limits::lengths();
+    line(b"room");
+    tapes::room();
+}
+
+fn run_galleys() {
+    line(b"ends");
+    galleys::ends();
+    line(b"fields");
+    galleys::fields();
+    line(b"places");
+    galleys::places();
+    line(b"values");
+    galleys::values();
+    line(b"read back");
+    galleys::read_back();
+}
+
+fn main() {
+    run_tapes();
+    run_limits();
+    run_galleys();
+    io::write_all(STDOUT_FILENO, b"\n");
+}
