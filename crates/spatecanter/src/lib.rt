@@ -1,0 +1,72 @@
+// The operations for C and Rust callers: each answer goes into an array that the caller lends.
+use galley_file::Found;
+use octets::answer::Answer;
+ghost use mathlib.Core.Path.{_≡_};
+ghost use lib.ListN.{length};
+ghost use Rattle.octets.specs.Answer.{outcomeOf, outcome, after};
+ghost use Rattle.galley_file.specs.Outcome.{checkOutcome, foundOf, outcomeOfFound, readBackOutcome};
+ghost use Rattle.tape.specs.Tape.{tapeResult};
+ghost use Rattle.spatecanter.specs.Numbers.{numbersOf, foundNumbers};
+
+// Number, place and length.
+fn numbers(a: Answer) -> [usize; 3]
+    ensures { λ r. ⌜ r ≡ numbersOf (outcomeOf a) ⌝ }
+{
+    match a {
+        Answer::Accepted(length) => [0, 0, length],
+        Answer::Refused(number, place) => [number as usize, place, 0],
+    }
+}
+
+// Number, place and length of reading back.
+fn found_numbers(f: Found) -> [usize; 3]
+    ensures { λ r. ⌜ r ≡ numbersOf (outcomeOfFound (foundOf f)) ⌝ }
+{
+    match f {
+        Found::Placed(_) => [0, 0, 0],
+        Found::Refused(number, place) => [number as usize, place, 0],
+    }
+}
+
+// X, height, font number and character, all 0 in a refusal.
+fn found_character(f: Found) -> [i32; 4]
+    ensures { λ r. ⌜ r ≡ foundNumbers (foundOf f) ⌝ }
+{
+    match f {
+        Found::Placed(c) => [c.x.0, c.height.0, c.font as i32, c.code as i32],
+        Found::Refused(_, _) => [0, 0, 0, 0],
+    }
+}
+
+// Reads a tape into a galley.
+#[no_mangle]
+pub extern "C" fn sp_read_tape(tape: &[u8], galley: &mut [u8], answer: &mut [usize; 3])
+    ensures { λ _. ⌜ (now (answer .exit) ≡ numbersOf (outcome (tapeResult (now (tape .entry)) (length (now (galley .entry)))))) × (now (galley .exit) ≡ after (now (galley .entry)) (tapeResult (now (tape .entry)) (length (now (galley .entry))))) ⌝ }
+{
+    let a = tape::read_tape(tape, galley);
+    *answer = numbers(a);
+}
+
+// Checks a galley.
+#[no_mangle]
+pub extern "C" fn sp_check_galley(galley: &[u8], answer: &mut [usize; 3])
+    ensures { λ _. ⌜ now (answer .exit) ≡ numbersOf (checkOutcome (now (galley .entry))) ⌝ }
+{
+    let a = galley_file::check_galley(galley);
+    *answer = numbers(a);
+}
+
+// Reads character n of a galley back.
+#[no_mangle]
+pub extern "C" fn sp_read_back(
+    galley: &[u8],
+    n: usize,
+    answer: &mut [usize; 3],
+    character: &mut [i32; 4],
+)
+    ensures { λ _. ⌜ (now (answer .exit) ≡ numbersOf (outcomeOfFound (readBackOutcome (now (galley .entry)) n))) × (now (character .exit) ≡ foundNumbers (readBackOutcome (now (galley .entry)) n)) ⌝ }
+{
+    let f = galley_file::read_back(galley, n);
+    *answer = found_numbers(f);
+    *character = found_character(f);
+}
