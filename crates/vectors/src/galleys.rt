@@ -1,8 +1,8 @@
 // Galleys, by the rules of document 01, "Galley" and "Numbers given back". In each case of a check: the galley, the number and the place of
 // the answer, and the number of characters.
-use crate::compare::check_case;
-use crate::compare::found_case;
-use crate::compare::lost_case;
+use crate::cases::check_case;
+use crate::cases::found_case;
+use crate::cases::lost_case;
 
 pub fn ends() {
     // an empty galley

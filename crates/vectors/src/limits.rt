@@ -1,6 +1,6 @@
 // Tapes at the limits of their length and of the height.
-use crate::compare::start_case;
-use crate::compare::tape_case;
+use crate::cases::start_case;
+use crate::cases::tape_case;
 ghost use mathlib.Core.Path.{_≡_};
 ghost use lib.ListN.{length};
 

@@ -1,17 +1,12 @@
 // Directed cases of reading tapes, of the check and of reading back, run and compared. Each dot is a case that came out right; expected
 // answers are worked out by hand from document 01.
-mod compare;
+mod cases;
 mod galleys;
 mod limits;
 mod tapes;
 
+use compare::line;
 use libc::STDOUT_FILENO;
-
-fn line(name: &[u8]) {
-    io::write_all(STDOUT_FILENO, b"\n");
-    io::write_all(STDOUT_FILENO, name);
-    io::write_all(STDOUT_FILENO, b" ");
-}
 
 fn run_tapes() {
     line(b"at the start");

@@ -1,6 +1,6 @@
 // Tapes, by the rules of document 01, "Tape codes" and "Numbers given back". In each case: the tape, the bytes of the buffer, the number
 // and the place of the answer, and the bytes written.
-use crate::compare::tape_case;
+use crate::cases::tape_case;
 
 pub fn at_the_start() {
     // P1: no stop, at the length

@@ -1,72 +1,12 @@
-// Runs an operation and compares its answer, and every byte of the buffer, with what they should be. A right case writes a dot.
+// The cases: an operation is run and what it gives compared.
+use compare::UNTOUCHED;
+use compare::tell;
 use galley_file::Found;
-use libc::STDOUT_FILENO;
-use octets::answer::Answer;
-
-// The byte that a buffer holds before a call.
-const UNTOUCHED: u8 = 7;
-
-pub fn tell(right: bool) {
-    if right {
-        io::write_all(STDOUT_FILENO, b".");
-    } else {
-        io::write_all(STDOUT_FILENO, b" WRONG ");
-    }
-}
-
-// Whether an answer is this number, place and length.
-fn answered(a: Answer, number: u8, place: usize, length: usize) -> bool {
-    match a {
-        Answer::Accepted(n) => {
-            if number != 0 {
-                return false;
-            }
-            if place != 0 {
-                return false;
-            }
-            n == length
-        }
-        Answer::Refused(k, at) => {
-            if k != number {
-                return false;
-            }
-            if at != place {
-                return false;
-            }
-            length == 0
-        }
-    }
-}
-
-// Whether the buffer holds these bytes and is untouched beyond them.
-fn holds(buffer: &[u8], bytes: &[u8]) -> bool {
-    if buffer.len() < bytes.len() {
-        return false;
-    }
-    let mut i: usize = 0;
-    while i < buffer.len() {
-        if i < bytes.len() {
-            if buffer[i] != bytes[i] {
-                return false;
-            }
-        } else {
-            if buffer[i] != UNTOUCHED {
-                return false;
-            }
-        }
-        i += 1;
-    }
-    true
-}
 
 // Reads a tape into a whole lent buffer.
 fn read_case(tape: &[u8], buffer: &mut [u8], number: u8, place: usize, galley: &[u8]) {
     let a = tape::read_tape(tape, buffer);
-    if answered(a, number, place, galley.len()) {
-        tell(holds(buffer, galley));
-    } else {
-        tell(false);
-    }
+    compare::tell_call(a, buffer, number, place, galley);
 }
 
 // Reads the first bytes of a tape.
@@ -95,7 +35,8 @@ pub fn tape_case(tape: &[u8], room: usize, number: u8, place: usize, galley: &[u
 }
 
 pub fn check_case(galley: &[u8], number: u8, place: usize, count: usize) {
-    tell(answered(galley_file::check_galley(galley), number, place, count));
+    let a = galley_file::check_galley(galley);
+    tell(compare::answered(a, number, place, count));
 }
 
 // Reads back a character that is there.

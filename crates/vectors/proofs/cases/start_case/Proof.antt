@@ -1,10 +1,10 @@
--- `vectors::compare::start_case` meets its contract: the part has the bytes asked for.
+-- `vectors::cases::start_case` meets its contract: the part has the bytes asked for.
 -- Assumes nothing.
 use mathlib.Core.Path.{sym}
 use borrow.Author.Needs.{needs}
 use lib.Seq.{length-take-le}
-use Rattle.vectors.proofs.compare.start_case.Statement.{statement}
-use Rattle.vectors.proofs.compare.start_case.Tie as tie
+use Rattle.vectors.proofs.cases.start_case.Statement.{statement}
+use Rattle.vectors.proofs.cases.start_case.Tie as tie
 
 slice-aggregate-read-case : tie.Need-slice-aggregate-read-case
 slice-aggregate-read-case c = sym (length-take-le _ _ (c .before .if1 .taken))

@@ -1,10 +1,10 @@
--- `vectors::compare::holds` meets its contract: the index stays within the buffer, and what is left of it falls.
+-- `compare::holds` meets its contract: the index stays within the buffer, and what is left of it falls.
 -- Assumes nothing.
 use Prim.Native.Nat.{_-_, _≤_}
 use borrow.Author.Needs.{needs}
 use lib.ListN.{length}
-use Rattle.vectors.proofs.compare.holds.Statement.{statement}
-use Rattle.vectors.proofs.compare.holds.Tie as tie
+use Rattle.compare.proofs.holds.Statement.{statement}
+use Rattle.compare.proofs.holds.Tie as tie
 
 abbrev Inv-loop : tie.InvT-loop
 Inv-loop buffer bytes i₀ i = i ≤ length buffer

@@ -1,10 +1,10 @@
--- `vectors::compare::room_case` meets its contract: the part has the bytes asked for.
+-- `vectors::cases::room_case` meets its contract: the part has the bytes asked for.
 -- Assumes nothing.
 use mathlib.Core.Path.{sym}
 use borrow.Author.Needs.{needs}
 use lib.Seq.{length-take-le}
-use Rattle.vectors.proofs.compare.room_case.Statement.{statement}
-use Rattle.vectors.proofs.compare.room_case.Tie as tie
+use Rattle.vectors.proofs.cases.room_case.Statement.{statement}
+use Rattle.vectors.proofs.cases.room_case.Tie as tie
 
 slice-relend-prefix-read-case : tie.Need-slice-relend-prefix-read-case
 slice-relend-prefix-read-case c = search needs
