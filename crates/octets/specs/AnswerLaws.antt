@@ -5,10 +5,10 @@ use mathlib.Core.Bool.{Bool, true, false, cond}
 use mathlib.Core.List.{List}
 use Prim.Native.Nat.{ℕ, _≤_, _<_}
 use native.Mathlib.Omega.{arith}
-use borrow.Author.Tests.{lt-ltb, le-ltb, ltb-false}
+use borrow.Author.Tests.{lt-ltb, le-ltb, ltb-true, ltb-false}
 use lib.Dec.{ltb}
 use lib.ListN.{length}
-use Rattle.octets.specs.Answer.{accepted, Result, refusal, written, outcome, ifRoom}
+use Rattle.octets.specs.Answer.{accepted, refused, Result, refusal, written, outcome, ifRoom}
 
 module _ (number room : ℕ) where
   pub room-refused : (n place : ℕ) → ifRoom number room (refusal n place) ≡ refusal n place
@@ -22,6 +22,23 @@ module _ (number room : ℕ) where
   pub room-enough : (bs : List ℕ) → length bs ≤ room → ifRoom number room (written bs) ≡ written bs
   unfolding ifRoom
   room-enough bs h = rw (le-ltb _ _ h)
+
+-- the length accepted, and the place of a refusal for room, are the bytes needed
+pub accepted-length : (number room n : ℕ) (bs : List ℕ) → accepted n ≡ outcome (ifRoom number room (written bs)) → n ≡ length bs
+unfolding ifRoom
+accepted-length number room n bs = go (ltb room (length bs))
+  where
+    go : (t : Bool) → accepted n ≡ outcome (cond t (refusal number (length bs)) (written bs)) → n ≡ length bs
+    go true h = let z : _≡_ {A = ℕ} 0 1 = cc in absurd (omega arith)
+    go false h = cc
+
+pub refused-length : (number room k place : ℕ) (bs : List ℕ) → refused k place ≡ outcome (ifRoom number room (written bs)) → (k ≡ number) × ((place ≡ length bs) × (room < length bs))
+unfolding ifRoom
+refused-length number room k place bs = go (ltb room (length bs)) refl
+  where
+    go : (t : Bool) → ltb room (length bs) ≡ t → refused k place ≡ outcome (cond t (refusal number (length bs)) (written bs)) → (k ≡ number) × ((place ≡ length bs) × (room < length bs))
+    go true q h = (cc, (cc, ltb-true room (length bs) q))
+    go false q h = let z : _≡_ {A = ℕ} 0 1 = cc in absurd (omega arith)
 
 -- what is accepted has room
 pub accepted-room : (number room n : ℕ) (r : Result) → accepted n ≡ outcome (ifRoom number room r) → n ≤ room

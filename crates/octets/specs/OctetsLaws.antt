@@ -270,13 +270,16 @@ true-fits32 z f =
     let high : leZ z (pos 2147483647) ≡ true = omega (integers, bounds f) in
     rw (low, high)
 
--- ---- as the code computes: 2 and 4 bytes, and the 32 bits of a number
+-- ---- as the code computes: 1, 2 and 4 bytes, and the 32 bits of a number
+
+pub natAt-one : (at : ℕ) (s : List ℕ) → at + 1 ≤ length s → natAt 1 at s ≡ getD s at 0
+natAt-one at s h =
+    let first : getD s (at + 0) 0 ≡ getD s at 0 = ap (λ (i : ℕ). getD s i 0) (add-zero at) in
+    omega (arith, natAt-more 0 at s (omega arith), natAt-none at s, first)
 
 pub natAt-two : (at : ℕ) (s : List ℕ) → at + 2 ≤ length s → natAt 2 at s ≡ getD s at 0 * 256 + getD s (at + 1) 0
 natAt-two at s h =
-    let first : getD s (at + 0) 0 ≡ getD s at 0 = ap (λ (i : ℕ). getD s i 0) (add-zero at) in
-    let one : natAt 1 at s ≡ getD s at 0 = omega (arith, natAt-more 0 at s (omega arith), natAt-none at s, first) in
-    natAt-more 1 at s (omega arith) ∙ ap (λ (n : ℕ). n * 256 + getD s (at + 1) 0) one
+    natAt-more 1 at s (omega arith) ∙ ap (λ (n : ℕ). n * 256 + getD s (at + 1) 0) (natAt-one at s (omega arith))
 
 pub natAt-four : (at : ℕ) (s : List ℕ) → at + 4 ≤ length s → natAt 4 at s ≡ (natAt 2 at s * 256 + getD s (at + 2) 0) * 256 + getD s (at + 3) 0
 natAt-four at s h =
@@ -295,6 +298,15 @@ unfolding residue
 residue-natural (pos n) f h = sym (mod-eq-of-lt (omega (arith, f .sfits)))
 residue-natural (negsuc n) f h = absurd (h .le)
 
+-- the size of z by which its width goes, as the code computes it
+pub mag-negative : (z : ℤ) → z <ℤ pos 0 → natAbs (negsuc 0 -ℤ z) ≡ mag z
+mag-negative (pos n) h = absurd (omega integers)
+mag-negative (negsuc n) h = let d : negsuc 0 -ℤ negsuc n ≡ pos n = omega (integers, dif-parts (negsuc 0) (negsuc n)) in ap natAbs d
+
+pub mag-natural : (z : ℤ) → pos 0 ≤ℤ z → natAbs z ≡ mag z
+mag-natural (pos n) h = refl
+mag-natural (negsuc n) h = absurd (h .le)
+
 -- sign extension: v below m, shifted to the top of 32 bits and back. What it takes of the numbers m and k, the caller computes.
 pub shifted : (m k v : ℕ) → (v + v < m → (v * k + v * k < 4294967296) × (v * k / k ≡ v))
     → (m ≤ v + v → (4294967296 ≤ v * k + v * k) × ((4294967296 - suc (v * k)) / k ≡ m - suc v)) → shrZ (twos 4294967296 (v * k)) k ≡ twos m v
@@ -309,3 +321,13 @@ shift-right r z k ok e =
     let f : SFits w32 r = record { sfits = ok } in
     let g : SFits w32 (shrZ r k) = record { sfits = omega (arith, mag-shr r k) } in
     ap (λ (y : ℤ). toZ w32 (ofZ w32 (shrZ y k))) (plain f) ∙ plain g ∙ e
+
+-- the number n in k bytes, shifted to the top of 32 bits and back by t
+pub signedAt-shifted : (k t at : ℕ) (s : List ℕ) (n : ℕ) (r : ℤ) → at + k ≤ length s → n ≡ natAt k at s → mag r < 2147483648 → r ≡ twos 4294967296 (n * t)
+    → (n + n < 256 ^ k → (n * t + n * t < 4294967296) × (n * t / t ≡ n))
+    → (256 ^ k ≤ n + n → (4294967296 ≤ n * t + n * t) × ((4294967296 - suc (n * t)) / t ≡ 256 ^ k - suc n))
+    → toZ w32 (ofZ w32 (shrZ (toZ w32 (ofZ w32 r)) t)) ≡ signedAt k at s
+signedAt-shifted k t at s n r h e ok v low high =
+    shift-right r (twos (256 ^ k) n) t ok (ap (λ (z : ℤ). shrZ z t) v ∙ shifted (256 ^ k) t n low high)
+    ∙ ap (twos (256 ^ k)) e
+    ∙ sym (signedAt-twos k at s h)

@@ -44,6 +44,10 @@ then {o₀} {at} {xs} {o₁} {i} {ys} {o₂} {j} w v =
       next-is = omega arith;
     }
 
+-- where n and k more bytes had room, after n bytes there is room for k
+pub room-after : {o₀ : List ℕ} {at : ℕ} {xs o₁ : List ℕ} {next : ℕ} → Wrote o₀ at xs o₁ next → (n k : ℕ) → length xs ≡ n → at + (n + k) ≤ length o₀ → next + k ≤ length o₁
+room-after w n k e h = omega (arith, w .next-is, length-wrote w)
+
 -- the same bytes, named otherwise
 pub named : {o₀ : List ℕ} {at : ℕ} {xs ys o₁ : List ℕ} {i : ℕ} → xs ≡ ys → Wrote o₀ at xs o₁ i → Wrote o₀ at ys o₁ i
 named {o₀} {at} {xs} {ys} {o₁} {i} e w = subst (λ (l : List ℕ). Wrote o₀ at l o₁ i) e w

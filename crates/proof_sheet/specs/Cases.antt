@@ -2,18 +2,20 @@
 -- Assumes nothing.
 use Prim.Native.Nat.{ℕ}
 use mathlib.Core.Path.{_≡_, refl}
-use mathlib.Core.Bool.{Bool}
-use mathlib.Core.List.{List, [], _∷_, map, _++_}
+use mathlib.Core.List.{List, [], _∷_, map}
 use lib.IntN.{ℤ, pos, negsuc}
-use lib.ListN.{length, replicate}
 use Rattle.octets.specs.Octets.{numberFrom, twos, signed, bytes, residue, signedBytes, widthOf}
 use Rattle.octets.specs.Field.{field, endField, startsField, startsEnd}
 use Rattle.octets.specs.Answer.{Result, refusal, written, ifRoom}
 use Rattle.measure.specs.Place.{directedBy, placeAt, carriageAt, heightAt}
-use Rattle.measure.specs.Target.{xOf, xTarget}
+use Rattle.measure.specs.Target.{xOf, xTarget, yTarget}
 use Rattle.galley_file.specs.declared.character.Character.{Character}
 use Rattle.galley_file.specs.Character.{valid, characterBody, characterField, characterAt, isCharacter}
-use Rattle.galley_file.specs.Galley.{Reading, whole, malformed, fields, galley, readEnd, readFields, reading, readGalley}
+use Rattle.galley_file.specs.Galley.{Reading, whole, fields, galley, readEnd, readFields, reading, readGalley}
+use Rattle.integers.specs.Parts.{eqZ, maxZ}
+use Rattle.dvi.specs.Command.{Y4}
+use Rattle.dvi.specs.Writer.{newPen, penAt, fontCommand, fontChange, shortest, move, commandsOf, commands, pageBytes, largest, uses, usedFonts, nameOf, definition, definitionBytes, trailerBytes, postambleBytes, onePage, dviFile}
+use Rattle.dvi_writer.specs.Result.{dviResult}
 use Rattle.tape.specs.Code.{codeOf}
 use Rattle.tape.specs.Machine.{flashOf, escapeOf, leadOf, orderOf, codeEffect, effectOf}
 use Rattle.tape.specs.Tape.{run, readResult, tapeResult}
@@ -26,8 +28,10 @@ pub data Case : Type 0 where
   galleyCase : List ℕ → Reading → Case
   -- an x, and its target
   targetCase : ℤ → ℤ → Case
-  -- a move down, and the bytes of its parameter: 2 for Y2, 3 for Y3
-  downCase : ℤ → ℕ → Case
+  -- a galley, and the result of writing its DVI file into a buffer of 64 bytes
+  fileCase : List ℕ → Result → Case
+  -- a move down, and its command
+  downCase : ℤ → List ℕ → Case
 
 abbrev placed : ℤ → ℕ → ℕ → ℕ → Character
 placed x height font code = record { x = record { 0 = x }; height = record { 0 = pos height }; font = font; code = code }
@@ -41,6 +45,7 @@ cases =
     -- P3
     ∷ tapeCase (0x40 ∷ 0xEF ∷ 0x52 ∷ 0x4E ∷ 0x01 ∷ 0xFC ∷ 0x02 ∷ 0x49 ∷ []) (written p3)
     ∷ galleyCase p3 (whole (placed (pos 0) 0 2 1 ∷ placed (pos 3) 0 2 2 ∷ []))
+    ∷ fileCase p3 (written p3File)
     -- P4
     ∷ tapeCase (0xEF ∷ []) (refusal 3 0)
     -- P5
@@ -60,9 +65,9 @@ cases =
     ∷ targetCase (pos 3239) (pos 35378517)
     -- P11
     ∷ tapeCase (0x40 ∷ 0xEF ∷ 0x48 ∷ 0xFE ∷ []) (refusal 7 3)
-    -- P12
-    ∷ downCase (negsuc 32767) 2
-    ∷ downCase (pos 32768) 3
+    -- P12: Y2 and Y3
+    ∷ downCase (negsuc 32767) (0x94 ∷ 0x80 ∷ 0x00 ∷ [])
+    ∷ downCase (pos 32768) (0x93 ∷ 0x00 ∷ 0x80 ∷ 0x00 ∷ [])
     ∷ []
   where
     p3 : List ℕ
@@ -70,6 +75,13 @@ cases =
         0x01 ∷ 0x00 ∷ 0x06 ∷ 0x00 ∷ 0x00 ∷ 0x00 ∷ 0x00 ∷ 0x02 ∷ 0x01
         ∷ 0x01 ∷ 0x00 ∷ 0x06 ∷ 0x00 ∷ 0x03 ∷ 0x00 ∷ 0x00 ∷ 0x02 ∷ 0x02
         ∷ 0x02 ∷ 0x00 ∷ 0x04 ∷ 0x00 ∷ 0x00 ∷ 0x00 ∷ 0x02 ∷ []
+
+    p3File : List ℕ
+    p3File =
+        0x81 ∷ 0x00 ∷ 0x00 ∷ 0x00 ∷ 0x01 ∷ 0xFF ∷ 0xFF ∷ 0xFF ∷ 0xFF ∷ 0x9C ∷ 0x88 ∷ 0x01 ∷ 0x8F ∷ 0x00 ∷ 0x80 ∷ 0x00 ∷ 0x88 ∷ 0x02 ∷ 0x82
+        ∷ 0x83 ∷ 0x00 ∷ 0x00 ∷ 0x00 ∷ 0x00 ∷ 0x00 ∷ 0x00 ∷ 0x00 ∷ 0x00 ∷ 0x00 ∷ 0x00 ∷ 0x80 ∷ 0x00
+        ∷ 0x00 ∷ 0x00 ∷ 0x00 ∷ 0x02 ∷ 0x00 ∷ 0x00 ∷ 0x00 ∷ 0x02 ∷ 0x22 ∷ 0x43 ∷ 0x31 ∷ 0x31 ∷ 0x30 ∷ 0x22
+        ∷ 0xFF ∷ 0xFF ∷ 0xFF ∷ 0xFF ∷ 0x00 ∷ 0x00 ∷ 0x00 ∷ 0x13 ∷ 0x00 ∷ 0xDF ∷ 0xDF ∷ 0xDF ∷ 0xDF ∷ []
 
     p7 : List ℕ
     p7 =
@@ -86,8 +98,9 @@ abbrev given : Case → Case
 given (tapeCase tape r) = tapeCase tape (tapeResult tape 32)
 given (galleyCase g r) = galleyCase g (readGalley g)
 given (targetCase x t) = targetCase x (xTarget x)
-given (downCase m k) = downCase m (widthOf m)
+given (fileCase g r) = fileCase g (dviResult g 64)
+given (downCase m bs) = downCase m (move Y4 m)
 
 pub sheet : map given cases ≡ cases
-unfolding numberFrom twos signed bytes residue signedBytes widthOf field endField startsField startsEnd ifRoom directedBy placeAt carriageAt heightAt xOf xTarget valid characterBody characterField characterAt isCharacter fields galley readEnd readFields reading readGalley codeOf flashOf escapeOf leadOf orderOf codeEffect effectOf run readResult tapeResult
+unfolding eqZ maxZ numberFrom twos signed bytes residue signedBytes widthOf field endField startsField startsEnd ifRoom directedBy placeAt carriageAt heightAt xOf xTarget yTarget valid characterBody characterField characterAt isCharacter fields galley readEnd readFields reading readGalley codeOf flashOf escapeOf leadOf orderOf codeEffect effectOf run readResult tapeResult newPen penAt fontCommand fontChange shortest move commandsOf commands pageBytes largest uses usedFonts nameOf definition definitionBytes trailerBytes postambleBytes onePage dviFile dviResult
 sheet = refl

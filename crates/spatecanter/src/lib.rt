@@ -6,6 +6,9 @@ ghost use lib.ListN.{length};
 ghost use Rattle.octets.specs.Answer.{outcomeOf, outcome, after};
 ghost use Rattle.galley_file.specs.Outcome.{checkOutcome, foundOf, outcomeOfFound, readBackOutcome};
 ghost use Rattle.tape.specs.Tape.{tapeResult};
+ghost use Rattle.dvi.specs.Sheet.{sheetResult};
+ghost use Rattle.dvi_writer.specs.Result.{dviResult};
+ghost use Rattle.reprint.specs.Reprint.{reprintResult, reprintOutcome, dviAfter, sheetAfter, ReprintedWhenever};
 ghost use Rattle.spatecanter.specs.Numbers.{numbersOf, foundNumbers};
 
 // Number, place and length.
@@ -69,4 +72,37 @@ pub extern "C" fn sp_read_back(
     let f = galley_file::read_back(galley, n);
     *answer = found_numbers(f);
     *character = found_character(f);
+}
+
+// Writes a galley's DVI file.
+#[no_mangle]
+pub extern "C" fn sp_write_dvi(galley: &[u8], dvi: &mut [u8], answer: &mut [usize; 3])
+    ensures { λ _. ⌜ (now (answer .exit) ≡ numbersOf (outcome (dviResult (now (galley .entry)) (length (now (dvi .entry)))))) × (now (dvi .exit) ≡ after (now (dvi .entry)) (dviResult (now (galley .entry)) (length (now (dvi .entry))))) ⌝ }
+{
+    let a = dvi_writer::write_dvi(galley, dvi);
+    *answer = numbers(a);
+}
+
+// Reads a DVI file into a sheet.
+#[no_mangle]
+pub extern "C" fn sp_read_dvi(dvi: &[u8], widths: &[i32], sheet: &mut [u8], answer: &mut [usize; 3])
+    ensures { λ _. ⌜ (now (answer .exit) ≡ numbersOf (outcome (sheetResult (now (dvi .entry)) (now (widths .entry)) (length (now (sheet .entry)))))) × (now (sheet .exit) ≡ after (now (sheet .entry)) (sheetResult (now (dvi .entry)) (now (widths .entry)) (length (now (sheet .entry))))) ⌝ }
+{
+    let a = dvi_reader::read_dvi(dvi, widths, sheet);
+    *answer = numbers(a);
+}
+
+// Writes a galley's DVI file and its sheet, or neither.
+#[no_mangle]
+pub extern "C" fn sp_reprint(
+    galley: &[u8],
+    widths: &[i32],
+    dvi: &mut [u8],
+    sheet: &mut [u8],
+    answer: &mut [usize; 3],
+)
+    ensures { λ _. ⌜ (now (answer .exit) ≡ numbersOf (reprintOutcome (reprintResult (now (galley .entry)) (now (widths .entry)) (length (now (dvi .entry))) (length (now (sheet .entry)))))) × ((now (dvi .exit) ≡ dviAfter (now (dvi .entry)) (reprintResult (now (galley .entry)) (now (widths .entry)) (length (now (dvi .entry))) (length (now (sheet .entry))))) × ((now (sheet .exit) ≡ sheetAfter (now (sheet .entry)) (reprintResult (now (galley .entry)) (now (widths .entry)) (length (now (dvi .entry))) (length (now (sheet .entry))))) × ReprintedWhenever (now (galley .entry)) (now (widths .entry)) (now (dvi .entry)) (now (sheet .entry)) (reprintOutcome (reprintResult (now (galley .entry)) (now (widths .entry)) (length (now (dvi .entry))) (length (now (sheet .entry))))) (now (dvi .exit)) (now (sheet .exit)))) ⌝ }
+{
+    let a = reprint::reprint(galley, widths, dvi, sheet);
+    *answer = numbers(a);
 }

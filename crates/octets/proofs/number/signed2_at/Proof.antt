@@ -1,12 +1,8 @@
 -- `octets::number::signed2_at` meets its contract: shifted to the top of 32 bits and back.
 -- Assumes nothing.
-use mathlib.Core.Path.{sym, ap, _∙_}
 use Prim.Native.Nat.{_<_}
 use native.Mathlib.Omega.{arith}
-use lib.IntN.{ℤ}
-use lib.Signed.{shrZ}
-use Rattle.octets.specs.Octets.{twos}
-use Rattle.octets.specs.OctetsLaws.{shifted, shift-right, signedAt-twos}
+use Rattle.octets.specs.OctetsLaws.{signedAt-shifted}
 use borrow.Author.Needs.{needs}
 use Rattle.octets.proofs.number.signed2_at.Statement.{statement}
 use Rattle.octets.proofs.number.signed2_at.Tie as tie
@@ -25,9 +21,8 @@ returns c =
     let s = c .before .before .before in
     let n = c .before .nat2-at .result in
     let b : n < 65536 = c .before .nat2-at .ensures .1 in
-    shift-right (c .of-bits .result) (twos 65536 n) 65536 (c .of-bits .ok) (ap (λ (z : ℤ). shrZ z 65536) (c .of-bits .ensures) ∙ shifted 65536 65536 n (λ h. (omega arith, omega arith)) (λ h. (omega arith, omega arith)))
-    ∙ ap (twos 65536) (c .before .nat2-at .ensures .0)
-    ∙ sym (signedAt-twos 2 (s .args .at) (s .args .s .now) (s .pre))
+    signedAt-shifted 2 65536 (s .args .at) (s .args .s .now) n (c .of-bits .result) (s .pre) (c .before .nat2-at .ensures .0) (c .of-bits .ok) (c .of-bits .ensures)
+    (λ h. (omega arith, omega arith)) (λ h. (omega arith, omega arith))
 
 pub signed2-at-spec : {M : Type 1} → statement M
 signed2-at-spec = tie.close (tie.spec nat2-at-requires mul-of-bits of-bits-requires returns)

@@ -1,0 +1,238 @@
+-- `dvi_reader::pass` meets its contract. The invariant and its laws are in `Passes`: what the file shows so far (`Standing`), and the
+-- buffer that holds it (`Filled`). The measure is what is left of the file.
+-- Assumes nothing.
+use mathlib.Core.Path.{_≡_, refl, sym, ap, _∙_}
+use mathlib.Core.Bool.{true}
+use mathlib.Core.List.{List, [], _∷_, _++_}
+use Prim.Native.Nat.{ℕ, _+_, _-_, _≤_}
+use native.Mathlib.Omega.{arith}
+use borrow.Author.Needs.{needs}
+use lib.IntN.{ℤ}
+use lib.ListN.{length, length-append}
+use Rattle.dvi.specs.Page.{Mark}
+use Rattle.dvi.specs.File.{goOn}
+use Rattle.dvi.specs.FileLaws.{stepHere}
+use Rattle.dvi.specs.Sheet.{markField, markFields}
+use Rattle.dvi.specs.SheetLaws.{fieldSize, length-markField, fieldSize-most, markFields-more}
+use Rattle.dvi_reader.specs.Page.{markOf}
+use Rattle.dvi_reader.specs.Step.{stateOf, stepOf}
+use Rattle.dvi_reader.specs.declared.step.State.{State}
+use Rattle.dvi_reader.specs.declared.step.Stepped.{Stepped}
+use Rattle.dvi_reader.proofs.Passes.{Standing, standing-start, standing-next, standing-refused, standing-finished, standing-ended, standing-room, Filled, filled-start, filled-still, filled-more, passed-refused, passed-finished}
+use Rattle.dvi_reader.proofs.pass.Statement.{statement}
+use Rattle.dvi_reader.proofs.pass.Tie as tie
+
+abbrev Inv-loop : tie.InvT-loop
+Inv-loop dvi widths out₀ writing stack₀ q₀ at₀ to₀ count₀ out stack q at to count =
+    (ms : List Mark) × (Standing widths dvi stack q at ms × Filled writing out₀ out ms at to count)
+
+abbrev μ-loop : tie.MeasureT-loop
+μ-loop dvi widths out₀ writing stack₀ q₀ at₀ to₀ count₀ out stack q at to count = length dvi - at
+
+-- what one step says of the file
+module _ (c : tie.After-step Inv-loop μ-loop) where
+  abbrev start : tie.Start Inv-loop μ-loop
+  start = c .before .before .before .before .before .before
+
+  abbrev place : ℕ
+  place = c .before .before .before .loop .at
+
+  abbrev marks : List Mark
+  marks = c .before .before .before .loop .inv .0
+
+  abbrev standing : Standing (start .args .widths .now) (start .args .dvi .now) (c .before .before .before .loop .stack) (c .before .before .before .loop .q) place marks
+  standing = c .before .before .before .loop .inv .1 .0
+
+  abbrev filled : Filled (start .args .writing) (start .args .out .now) (c .before .before .before .loop .out) marks place (c .before .before .before .loop .to) (c .before .before .before .loop .count)
+  filled = c .before .before .before .loop .inv .1 .1
+
+  abbrev entries : List ℤ
+  entries = c .step .last .1 .1 .0
+
+  stepped : {r : Stepped} → c .step .result ≡ r
+      → stepHere (start .args .widths .now) (start .args .dvi .now) place (stateOf (c .before .before .before .loop .q) (c .before .before .before .loop .stack)) ≡ stepOf r entries
+  stepped e = sym (c .step .ensures) ∙ ap (λ (r : Stepped). stepOf r entries) e
+
+  abbrev Further : State → List Mark → ℕ → Type 0
+  Further t ms n = Standing (start .args .widths .now) (start .args .dvi .now) entries t (place + 1 + n) (marks ++ ms)
+
+  further : (t : State) (ms : List Mark) (n : ℕ)
+      → stepHere (start .args .widths .now) (start .args .dvi .now) place (stateOf (c .before .before .before .loop .q) (c .before .before .before .loop .stack)) ≡ goOn (stateOf t entries) ms n
+      → Further t ms n
+  further t ms n e = standing-next standing (c .before .before .loop-test .taken) entries t ms n (c .step .kept .1 .1 .0 ∙ standing .whole) e
+
+goes : (c : tie.After-known-told2 Inv-loop μ-loop) → Further (c .before .before .before .before) (c .before .r2 .given .0 .0) [] (c .before .r2 .given .0 .1 .0)
+goes c =
+    let k = c .before .before .before .before in
+    let g = c .before .r2 .given in
+    further k (g .0 .0) [] (g .0 .1 .0) (stepped k (g .1))
+
+showing : (c : tie.After-known-told3 Inv-loop μ-loop) → Further (c .before .before .before .before) (c .before .r3 .given .0 .0) (markOf (c .before .r3 .given .0 .1 .0) ∷ []) (c .before .r3 .given .0 .1 .1 .0)
+showing c =
+    let k = c .before .before .before .before in
+    let g = c .before .r3 .given in
+    further k (g .0 .0) (markOf (g .0 .1 .0) ∷ []) (g .0 .1 .1 .0) (stepped k (g .1))
+
+-- the field of the mark that is shown has room, if writing
+room : (c : tie.After-known-told3 Inv-loop μ-loop) → start (c .before .before .before .before) .args .writing ≡ true
+    → length (markFields (marks (c .before .before .before .before))) + fieldSize (markOf (c .before .r3 .given .0 .1 .0)) + 7 ≤ length (start (c .before .before .before .before) .args .out .now)
+room c w =
+    let k = c .before .before .before .before in
+    let m = markOf (c .before .r3 .given .0 .1 .0) in
+    let r = start k .pre .1 w in
+    omega (
+      arith,
+      standing-room (showing c) (r .accepted),
+      r .enough,
+      ap length (markFields-more (marks k) m),
+      length-append (markFields (marks k)) (markField m),
+      length-markField m,
+    )
+
+loop-holds : tie.Need-loop-holds Inv-loop μ-loop
+loop-holds c =
+    let a = c .before .before .args in
+    ([], (standing-start (a .widths .now) (a .dvi .now) _ refl, filled-start (a .writing) (a .out .now)))
+
+slice-aggregate-step : tie.Need-slice-aggregate-step Inv-loop μ-loop
+slice-aggregate-step c = search needs
+
+step-requires : tie.Need-step-requires Inv-loop μ-loop
+step-requires c κs =
+    let i = c .before .before .loop .inv .1 .0 in
+    (c .before .loop-test .taken, (omega (arith, i .within, c .before .before .before .before .before .pre .0), (i .whole, i .low)))
+
+enum-known-r : tie.Need-enum-known-r Inv-loop μ-loop
+enum-known-r c = search needs
+
+same-length : tie.Need-same-length Inv-loop μ-loop
+same-length c = filled (c .before .before .before .before) .same
+
+returns : tie.Need-returns Inv-loop μ-loop
+returns c =
+    let k = c .before .before .before .before in
+    let g = c .before .r .given in
+    passed-refused (filled k) (start k .pre .1) (standing-refused (standing k) (k .before .before .loop-test .taken) (g .0 .0) (stepped k (g .1)))
+
+enum-known-r-2 : tie.Need-enum-known-r-2 Inv-loop μ-loop
+enum-known-r-2 c = search needs
+
+add-at : tie.Need-add-at Inv-loop μ-loop
+add-at c = record { fits = omega (arith, goes c .within, start (c .before .before .before .before) .pre .0) }
+
+add-at-2 : tie.Need-add-at-2 Inv-loop μ-loop
+add-at-2 c = record { fits = omega (arith, goes c .within, start (c .before .before .before .before) .pre .0) }
+
+loop-less : tie.Need-loop-less Inv-loop μ-loop
+loop-less c = omega (arith, goes c .within, c .before .before .before .before .before .before .loop-test .taken)
+
+loop-again : tie.Need-loop-again Inv-loop μ-loop
+loop-again c = (_, (goes c, filled-still (filled (c .before .before .before .before)) _ (omega arith)))
+
+enum-known-r-3 : tie.Need-enum-known-r-3 Inv-loop μ-loop
+enum-known-r-3 c = search needs
+
+show-mark-requires : tie.Need-show-mark-requires Inv-loop μ-loop
+show-mark-requires c κs w =
+    let p = filled (c .before .before .before .before .before) in
+    omega (arith, room (c .before) w, p .place-is, p .same)
+
+field-size-requires : tie.Need-field-size-requires Inv-loop μ-loop
+field-size-requires c κs = search needs
+
+add-to : tie.Need-add-to Inv-loop μ-loop
+add-to c =
+    let k = c .before .before .before .before .before .before .before .before .before in
+    let m = markOf (c .before .before .before .before .before .before .r3 .given .0 .1 .0) in
+    record { fits = omega (arith, c .field-size .ensures, fieldSize-most m, filled k .near, standing k .within, start k .pre .0) }
+
+add-count : tie.Need-add-count Inv-loop μ-loop
+add-count c =
+    let k = c .before .before .before .before .before .before .before .before .before in
+    record { fits = omega (arith, filled k .few, standing k .within, start k .pre .0) }
+
+add-at-3 : tie.Need-add-at-3 Inv-loop μ-loop
+add-at-3 c =
+    let t = c .before .before .before .before .before in
+    record { fits = omega (arith, showing t .within, start (t .before .before .before .before) .pre .0) }
+
+add-at-4 : tie.Need-add-at-4 Inv-loop μ-loop
+add-at-4 c =
+    let t = c .before .before .before .before .before in
+    record { fits = omega (arith, showing t .within, start (t .before .before .before .before) .pre .0) }
+
+loop-less-2 : tie.Need-loop-less-2 Inv-loop μ-loop
+loop-less-2 c =
+    let t = c .before .before .before .before .before in
+    omega (arith, showing t .within, t .before .before .before .before .before .before .loop-test .taken)
+
+loop-again-2 : tie.Need-loop-again-2 Inv-loop μ-loop
+loop-again-2 c =
+    let t = c .before .before .before .before .before in
+    let p = c .before .before .before .show-mark in
+    (_, (showing t, filled-more (filled (t .before .before .before .before)) _ (c .field-size .result) (markOf (t .before .r3 .given .0 .1 .0)) (omega arith) (c .field-size .ensures) (p .ensures) (p .kept .0)))
+
+enum-told : tie.Need-enum-told Inv-loop μ-loop
+enum-told c = search needs
+
+show-end-requires : tie.Need-show-end-requires Inv-loop μ-loop
+show-end-requires c κs w =
+    let k = c .before .before .before .before in
+    let r = start k .pre .1 w in
+    omega (arith, standing-room (standing k) (r .accepted), r .enough, filled k .place-is, filled k .same)
+
+add-t29 : tie.Need-add-t29 Inv-loop μ-loop
+add-t29 c =
+    let k = c .before .before .before .before .before .before .before in
+    record { fits = omega (arith, filled k .near, standing k .within, start k .pre .0) }
+
+same-length-2 : tie.Need-same-length-2 Inv-loop μ-loop
+same-length-2 c = c .before .before .show-end .kept .0 ∙ filled (c .before .before .before .before .before .before .before) .same
+
+returns-2 : tie.Need-returns-2 Inv-loop μ-loop
+returns-2 c =
+    let k = c .before .before .before .before .before .before .before in
+    let e = standing-finished (standing k) (k .before .before .loop-test .taken) (stepped k (c .before .before .before .before .enum-told .given .1)) in
+    passed-finished (filled k) e (c .before .before .show-end .ensures)
+
+same-length-3 : tie.Need-same-length-3 Inv-loop μ-loop
+same-length-3 c = c .before .loop .inv .1 .1 .same
+
+returns-3 : tie.Need-returns-3 Inv-loop μ-loop
+returns-3 c =
+    let i = c .before .loop .inv in
+    passed-refused (i .1 .1) (c .before .before .before .before .pre .1) (standing-ended (i .1 .0) (c .loop-test .left))
+
+pub pass-spec : {M : Type 1} → statement M
+pass-spec =
+    tie.close
+    (tie.spec
+    Inv-loop
+    μ-loop
+    loop-holds
+    slice-aggregate-step
+    step-requires
+    enum-known-r
+    same-length
+    returns
+    enum-known-r-2
+    add-at
+    add-at-2
+    loop-less
+    loop-again
+    enum-known-r-3
+    show-mark-requires
+    field-size-requires
+    add-to
+    add-count
+    add-at-3
+    add-at-4
+    loop-less-2
+    loop-again-2
+    enum-told
+    show-end-requires
+    add-t29
+    same-length-2
+    returns-2
+    same-length-3
+    returns-3)

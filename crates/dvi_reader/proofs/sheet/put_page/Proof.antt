@@ -1,0 +1,31 @@
+-- `dvi_reader::sheet::put_page` meets its contract: one write after the other.
+-- Assumes nothing.
+use mathlib.Core.Path.{ap}
+use native.Mathlib.Omega.{arith}
+use borrow.Author.Needs.{needs}
+use Rattle.integers.specs.Parts.{plain}
+use Rattle.octets.specs.Octets.{bytes, signedBytes}
+use Rattle.octets.specs.Field.{field}
+use Rattle.octets.specs.Write.{length-wrote, then, named}
+use Rattle.dvi.specs.Sheet.{markField}
+use Rattle.dvi_reader.proofs.sheet.put_page.Statement.{statement}
+use Rattle.dvi_reader.proofs.sheet.put_page.Tie as tie
+
+put-head-requires : tie.Need-put-head-requires
+put-head-requires c κs = search needs
+
+put-signed4-requires : tie.Need-put-signed4-requires
+unfolding bytes
+put-signed4-requires c κs = let w = c .before .before .before .put-head .ensures in omega (arith, w .next-is, length-wrote w)
+
+same-length : tie.Need-same-length
+same-length c = search needs
+
+returns : tie.Need-returns
+unfolding markField field signedBytes bytes
+returns c =
+    let s = c .before .before .before .before .before .before .before .before .before in
+    then (c .before .before .before .before .before .before .put-head .ensures) (named (ap (signedBytes 4) (plain (s .fits .n))) (c .before .before .put-signed4 .ensures))
+
+pub put-page-spec : {M : Type 1} → statement M
+put-page-spec = tie.close (tie.spec put-head-requires put-signed4-requires same-length returns)

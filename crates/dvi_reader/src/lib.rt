@@ -1,0 +1,114 @@
+// DVI files of 1980 (002), read into sheets with a lent table of widths.
+mod command;
+mod page;
+mod postamble;
+mod reach;
+mod sheet;
+mod stack;
+mod step;
+
+use octets::answer;
+use octets::answer::Answer;
+use octets::field;
+use page::Mark;
+use step::State;
+use step::Stepped;
+ghost use mathlib.Core.Path.{_≡_};
+ghost use mathlib.Core.Bool.{true};
+ghost use Prim.Native.Nat.{_+_, _≤_};
+ghost use lib.ListN.{length};
+ghost use Rattle.octets.specs.Answer.{outcomeOf, outcome, after};
+ghost use Rattle.octets.specs.Field.{endField};
+ghost use Rattle.dvi.specs.File.{readDvi};
+ghost use Rattle.dvi.specs.Sheet.{maxDvi, markField, sheetResult};
+ghost use Rattle.dvi.specs.SheetLaws.{fieldSize};
+ghost use Rattle.dvi_reader.specs.Page.{markOf};
+ghost use Rattle.dvi_reader.specs.Pass.{putIf, Roomy, Passed};
+
+pub const MAX_DVI: usize = 33_554_432;
+
+// What a pass finds: the bytes that the sheet needs, or a refusal at a place.
+pub enum Reading {
+    Needs(usize),
+    Fault(u8, usize),
+}
+
+// Writes a mark's field, if writing.
+fn show_mark(out: &mut [u8], to: usize, m: Mark, writing: bool)
+    requires { ⌜ (writing ≡ true → to + fieldSize (markOf m) ≤ length (now out)) ⌝ }
+    ensures { λ _. ⌜ now (out .exit) ≡ putIf writing (now (out .entry)) to (markField (markOf m)) ⌝ }
+{
+    if writing {
+        sheet::put_mark(out, to, m);
+    }
+}
+
+// Writes End, if writing.
+fn show_end(out: &mut [u8], to: usize, count: u32, writing: bool)
+    requires { ⌜ (writing ≡ true → to + 7 ≤ length (now out)) ⌝ }
+    ensures { λ _. ⌜ now (out .exit) ≡ putIf writing (now (out .entry)) to (endField count) ⌝ }
+{
+    if writing {
+        field::put_end(out, to, count);
+    }
+}
+
+// One pass over a file within the limit. It writes the sheet, if writing.
+fn pass(dvi: &[u8], widths: &[i32], out: &mut [u8], writing: bool) -> Reading
+    requires { ⌜ length (now dvi) ≤ maxDvi ⌝ }
+    requires { ⌜ (writing ≡ true → Roomy (readDvi (now widths) (now dvi)) (length (now out))) ⌝ }
+    ensures { λ r. ⌜ Passed (readDvi (now (widths .entry)) (now (dvi .entry))) writing (now (out .entry)) r (now (out .exit)) ⌝ }
+{
+    let mut stack = [0i32; 1200];
+    let mut q = State::Between(-1);
+    let mut at: usize = 0;
+    let mut to: usize = 0;
+    let mut count: u32 = 0;
+    while at < dvi.len() {
+        let r = step::step(dvi, widths, &mut stack, at, q);
+        match r {
+            Stepped::Refuse(k) => {
+                return Reading::Fault(k, at);
+            }
+            Stepped::Go(t, n) => {
+                q = t;
+                at = at + 1 + n;
+            }
+            Stepped::Show(t, m, n) => {
+                show_mark(out, to, m, writing);
+                to = to + sheet::field_size(m);
+                count = count + 1;
+                q = t;
+                at = at + 1 + n;
+            }
+            Stepped::Finish => {
+                show_end(out, to, count, writing);
+                return Reading::Needs(to + field::END_FIELD);
+            }
+        }
+    }
+    Reading::Fault(answer::DVI_ENDS_EARLY, at)
+}
+
+// Reads a DVI file into the lent sheet buffer.
+pub fn read_dvi(dvi: &[u8], widths: &[i32], sheet: &mut [u8]) -> Answer
+    ensures { λ r. ⌜ (outcomeOf r ≡ outcome (sheetResult (now (dvi .entry)) (now (widths .entry)) (length (now (sheet .entry))))) × (now (sheet .exit) ≡ after (now (sheet .entry)) (sheetResult (now (dvi .entry)) (now (widths .entry)) (length (now (sheet .entry))))) ⌝ }
+{
+    if MAX_DVI < dvi.len() {
+        return Answer::Refused(answer::DVI_TOO_LONG, 0);
+    }
+    if widths.len() % page::FONT_CHARS != 0 {
+        return Answer::Refused(answer::WIDTHS_NOT_WHOLE, 0);
+    }
+    let found = pass(dvi, widths, sheet, false);
+    match found {
+        Reading::Needs(needed) => {
+            if sheet.len() < needed {
+                return Answer::Refused(answer::NO_SHEET_ROOM, needed);
+            }
+            pass(dvi, widths, sheet, true);
+            Answer::Accepted(needed)
+        }
+        Reading::Fault(n, place) => Answer::Refused(n, place),
+    }
+}

@@ -1,0 +1,6 @@
+mod Pens
+mod Moves
+mod Galleys
+mod Passes
+mod Postambles
+mod Results

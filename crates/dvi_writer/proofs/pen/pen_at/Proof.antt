@@ -1,0 +1,18 @@
+-- `dvi_writer::pen::pen_at` meets its contract: a valid place has targets.
+-- Assumes nothing.
+use mathlib.Core.Path.{refl}
+use Rattle.dvi_writer.proofs.Pens.{x-between, y-between, pen-made}
+use Rattle.dvi_writer.proofs.pen.pen_at.Statement.{statement}
+use Rattle.dvi_writer.proofs.pen.pen_at.Tie as tie
+
+target-requires : tie.Need-target-requires
+target-requires c κs = x-between (c .args .c) (c .pre)
+
+target-requires-2 : tie.Need-target-requires-2
+target-requires-2 c κs = y-between (c .before .args .c) (c .before .pre)
+
+returns : tie.Need-returns
+returns c = pen-made (c .before .before .args .c) (c .before .before .pre) _ refl (c .before .target .ensures) (c .target2 .ensures)
+
+pub pen-at-spec : {M : Type 1} → statement M
+pen-at-spec = tie.close (tie.spec target-requires target-requires-2 returns)

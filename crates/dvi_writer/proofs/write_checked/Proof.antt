@@ -1,0 +1,67 @@
+-- `dvi_writer::write_checked` meets its contract: the extents give the length of the file, and the room decides.
+-- Assumes nothing.
+use mathlib.Core.Path.{_≡_, sym, ap}
+use Prim.Native.Nat.{_+_, _*_, _≤_}
+use native.Mathlib.Omega.{arith}
+use borrow.Author.Needs.{needs}
+use lib.ListN.{length}
+use Rattle.octets.specs.Answer.{outcome, after}
+use Rattle.dvi.specs.Writer.{newPen, dviFile}
+use Rattle.dvi.specs.WriterLaws.{commands-most}
+use Rattle.dvi_writer.specs.Result.{charactersOf}
+use Rattle.dvi_writer.proofs.Galleys.{counted, few}
+use Rattle.dvi_writer.proofs.Results.{file-length, no-room, with-room}
+use Rattle.dvi_writer.proofs.write_checked.Statement.{statement}
+use Rattle.dvi_writer.proofs.write_checked.Tie as tie
+
+small : (c : tie.After-extents-of) → c .extents-of .result .length ≤ 17825792
+small c =
+    let s = c .before .before .before in
+    omega (arith, c .extents-of .ensures .length-is, commands-most newPen (charactersOf (s .args .g .now)), counted _ _ (s .pre), few _ _ (s .pre))
+
+needed-is : (c : tie.After-count) → 36 + c .before .before .extents-of .result .length + 14 * c .count .result ≡ length (dviFile (charactersOf (c .before .before .before .before .before .args .g .now)))
+needed-is c = omega (arith, c .count .ensures .0, file-length _ _ (c .before .before .extents-of .ensures))
+
+extents-of-requires : tie.Need-extents-of-requires
+extents-of-requires c κs = search needs
+
+add-needed : tie.Need-add-needed
+add-needed c = omega (arith, small (c .before))
+
+count-requires : tie.Need-count-requires
+count-requires c κs = search needs
+
+mul-needed : tie.Need-mul-needed
+mul-needed c = search needs
+
+add-needed-2 : tie.Need-add-needed-2
+add-needed-2 c = omega (arith, small (c .before .before), c .count .ensures .1)
+
+returns : tie.Need-returns
+returns c =
+    let a = c .before .before .before .before .before .before .args in
+    let q = no-room (a .g .now) (a .out .now) _ (needed-is (c .before)) (c .if1 .taken) in
+    (sym (ap outcome q), sym (ap (after (a .out .now)) q))
+
+put-file-requires : tie.Need-put-file-requires
+put-file-requires c κs = (c .before .before .before .before .before .before .before .pre, (c .before .before .before .before .extents-of .ensures, omega (arith, needed-is (c .before .before), c .before .if1 .left)))
+
+same-length : tie.Need-same-length
+same-length c = search needs
+
+returns-2 : tie.Need-returns-2
+returns-2 c = with-room _ _ _ (needed-is (c .before .before .before .before .before)) (c .before .before .before .before .if1 .left) _ (c .before .before .put-file .ensures)
+
+pub write-checked-spec : {M : Type 1} → statement M
+write-checked-spec =
+    tie.close
+    (tie.spec
+    extents-of-requires
+    add-needed
+    count-requires
+    mul-needed
+    add-needed-2
+    returns
+    put-file-requires
+    same-length
+    returns-2)

@@ -1,0 +1,56 @@
+// The writer of DVI files (document 01, "DVI (002)"): a galley's characters become one page and a postamble.
+mod extents;
+mod fonts;
+mod page;
+mod pen;
+mod postamble;
+
+use extents::Extents;
+use octets::answer;
+use octets::answer::Answer;
+ghost use mathlib.Core.Path.{_≡_};
+ghost use Prim.Native.Nat.{_≤_};
+ghost use lib.ListN.{length};
+ghost use lib.Seq.{sets};
+ghost use Rattle.octets.specs.Answer.{accepted, outcomeOf, outcome, after};
+ghost use Rattle.galley_file.specs.Outcome.{checkOutcome};
+ghost use Rattle.dvi.specs.Writer.{dviFile};
+ghost use Rattle.dvi_writer.specs.Result.{charactersOf, checkedResult, dviResult};
+ghost use Rattle.dvi_writer.specs.Extents.{ExtentsAre};
+
+// The bytes of a file without commands of characters and without definitions.
+const FRAME: usize = page::FRAME + postamble::FRAME;
+
+// Writes the file of a checked galley, for which there is room: page 1, with no page before it, and the postamble.
+fn put_file(g: &[u8], count: usize, e: Extents, out: &mut [u8])
+    requires { ⌜ (accepted count ≡ checkOutcome (now g)) × (ExtentsAre e (charactersOf (now g)) × (length (dviFile (charactersOf (now g))) ≤ length (now out))) ⌝ }
+    ensures { λ _. ⌜ now (out .exit) ≡ sets (now (out .entry)) 0 (dviFile (charactersOf (now (g .entry)))) ⌝ }
+{
+    let pst = page::put_page(g, count, out, 0, 1, -1);
+    postamble::put_postamble(out, pst, 0, e);
+}
+
+// Writes the file of a checked galley, if there is room.
+fn write_checked(g: &[u8], count: usize, out: &mut [u8]) -> Answer
+    requires { ⌜ accepted count ≡ checkOutcome (now g) ⌝ }
+    ensures { λ r. ⌜ (outcomeOf r ≡ outcome (checkedResult (now (g .entry)) (length (now (out .entry))))) × (now (out .exit) ≡ after (now (out .entry)) (checkedResult (now (g .entry)) (length (now (out .entry))))) ⌝ }
+{
+    let e = extents::extents_of(g, count);
+    let needed = FRAME + e.length + postamble::DEFINITION * fonts::count(e.fonts);
+    if out.len() < needed {
+        return Answer::Refused(answer::NO_DVI_ROOM, needed);
+    }
+    put_file(g, count, e, out);
+    Answer::Accepted(needed)
+}
+
+// Writes the DVI file of a galley into the lent buffer.
+pub fn write_dvi(galley: &[u8], dvi: &mut [u8]) -> Answer
+    ensures { λ r. ⌜ (outcomeOf r ≡ outcome (dviResult (now (galley .entry)) (length (now (dvi .entry))))) × (now (dvi .exit) ≡ after (now (dvi .entry)) (dviResult (now (galley .entry)) (length (now (dvi .entry))))) ⌝ }
+{
+    let checked = galley_file::check_galley(galley);
+    match checked {
+        Answer::Refused(number, place) => Answer::Refused(number, place),
+        Answer::Accepted(count) => write_checked(galley, count, dvi),
+    }
+}

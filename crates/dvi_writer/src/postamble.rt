@@ -1,0 +1,108 @@
+// The postamble: the last BOP's offset, height and width, the font definitions, the trailer.
+use crate::extents::Extents;
+use crate::fonts;
+use crate::fonts::Fonts;
+use galley_file::font;
+use measure::Rsu;
+use octets::number;
+ghost use Prim.Native.Nat.{_+_, _≤_, _<_};
+ghost use lib.ListN.{length};
+ghost use Rattle.octets.specs.Write.{Wrote};
+ghost use Rattle.dvi.specs.FontMarks.{markedFonts};
+ghost use Rattle.dvi.specs.Writer.{nameOf, definition, definitionBytes, trailerBytes};
+ghost use Rattle.dvi_writer.specs.Postamble.{markedFont, headBytes, postambleOf};
+
+// The bytes of a postamble without definitions.
+pub const FRAME: usize = 26;
+
+// The bytes of a definition.
+pub const DEFINITION: usize = 14;
+
+const FONTS: u8 = 120;
+
+const PST: u8 = 131;
+
+// Four bytes 223 end the file.
+const FOUR_223: u32 = 3_755_991_007;
+
+// Writes PST, the last BOP's offset, and the largest Y and X.
+fn put_head(out: &mut [u8], at: usize, last: u32, y: Rsu, x: Rsu) -> usize
+    requires { ⌜ at + 13 ≤ length (now out) ⌝ }
+    ensures { λ r. ⌜ Wrote (now (out .entry)) at (headBytes last (y .0) (x .0)) (now (out .exit)) r ⌝ }
+{
+    let mut to = number::put_byte(out, at, PST);
+    to = number::put_nat4(out, to, last);
+    to = number::put_signed4(out, to, y.0);
+    number::put_signed4(out, to, x.0)
+}
+
+// Writes a font's name: C, the font digit, the point size in two digits.
+fn put_name(out: &mut [u8], at: usize, f: u8) -> usize
+    requires { ⌜ (at + 4 ≤ length (now out)) × (f < 120) ⌝ }
+    ensures { λ r. ⌜ Wrote (now (out .entry)) at (nameOf f) (now (out .exit)) r ⌝ }
+{
+    let size = font::point_size(f);
+    let mut to = number::put_byte(out, at, b'C');
+    to = number::put_byte(out, to, b'0' + font::font_of(f));
+    to = number::put_byte(out, to, b'0' + size / 10);
+    number::put_byte(out, to, b'0' + size % 10)
+}
+
+// Writes the definition of font f: ID and number, and the name in quotes.
+fn put_definition(out: &mut [u8], at: usize, f: u8) -> usize
+    requires { ⌜ (at + 14 ≤ length (now out)) × (f < 120) ⌝ }
+    ensures { λ r. ⌜ Wrote (now (out .entry)) at (definition f) (now (out .exit)) r ⌝ }
+{
+    let mut to = number::put_nat4(out, at, f as u32);
+    to = number::put_nat4(out, to, f as u32);
+    to = number::put_byte(out, to, b'"');
+    to = put_name(out, to, f);
+    number::put_byte(out, to, b'"')
+}
+
+// Writes the definition of font f, if it is among the fonts.
+fn put_marked(out: &mut [u8], at: usize, fonts: Fonts, f: u8) -> usize
+    requires { ⌜ (at + length (definitionBytes (markedFont (fonts .low) (fonts .high) f)) ≤ length (now out)) × (f < 120) ⌝ }
+    ensures { λ r. ⌜ Wrote (now (out .entry)) at (definitionBytes (markedFont (fonts .low) (fonts .high) f)) (now (out .exit)) r ⌝ }
+{
+    if fonts::has_font(fonts, f) {
+        put_definition(out, at, f)
+    } else {
+        at
+    }
+}
+
+// Writes the definitions of the fonts, ascending.
+fn put_definitions(out: &mut [u8], at: usize, fonts: Fonts) -> usize
+    requires { ⌜ at + length (definitionBytes (markedFonts 120 (fonts .low) (fonts .high))) ≤ length (now out) ⌝ }
+    ensures { λ r. ⌜ Wrote (now (out .entry)) at (definitionBytes (markedFonts 120 (fonts .low) (fonts .high))) (now (out .exit)) r ⌝ }
+{
+    let mut to = at;
+    let mut f: u8 = 0;
+    while f < FONTS {
+        to = put_marked(out, to, fonts, f);
+        f += 1;
+    }
+    to
+}
+
+// Writes the trailer: -1, PST's offset, a zero byte, four bytes 223.
+fn put_trailer(out: &mut [u8], at: usize, pst: u32) -> usize
+    requires { ⌜ at + 13 ≤ length (now out) ⌝ }
+    ensures { λ r. ⌜ Wrote (now (out .entry)) at (trailerBytes pst) (now (out .exit)) r ⌝ }
+{
+    let mut to = number::put_signed4(out, at, -1);
+    to = number::put_nat4(out, to, pst);
+    to = number::put_byte(out, to, 0);
+    number::put_nat4(out, to, FOUR_223)
+}
+
+// Writes the postamble of a file with these extents, and with its last BOP at `last`.
+pub fn put_postamble(out: &mut [u8], at: usize, last: u32, e: Extents) -> usize
+    requires { ⌜ (at + length (postambleOf last at e) ≤ length (now out)) × (at < 4294967296) ⌝ }
+    ensures { λ r. ⌜ Wrote (now (out .entry)) at (postambleOf last at e) (now (out .exit)) r ⌝ }
+{
+    let mut to = put_head(out, at, last, e.y, e.x);
+    to = put_definitions(out, to, e.fonts);
+    put_trailer(out, to, at as u32)
+}

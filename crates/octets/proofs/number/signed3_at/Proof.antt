@@ -1,0 +1,28 @@
+-- `octets::number::signed3_at` meets its contract: shifted to the top of 32 bits and back.
+-- Assumes nothing.
+use Prim.Native.Nat.{_<_}
+use native.Mathlib.Omega.{arith}
+use Rattle.octets.specs.OctetsLaws.{signedAt-shifted}
+use borrow.Author.Needs.{needs}
+use Rattle.octets.proofs.number.signed3_at.Statement.{statement}
+use Rattle.octets.proofs.number.signed3_at.Tie as tie
+
+nat3-at-requires : tie.Need-nat3-at-requires
+nat3-at-requires c κs = search needs
+
+mul-of-bits : tie.Need-mul-of-bits
+mul-of-bits c = search needs
+
+of-bits-requires : tie.Need-of-bits-requires
+of-bits-requires c κs = search needs
+
+returns : tie.Need-returns
+returns c =
+    let s = c .before .before .before in
+    let n = c .before .nat3-at .result in
+    let b : n < 16777216 = c .before .nat3-at .ensures .1 in
+    signedAt-shifted 3 256 (s .args .at) (s .args .s .now) n (c .of-bits .result) (s .pre) (c .before .nat3-at .ensures .0) (c .of-bits .ok) (c .of-bits .ensures)
+    (λ h. (omega arith, omega arith)) (λ h. (omega arith, omega arith))
+
+pub signed3-at-spec : {M : Type 1} → statement M
+signed3-at-spec = tie.close (tie.spec nat3-at-requires mul-of-bits of-bits-requires returns)

@@ -1,0 +1,114 @@
+-- What the calls of the writer and of the reader tell of a reprint.
+-- Assumes nothing.
+use mathlib.Core.Path.{_≡_, refl, sym, ap, _∙_}
+use mathlib.Core.List.{List, _++_}
+use Prim.Native.Nat.{ℕ, _+_, _*_, _%_, _≤_, _<_}
+use native.Mathlib.Omega.{arith}
+use lib.IntN.{ℤ}
+use lib.ListN.{length, take, drop}
+use lib.Seq.{take-at}
+use Rattle.octets.specs.Octets.{Bytes}
+use Rattle.octets.specs.Answer.{Outcome, accepted, refused, Result, refusal, written, outcome, after, ifRoom, noDviRoom, noSheetRoom}
+use Rattle.octets.specs.AnswerLaws.{room-short, room-enough, accepted-length, refused-length, accepted-room}
+use Rattle.galley_file.specs.Galley.{Reading, readGalley}
+use Rattle.galley_file.specs.Outcome.{checkOutcome}
+use Rattle.dvi.specs.Page.{fontChars}
+use Rattle.dvi.specs.Sheet.{sheetResult}
+use Rattle.dvi.specs.Writer.{dviFile}
+use Rattle.dvi_writer.specs.Result.{charactersIn, charactersOf, dviResult}
+use Rattle.reprint.specs.Reprint.{Reprint, stopped, reprinted, reprintResult, reprintOutcome, dviAfter, sheetAfter, ReprintedWhenever}
+use Rattle.reprint.specs.ReprintLaws.{reprints, found, file, file-written, shownSheet, sheet-size, sheet-written, both-written}
+
+-- a refusal's outcome, and both buffers as they were
+pub refuses : {r : Reprint} {number place : ℕ} (dvi out : List ℕ) → r ≡ stopped number place
+    → (refused number place ≡ reprintOutcome r) × ((dvi ≡ dviAfter dvi r) × (out ≡ sheetAfter out r))
+refuses dvi out q = (sym (ap reprintOutcome q), (sym (ap (dviAfter dvi) q), sym (ap (sheetAfter out) q)))
+
+module _ (g : List ℕ) (count : ℕ) (b : Bytes g) (e : checkOutcome g ≡ accepted count) where
+  pub same-file : file g count b e ≡ dviFile (charactersOf g)
+  unfolding charactersOf
+  same-file = ap dviFile (sym (ap charactersIn (found g count b e .read)))
+
+  -- the writer's answers name the file's length
+  pub accepted-file : (room n : ℕ) → accepted n ≡ outcome (dviResult g room) → n ≡ length (file g count b e)
+  accepted-file room n q = accepted-length noDviRoom room n (file g count b e) (q ∙ ap outcome (file-written g count b e room))
+
+  pub refused-file : (room number place : ℕ) → refused number place ≡ outcome (dviResult g room) → (number ≡ noDviRoom) × ((place ≡ length (file g count b e)) × (room < length (file g count b e)))
+  refused-file room number place q = refused-length noDviRoom room number place (file g count b e) (q ∙ ap outcome (file-written g count b e room))
+
+  -- a buffer that is too short for the file
+  pub refused-writing : (dvi out : List ℕ) (number place : ℕ) {dvi′ : List ℕ} {r : Reprint} → refused number place ≡ outcome (dviResult g (length dvi)) → dvi′ ≡ after dvi (dviResult g (length dvi))
+      → r ≡ stopped noDviRoom (length (file g count b e)) → (refused number place ≡ reprintOutcome r) × ((dvi′ ≡ dviAfter dvi r) × (out ≡ sheetAfter out r))
+  refused-writing dvi out number place q d k =
+      let f = refused-file (length dvi) number place q in
+      let kept = d ∙ ap (after dvi) (file-written g count b e (length dvi) ∙ room-short noDviRoom (length dvi) (file g count b e) (f .1 .1)) in
+      let x = refuses dvi out k in
+      ((λ i. refused (f .0 i) (f .1 .0 i)) ∙ x .0, (kept ∙ x .1 .0, x .1 .1))
+
+  -- what the writer has written
+  module _ (dvi : List ℕ) (n : ℕ) (q : accepted n ≡ outcome (dviResult g (length dvi))) where
+    pub file-fits : length (file g count b e) ≤ length dvi
+    file-fits =
+        let l = accepted-file (length dvi) n q in
+        let h = accepted-room noDviRoom (length dvi) n (written (file g count b e)) (q ∙ ap outcome (file-written g count b e (length dvi))) in
+        omega arith
+
+    pub after-writing : after dvi (dviResult g (length dvi)) ≡ file g count b e ++ drop (length (file g count b e)) dvi
+    after-writing = ap (after dvi) (file-written g count b e (length dvi) ∙ room-enough noDviRoom (length dvi) (file g count b e) file-fits)
+
+    pub written-part : (later : List ℕ) → later ≡ after dvi (dviResult g (length dvi)) → take n later ≡ file g count b e
+    written-part later k =
+        ap (take n) (k ∙ after-writing)
+        ∙ take-at (file g count b e) (drop (length (file g count b e)) dvi) n (sym (accepted-file (length dvi) n q))
+
+    -- and what the reader then gives
+    module _ (widths : List ℤ) (w : length widths % fontChars ≡ 0) (out : List ℕ) (s : 16 * count + 14 ≤ length out) where
+      whole-reprint : reprintResult g widths (length dvi) (length out) ≡ reprinted (file g count b e) (shownSheet g count b e widths w)
+      whole-reprint = both-written g count b e widths w (length dvi) (length out) file-fits s
+
+      pub reads : (part : List ℕ) → part ≡ file g count b e → sheetResult part widths (length out) ≡ written (shownSheet g count b e widths w)
+      reads part k =
+          ap (λ (d : List ℕ). sheetResult d widths (length out)) k
+          ∙ sheet-written g count b e widths w (length out)
+          ∙ room-enough noSheetRoom (length out) (shownSheet g count b e widths w) (omega (arith, sheet-size g count b e widths w))
+
+      pub completes : (o : Outcome) (dvi′ out′ part : List ℕ) → part ≡ file g count b e → dvi′ ≡ after dvi (dviResult g (length dvi))
+          → o ≡ outcome (sheetResult part widths (length out)) → out′ ≡ after out (sheetResult part widths (length out))
+          → (o ≡ reprintOutcome (reprintResult g widths (length dvi) (length out)))
+          × ((dvi′ ≡ dviAfter dvi (reprintResult g widths (length dvi) (length out))) × (out′ ≡ sheetAfter out (reprintResult g widths (length dvi) (length out))))
+      completes o dvi′ out′ part k d x y = (
+        x ∙ ap outcome (reads part k) ∙ sym (ap reprintOutcome whole-reprint),
+        (d ∙ after-writing ∙ sym (ap (dviAfter dvi) whole-reprint), y ∙ ap (after out) (reads part k) ∙ sym (ap (sheetAfter out) whole-reprint)),
+      )
+
+-- what a call gives is the reprint, and so demand 3 holds of it
+pub claims : (g : List ℕ) (widths : List ℤ) (dvi out : List ℕ) → Bytes g → (o : Outcome) (dvi′ out′ : List ℕ)
+    → (o ≡ reprintOutcome (reprintResult g widths (length dvi) (length out)))
+    × ((dvi′ ≡ dviAfter dvi (reprintResult g widths (length dvi) (length out))) × (out′ ≡ sheetAfter out (reprintResult g widths (length dvi) (length out))))
+    → (o ≡ reprintOutcome (reprintResult g widths (length dvi) (length out)))
+    × ((dvi′ ≡ dviAfter dvi (reprintResult g widths (length dvi) (length out)))
+    × ((out′ ≡ sheetAfter out (reprintResult g widths (length dvi) (length out))) × ReprintedWhenever g widths dvi out o dvi′ out′))
+claims g widths dvi out b o dvi′ out′ e = (
+  e .0,
+  (
+    e .1 .0,
+    (
+      e .1 .1,
+      λ count cs c r w f s.
+          let x = reprints g widths dvi out b (reprintResult g widths (length dvi) (length out)) refl count cs c r w f s in
+          record {
+            characters = x .characters;
+            galley-is = x .galley-is;
+            valid = x .valid;
+            writer-accepts = x .writer-accepts;
+            file-is = e .1 .0 ∙ x .file-is;
+            marks = x .marks;
+            shown = x .shown;
+            all-shown = x .all-shown;
+            reader-accepts = x .reader-accepts;
+            sheet-is = e .1 .1 ∙ x .sheet-is;
+            outcome-is = e .0 ∙ x .outcome-is;
+          },
+    ),
+  ),
+)

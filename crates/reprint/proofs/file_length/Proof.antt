@@ -1,0 +1,53 @@
+-- `reprint::file_length` meets its contract: accepted or refused, the writer names the file's length.
+-- Assumes nothing.
+use mathlib.Core.Path.{sym, ap, _∙_}
+use borrow.Author.Needs.{needs}
+use lib.ListN.{length}
+use Rattle.octets.specs.Octets.{Bytes}
+use Rattle.octets.specs.Answer.{outcomeOf}
+use Rattle.reprint.proofs.Calls.{same-file, accepted-file, refused-file}
+use Rattle.reprint.proofs.file_length.Statement.{statement}
+use Rattle.reprint.proofs.file_length.Tie as tie
+
+slice-aggregate-write-dvi : tie.Need-slice-aggregate-write-dvi
+slice-aggregate-write-dvi c = search needs
+
+write-dvi-requires : tie.Need-write-dvi-requires
+write-dvi-requires c κs = search needs
+
+enum-known-written : tie.Need-enum-known-written
+enum-known-written c = search needs
+
+enum-known-written-2 : tie.Need-enum-known-written-2
+enum-known-written-2 c = search needs
+
+returns : tie.Need-returns
+returns c =
+    let s = c .before .before .before .before .before .before .before in
+    let a = s .args in
+    let g = a .galley .now in
+    let k : Bytes g = λ i. c .before .before .before .before .before .before .shared-slice-known .given i .fits in
+    let e = sym (s .pre) in
+    let q = sym (ap outcomeOf (c .before .written .given .1)) ∙ c .before .before .before .before .write-dvi .ensures .0 in
+    refused-file g (a .count) k e 1 _ _ q .1 .0 ∙ ap length (same-file g (a .count) k e)
+
+returns-2 : tie.Need-returns-2
+returns-2 c =
+    let s = c .before .before .before .before .before .before .before in
+    let a = s .args in
+    let g = a .galley .now in
+    let k : Bytes g = λ i. c .before .before .before .before .before .before .shared-slice-known .given i .fits in
+    let e = sym (s .pre) in
+    let q = sym (ap outcomeOf (c .before .written2 .given .1)) ∙ c .before .before .before .before .write-dvi .ensures .0 in
+    accepted-file g (a .count) k e 1 _ q ∙ ap length (same-file g (a .count) k e)
+
+pub file-length-spec : {M : Type 1} → statement M
+file-length-spec =
+    tie.close
+    (tie.spec
+    slice-aggregate-write-dvi
+    write-dvi-requires
+    enum-known-written
+    enum-known-written-2
+    returns
+    returns-2)

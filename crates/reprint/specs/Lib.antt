@@ -1,0 +1,2 @@
+pub mod Reprint
+pub mod ReprintLaws

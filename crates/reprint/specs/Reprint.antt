@@ -1,0 +1,101 @@
+-- A galley made into a DVI file, and the file into a sheet, in one call; and demand 3 (document 01) from the galley's bytes to the sheet's.
+--     Reprint            the file and the sheet, or a refusal
+--     reprintResult      of any galley, table of widths, and two buffers of so many bytes
+--     reprintOutcome     its outcome: the length is the sheet's
+--     dviAfter           the buffer of the file after it
+--     sheetAfter         the buffer of the sheet after it
+--     Reprinted          demand 3, clause by clause
+--     ReprintedWhenever  demand 3 of a call
+--     Distinguished      two galleys, and what is shown of them
+use Prim.Native.Nat.{ℕ, _+_, _*_, _%_, _≤_}
+use mathlib.Core.Bool.{cond}
+use mathlib.Core.List.{List, _∷_, _++_}
+use mathlib.Core.Logic.{_↔_}
+use mathlib.Core.Path.{_≡_}
+use lib.Dec.{ltb, eqb}
+use lib.IntN.{ℤ, pos}
+use lib.ListN.{length, drop}
+use Rattle.octets.specs.Answer.{Outcome, accepted, refused, Result, refusal, written, ifRoom, galleyTooLong, galleyMalformed, widthsNotWhole, noDviRoom}
+use Rattle.galley_file.specs.declared.character.Character.{Character}
+use Rattle.galley_file.specs.Galley.{maxGalley, AllValid, galley, Reading, whole, malformed, readGalley}
+use Rattle.galley_file.specs.Outcome.{checkOutcome}
+use Rattle.dvi.specs.Page.{fontChars, Mark, pageMark}
+use Rattle.dvi.specs.File.{shows, readDvi}
+use Rattle.dvi.specs.Sheet.{sheet, sheetResult}
+use Rattle.dvi.specs.Writer.{dviFile}
+use Rattle.dvi.specs.Demand3.{ShowsAll, Compared}
+use Rattle.dvi_writer.specs.Result.{dviResult}
+
+pub data Reprint : Type 0 where
+  stopped : ℕ → ℕ → Reprint  -- a refusal's number and place
+  reprinted : List ℕ → List ℕ → Reprint  -- the file and the sheet
+
+-- the reader's result for the file
+abbrev pub sheetOf : List ℕ → Result → Reprint
+sheetOf file (refusal number place) = stopped number place
+sheetOf file (written bs) = reprinted file bs
+
+-- the writer's result, and then the reader's
+abbrev pub fileOf : List ℤ → ℕ → Result → Reprint
+fileOf widths room (refusal number place) = stopped number place
+fileOf widths room (written file) = sheetOf file (sheetResult file widths room)
+
+-- 41, then 31, then 42, then 30
+abbrev pub reprintRead : List ℤ → ℕ → ℕ → Reading → Reprint
+reprintRead widths dviRoom sheetRoom (malformed place) = stopped galleyMalformed place
+reprintRead widths dviRoom sheetRoom (whole cs) =
+    cond (eqb (length widths % fontChars) 0) (fileOf widths sheetRoom (ifRoom noDviRoom dviRoom (written (dviFile cs)))) (stopped widthsNotWhole 0)
+
+-- 40 first
+unfoldable pub reprintResult : List ℕ → List ℤ → ℕ → ℕ → Reprint
+reprintResult g widths dviRoom sheetRoom =
+    cond (ltb maxGalley (length g)) (stopped galleyTooLong 0) (reprintRead widths dviRoom sheetRoom (readGalley g))
+
+abbrev pub reprintOutcome : Reprint → Outcome
+reprintOutcome (stopped number place) = refused number place
+reprintOutcome (reprinted file bs) = accepted (length bs)
+
+-- a refusal changes neither buffer
+abbrev pub dviAfter : List ℕ → Reprint → List ℕ
+dviAfter buffer (stopped number place) = buffer
+dviAfter buffer (reprinted file bs) = file ++ drop (length file) buffer
+
+abbrev pub sheetAfter : List ℕ → Reprint → List ℕ
+sheetAfter buffer (stopped number place) = buffer
+sheetAfter buffer (reprinted file bs) = bs ++ drop (length bs) buffer
+
+-- ---- demand 3
+
+-- of a galley g and a table of widths, with the two buffers before the call, its outcome and the two buffers after it
+pub record Reprinted (g : List ℕ) (widths : List ℤ) (dvi out : List ℕ) (o : Outcome) (dvi′ out′ : List ℕ) : Type 0 where
+  -- "every valid galley": the characters that its bytes encode
+  pub characters : List Character
+  pub galley-is : g ≡ galley characters
+  pub valid : AllValid characters
+  -- "The writer accepts the galley"
+  pub writer-accepts : dviResult g (length dvi) ≡ written (dviFile characters)
+  -- "the DVI file is the bytes it wrote, .. without the buffer beyond them"
+  pub file-is : dvi′ ≡ dviFile characters ++ drop (length (dviFile characters)) dvi
+  -- "It shows page 1 and no rule"
+  pub marks : List Mark
+  pub shown : readDvi widths (dviFile characters) ≡ shows (pageMark (pos 1) ∷ marks)
+  -- "For each character of the galley, in order, and for nothing else": its font, its y, and the three cases of x
+  pub all-shown : ShowsAll characters marks
+  -- our reader accepts that file
+  pub reader-accepts : sheetResult (dviFile characters) widths (length out) ≡ written (sheet (pageMark (pos 1) ∷ marks))
+  -- "The sheet is the page field, then these characters' fields in that order, then end, byte for byte"
+  pub sheet-is : out′ ≡ sheet (pageMark (pos 1) ∷ marks) ++ drop (length (sheet (pageMark (pos 1) ∷ marks))) out
+  pub outcome-is : o ≡ accepted (16 * length characters + 14)
+
+-- for every galley that the check accepts, every table of whole fonts, and buffers with room
+abbrev pub ReprintedWhenever : List ℕ → List ℤ → List ℕ → List ℕ → Outcome → List ℕ → List ℕ → Type 0
+ReprintedWhenever g widths dvi out o dvi′ out′ =
+    (count : ℕ) (cs : List Character) → checkOutcome g ≡ accepted count → readGalley g ≡ whole cs → length widths % fontChars ≡ 0 → length (dviFile cs) ≤ length dvi
+    → 16 * count + 14 ≤ length out → Reprinted g widths dvi out o dvi′ out′
+
+-- two galleys that the check accepts, of the characters cs and ds, and the marks that their files show
+pub record Distinguished (g h : List ℕ) (cs ds : List Character) (ms ns : List Mark) : Type 0 where
+  -- the same file exactly where the galleys are equal
+  pub same-file : (dviFile cs ≡ dviFile ds) ↔ (g ≡ h)
+  -- "equal fonts where the font numbers are equal, and equal places where x and height are equal, at each character"
+  pub compared : Compared cs ds ms ns
