@@ -10,7 +10,7 @@ use lib.IntN.{ℤ, negsuc}
 use lib.ListN.{length, getD, drop, length-append, length-drop}
 use lib.Seq.{sets}
 use Rattle.octets.specs.Field.{endField}
-use Rattle.octets.specs.Write.{sets-append}
+use Rattle.octets.specs.Write.{putIf, sets-append}
 use Rattle.octets.specs.Answer.{dviEndsEarly}
 use Rattle.dvi.specs.Page.{maxStack, Mark}
 use Rattle.dvi.specs.File as F
@@ -20,7 +20,7 @@ use Rattle.dvi.specs.Sheet.{markField, markFields, sheet}
 use Rattle.dvi.specs.SheetLaws.{fieldSize, length-markField, fieldSize-most, markFields-append, markFields-more, length-sheet}
 use Rattle.dvi_reader.specs.Stack.{stackSize}
 use Rattle.dvi_reader.specs.Step.{stateOf, depthOf}
-use Rattle.dvi_reader.specs.Pass.{putIf, readingOf, accepts, marksOf, Roomy, Passed}
+use Rattle.dvi_reader.specs.Pass.{readingOf, accepts, marksOf, Roomy, Passed}
 use Rattle.dvi_reader.specs.declared.Reading.the-variants.{Needs, Fault}
 use Rattle.dvi_reader.specs.declared.step.State.{State}
 use Rattle.dvi_reader.specs.declared.step.State.the-variants.{Between, Inside}

@@ -4,17 +4,12 @@ use mathlib.Core.Bool.{Bool, true, false}
 use mathlib.Core.List.{List, []}
 use Prim.Native.Nat.{ℕ, _≤_}
 use lib.ListN.{length}
-use lib.Seq.{sets}
+use Rattle.octets.specs.Write.{putIf}
 use Rattle.dvi.specs.Page.{Mark}
 use Rattle.dvi.specs.File.{Shown, refusedAt, shows}
 use Rattle.dvi.specs.Sheet.{sheet}
 use Rattle.dvi_reader.specs.declared.Reading.{Reading}
 use Rattle.dvi_reader.specs.declared.Reading.the-variants.{Needs, Fault}
-
--- a buffer with bytes written at a place, if writing
-abbrev pub putIf : Bool → List ℕ → ℕ → List ℕ → List ℕ
-putIf true out at bs = sets out at bs
-putIf false out at bs = out
 
 -- the bytes that the sheet of what a file shows takes, or its refusal
 abbrev pub readingOf : Shown → Reading

@@ -23,7 +23,8 @@ ghost use Rattle.dvi.specs.File.{readDvi};
 ghost use Rattle.dvi.specs.Sheet.{maxDvi, markField, sheetResult};
 ghost use Rattle.dvi.specs.SheetLaws.{fieldSize};
 ghost use Rattle.dvi_reader.specs.Page.{markOf};
-ghost use Rattle.dvi_reader.specs.Pass.{putIf, Roomy, Passed};
+ghost use Rattle.octets.specs.Write.{putIf};
+ghost use Rattle.dvi_reader.specs.Pass.{Roomy, Passed};
 
 pub const MAX_DVI: usize = 33_554_432;
 

@@ -1,6 +1,7 @@
 -- Bytes written into a buffer, one run after another.
 -- Assumes nothing.
 use mathlib.Core.Path.{_≡_, refl, sym, ap, subst, _∙_}
+use mathlib.Core.Bool.{Bool, true, false}
 use mathlib.Core.List.{List, [], _∷_, _++_}
 use Prim.Native.Nat.{ℕ, suc, _+_, _≤_}
 use native.Mathlib.Nat.{add-zero, add-suc, suc-add, zero-add}
@@ -12,6 +13,11 @@ use lib.Seq.{sets, sets-eq, length-sets}
 pub record Wrote (o₀ : List ℕ) (at : ℕ) (xs o₁ : List ℕ) (next : ℕ) : Type 0 where
   pub buffer-is : o₁ ≡ sets o₀ at xs
   pub next-is : next ≡ at + length xs
+
+-- a buffer with bytes written at a place, if writing
+abbrev pub putIf : Bool → List ℕ → ℕ → List ℕ → List ℕ
+putIf true out at bs = sets out at bs
+putIf false out at bs = out
 
 pub sets-append : (l : List ℕ) (i : ℕ) (xs ys : List ℕ) → sets l i (xs ++ ys) ≡ sets (sets l i xs) (i + length xs) ys
 sets-append l i [] ys = ap (λ (j : ℕ). sets l j ys) (sym (add-zero i))

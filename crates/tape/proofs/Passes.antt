@@ -9,7 +9,7 @@ use native.Mathlib.Nat.{add-zero, zero-add}
 use native.Mathlib.Omega.{arith}
 use lib.ListN.{length, take, drop, getD, length-take, length-append}
 use lib.Seq.{sets, take-all, length-take-le}
-use Rattle.octets.specs.Write.{sets-append}
+use Rattle.octets.specs.Write.{putIf, sets-append}
 use Rattle.galley_file.specs.declared.character.Character.{Character}
 use Rattle.galley_file.specs.Character.{characterField}
 use Rattle.galley_file.specs.Galley.{fields}
@@ -22,7 +22,7 @@ use Rattle.tape.specs.Tape.{maxTape, Run, run}
 use Rattle.tape.specs.RunLaws.{soFar, run-length, run-moved, run-flashed, run-refused, run-room}
 use Rattle.tape.specs.Sound.{Sound}
 use Rattle.tape.specs.SoundLaws.{stays-sound}
-use Rattle.tape.specs.Pass.{putIf, putNth, Passed}
+use Rattle.tape.specs.Pass.{putNth, Passed}
 
 pub record Going (s₀ : State) (at : ℕ) (tape first : List ℕ) (w : Bool) (out : List ℕ) (s : State) (count i : ℕ) : Type 0 where
   pub inside : i ≤ length tape

@@ -1,20 +1,15 @@
 -- What the contracts of the passes cite; nothing here is part of what a call promises.
 use mathlib.Core.Path.{_≡_}
-use mathlib.Core.Bool.{Bool, true, false}
+use mathlib.Core.Bool.{Bool}
 use mathlib.Core.List.{List}
 use Prim.Native.Nat.{ℕ, _*_, _≤_}
 use lib.ListN.{length}
-use lib.Seq.{sets}
+use Rattle.octets.specs.Write.{putIf}
 use Rattle.galley_file.specs.declared.character.Character.{Character}
 use Rattle.galley_file.specs.Character.{characterField}
 use Rattle.galley_file.specs.Galley.{fields}
 use Rattle.tape.specs.declared.Reading.{Reading}
 use Rattle.tape.specs.Tape.{maxTape, Run}
-
--- a buffer with bytes written at a place, if writing
-abbrev pub putIf : Bool → List ℕ → ℕ → List ℕ → List ℕ
-putIf true out at bs = sets out at bs
-putIf false out at bs = out
 
 abbrev pub putNth : Bool → ℕ → Character → List ℕ → List ℕ
 putNth w n c out = putIf w out (9 * n) (characterField c)

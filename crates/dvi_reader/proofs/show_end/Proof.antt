@@ -3,8 +3,8 @@
 use mathlib.Core.Path.{sym, ap, _∙_}
 use mathlib.Core.Bool.{Bool}
 use borrow.Author.Needs.{needs}
+use Rattle.octets.specs.Write.{putIf}
 use Rattle.octets.specs.Field.{endField}
-use Rattle.dvi_reader.specs.Pass.{putIf}
 use Rattle.dvi_reader.proofs.show_end.Statement.{statement}
 use Rattle.dvi_reader.proofs.show_end.Tie as tie
 

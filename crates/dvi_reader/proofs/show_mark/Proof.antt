@@ -3,9 +3,9 @@
 use mathlib.Core.Path.{sym, ap, _∙_}
 use mathlib.Core.Bool.{Bool}
 use borrow.Author.Needs.{needs}
+use Rattle.octets.specs.Write.{putIf}
 use Rattle.dvi.specs.Sheet.{markField}
 use Rattle.dvi_reader.specs.Page.{markOf}
-use Rattle.dvi_reader.specs.Pass.{putIf}
 use Rattle.dvi_reader.proofs.show_mark.Statement.{statement}
 use Rattle.dvi_reader.proofs.show_mark.Tie as tie
 

@@ -1,0 +1,23 @@
+//! The operations written by hand for speed, to measure the library against.
+//!
+//! Each does what the library does: one pass for the outcome and the room, one that writes. An answer
+//! is number, place, length.
+
+mod galley;
+mod reader;
+mod tape;
+mod writer;
+
+pub use galley::{check_galley, read_back};
+pub use reader::read_dvi;
+pub use tape::read_tape;
+pub use writer::{reprint, write_dvi};
+
+/// The answer of an accepted call that wrote so many bytes.
+fn accepted(length: usize) -> [usize; 3] {
+    [0, 0, length]
+}
+
+fn refused((number, place): (usize, usize)) -> [usize; 3] {
+    [number, place, 0]
+}

@@ -1,0 +1,308 @@
+//! A tape to a galley. What a code does stands in tables, so that the loops take any mix of codes without a
+//! branch that is hard to foresee.
+
+use super::{accepted, refused};
+
+pub fn read_tape(tape: &[u8], galley: &mut [u8]) -> [usize; 3] {
+    if tape.len() > 1_048_576 {
+        return refused((1, 0));
+    }
+    match scan(tape) {
+        Err(refusal) => refused(refusal),
+        Ok(codes) => {
+            let needed = 9 * codes.count + 7;
+            if galley.len() < needed {
+                return refused((12, needed));
+            }
+            write(&tape[codes.start..codes.stop], &mut galley[..needed], codes.count);
+            accepted(needed)
+        }
+    }
+}
+
+/// The machine's modes in one word: size index and font less 1 in the low seven bits, then these.
+const DOUBLE: u32 = 1 << 7;
+const SIZED: u32 = 1 << 8;
+const LOWER_HALF: u32 = 1 << 9;
+const UNPARKED: u32 = 1 << 10;
+const ESCAPE_BACKWARD: u32 = 1 << 11;
+const LEAD_BACKWARD: u32 = 1 << 12;
+/// Never set: codes that need it take the slow way.
+const NEVER: u32 = 1 << 13;
+
+const TILT_DOWN: u32 = 1 << 4;
+const UPPER_RAIL: u32 = 2 << 4;
+const UPPER_MAG: u32 = 4 << 4;
+const SIZE: u32 = 15 | DOUBLE | SIZED;
+
+/// What a code does to the modes, and which modes it needs.
+#[derive(Clone, Copy)]
+struct Effect {
+    keep: u32,
+    set: u32,
+    need: u32,
+}
+
+static EFFECTS: [Effect; 256] = {
+    let mut effects = [Effect { keep: !0, set: 0, need: 0 }; 256];
+    let mut code = 0;
+    while code < 256 {
+        effects[code] = effect(code as u8);
+        code += 1;
+    }
+    effects
+};
+
+const fn effect(code: u8) -> Effect {
+    match code {
+        0x01..=0x2D => needs(UNPARKED | SIZED),
+        0x2E..=0x3F => needs(UNPARKED | SIZED | LOWER_HALF),
+        0x40 => Effect { keep: SIZE, set: LOWER_HALF | TILT_DOWN, need: 0 },
+        0x41 => clears(UPPER_RAIL),
+        0x42 => sets(UPPER_RAIL),
+        0x43 => sets(UPPER_MAG),
+        0x44 => clears(UPPER_MAG),
+        0x45 => sets(LOWER_HALF),
+        0x46 => clears(LOWER_HALF),
+        0x47 => clears(ESCAPE_BACKWARD),
+        0x48 => sets(ESCAPE_BACKWARD),
+        0x4A => clears(LEAD_BACKWARD),
+        0x4C => sets(LEAD_BACKWARD),
+        0x4E => clears(TILT_DOWN),
+        0x4F => sets(TILT_DOWN),
+        0x50..=0x58 => Effect { keep: !SIZE, set: (code & 15) as u32 | SIZED, need: 0 },
+        0x59..=0x5E => Effect { keep: !SIZE, set: (code & 15) as u32 | SIZED | DOUBLE, need: 0 },
+        0x80..=0xFE => needs(UNPARKED),
+        0x49 | 0x4B | 0x4D | 0x5F | 0xFF => needs(NEVER),
+        0x00 | 0x60..=0x7F => needs(0),
+    }
+}
+
+const fn needs(need: u32) -> Effect {
+    Effect { keep: !0, set: 0, need }
+}
+
+const fn sets(set: u32) -> Effect {
+    Effect { keep: !0, set, need: 0 }
+}
+
+const fn clears(cleared: u32) -> Effect {
+    Effect { keep: !cleared, set: 0, need: 0 }
+}
+
+/// Height and carriage in one word: what a quantum and a unit count in it.
+#[derive(Clone, Copy)]
+struct Packing {
+    quantum: i64,
+    unit: i64,
+}
+
+impl Packing {
+    const fn word(self, height: i64, carriage: i64) -> u64 {
+        (height * self.quantum + carriage * self.unit) as u64
+    }
+
+    /// How each code moves, by the two directions.
+    const fn steps(self) -> [[u64; 256]; 4] {
+        let mut steps = [[0; 256]; 4];
+        let mut code = 0x60;
+        while code < 0xFF {
+            let mut directions = 0;
+            while directions < 4 {
+                let (height, carriage) = motion(code as i64, directions);
+                steps[directions][code] = self.word(height, carriage);
+                directions += 1;
+            }
+            code += 1;
+        }
+        steps
+    }
+}
+
+const fn motion(code: i64, directions: usize) -> (i64, i64) {
+    let escape_sign = if directions & 1 == 0 { 1 } else { -1 };
+    let lead_sign = if directions & 2 == 0 { 1 } else { -1 };
+    if code < 0x80 {
+        (lead_sign * (0x7F - code), 0)
+    } else {
+        (0, escape_sign * (0xFF - code))
+    }
+}
+
+/// The first pass has 32 bits for each, to see them leave their ranges.
+const WIDE: Packing = Packing { quantum: 1 << 32, unit: 1 };
+static WIDE_STEPS: [[u64; 256]; 4] = WIDE.steps();
+
+/// The second pass has them where they stand in a field's first eight bytes.
+const FIELD: Packing = Packing { quantum: 1 << 8, unit: 1 << 24 };
+static FIELD_STEPS: [[u64; 256]; 4] = FIELD.steps();
+
+/// Added to a place, these make the top bit of a half that is beyond its range 1.
+const BEYOND: u64 = WIDE.word((1 << 31) - 65_536, (1 << 31) - 3_240);
+const TOPS: u64 = 1 << 63 | 1 << 31;
+
+#[derive(Clone, Copy)]
+struct Machine {
+    modes: u32,
+    place: u64,
+}
+
+impl Machine {
+    /// The machine after its first initialize.
+    fn new() -> Machine {
+        Machine { modes: LOWER_HALF | TILT_DOWN, place: 0 }
+    }
+
+    /// Takes codes as long as they need no second look: how many, and how many flashes among them.
+    #[inline(never)]
+    fn take_common(&mut self, codes: &[u8]) -> (usize, usize) {
+        let Machine { mut modes, mut place } = *self;
+        let mut count = 0;
+        let mut taken = codes.len();
+        for (index, &code) in codes.iter().enumerate() {
+            let effect = &EFFECTS[usize::from(code)];
+            let after = place.wrapping_add(WIDE_STEPS[(modes >> 11 & 3) as usize][usize::from(code)]);
+            let lacking = effect.need & !modes;
+            let beyond = (after | after.wrapping_add(BEYOND)) & TOPS;
+            if u64::from(lacking) | beyond != 0 {
+                taken = index;
+                break;
+            }
+            place = after;
+            modes = modes & effect.keep | effect.set;
+            count += usize::from(is_flash(code));
+        }
+        *self = Machine { modes, place };
+        (taken, count)
+    }
+
+    /// Off the left switch, to 0.
+    fn leave_switch(&mut self) {
+        self.modes |= UNPARKED;
+        self.place &= !0xFFFF_FFFF;
+    }
+
+    /// Why a code is not taken; nothing for the escape off the switch.
+    #[cold]
+    fn refusal(&self, code: u8) -> Option<usize> {
+        let parked = self.modes & UNPARKED == 0;
+        match code {
+            0x4B | 0x4D | 0x5F | 0xFF => Some(2),
+            0xEF if parked && self.modes & ESCAPE_BACKWARD == 0 => None,
+            0x01..=0x3F | 0x80..=0xFE if parked => Some(5),
+            0x01..=0x3F if self.modes & SIZED == 0 => Some(6),
+            0x01..=0x3F => Some(8),
+            _ => Some(7),
+        }
+    }
+}
+
+/// The codes between the first initialize and stop, and their number of flashes.
+struct Codes {
+    start: usize,
+    stop: usize,
+    count: usize,
+}
+
+fn scan(tape: &[u8]) -> Result<Codes, (usize, usize)> {
+    let start = match tape.iter().position(|&code| code != 0) {
+        None => return Err((9, tape.len())),
+        Some(first) if tape[first] == 0x40 => first + 1,
+        Some(first) => return Err((other_code(tape[first], 3), first)),
+    };
+    let (stop, count) = run(tape, start)?;
+    match tape[stop + 1..].iter().position(|&code| code != 0) {
+        None => Ok(Codes { start, stop, count }),
+        Some(further) => Err((other_code(tape[stop + 1 + further], 4), stop + 1 + further)),
+    }
+}
+
+/// 2 for an illegal code, else the number given.
+fn other_code(code: u8, number: usize) -> usize {
+    match code {
+        0x4B | 0x4D | 0x5F | 0xFF => 2,
+        _ => number,
+    }
+}
+
+/// Runs the machine up to stop: its place, and the number of flashes.
+fn run(tape: &[u8], start: usize) -> Result<(usize, usize), (usize, usize)> {
+    let mut machine = Machine::new();
+    let (mut index, mut count) = (start, 0);
+    loop {
+        let (codes, flashes) = machine.take_common(&tape[index..]);
+        index += codes;
+        count += flashes;
+        match tape.get(index) {
+            None => return Err((9, index)),
+            Some(0x49) => return Ok((index, count)),
+            Some(&code) => match machine.refusal(code) {
+                Some(number) => return Err((number, index)),
+                None => machine.leave_switch(),
+            },
+        }
+        index += 1;
+    }
+}
+
+#[inline(always)]
+fn is_flash(code: u8) -> bool {
+    code.wrapping_sub(1) < 63
+}
+
+/// Writes the galley of codes that are known to be good. Every code but a mode stores a field; only a flash
+/// moves on.
+#[inline(never)]
+fn write(codes: &[u8], galley: &mut [u8], count: usize) {
+    let (fields, end) = galley.split_at_mut(9 * count);
+    let last = codes.iter().rposition(|&code| is_flash(code));
+    let mut modes = LOWER_HALF | TILT_DOWN;
+    let mut body = BODY_PARKED;
+    let mut setting = Setting::of(modes);
+    let mut at = 0;
+    for &code in &codes[..last.map_or(0, |last| last + 1)] {
+        if code & 0xE0 == 0x40 {
+            let effect = &EFFECTS[usize::from(code)];
+            modes = modes & effect.keep | effect.set;
+            setting = Setting::of(modes);
+            if code == 0x40 {
+                body = (body & BODY_HEIGHT).wrapping_add(BODY_PARKED);
+            }
+            continue;
+        }
+        let field = &mut fields[at..at + 9];
+        let word = body.wrapping_add(setting.shift_and_font) & BODY | 0x01_0006 << 40;
+        field[..8].copy_from_slice(&word.to_be_bytes());
+        field[8] = code.wrapping_add(setting.half);
+        at += 9 * usize::from(is_flash(code));
+        body = body.wrapping_add(setting.steps[usize::from(code)]);
+    }
+    end[..3].copy_from_slice(&[2, 0, 4]);
+    end[3..].copy_from_slice(&(count as u32).to_be_bytes());
+}
+
+/// A field's x, height and font number in its first eight bytes, and the height alone.
+const BODY: u64 = 0xFF_FFFF_FFFF;
+const BODY_HEIGHT: u64 = 0xFF_FF00;
+/// Parked: the escape of 16 leads to 0.
+const BODY_PARKED: u64 = FIELD.word(0, -16);
+
+/// What the modes do to the fields.
+struct Setting {
+    shift_and_font: u64,
+    half: u8,
+    steps: &'static [u64; 256],
+}
+
+impl Setting {
+    #[inline(always)]
+    fn of(modes: u32) -> Setting {
+        let shift = 55 * i64::from(modes >> 7 & 1);
+        let font_number = (modes & 127) - (modes >> 4 & 7);
+        Setting {
+            shift_and_font: FIELD.word(0, -shift).wrapping_add(font_number.into()),
+            half: 63 & ((modes >> 9 & 1) as u8).wrapping_sub(1),
+            steps: &FIELD_STEPS[(modes >> 11 & 3) as usize],
+        }
+    }
+}

@@ -1,0 +1,220 @@
+//! The speed of each operation, as markdown: the library, the quick version and a copy of the input, in one
+//! run. `cargo bench` prints it.
+
+mod quick;
+
+use spatecanter::sample::{book, book_widths, yearbook};
+use spatecanter::{DVI_LIMIT, GALLEY_LIMIT, TAPE_LIMIT};
+use std::hint::black_box;
+use std::time::{Duration, Instant};
+
+const SEED: u64 = 1980;
+const SMALLEST: usize = 64 * 1024;
+/// Each contender has at least this much time, and this many turns.
+const TIME: Duration = Duration::from_secs(1);
+const TURNS: usize = 7;
+
+fn main() {
+    print_conditions();
+    print_operations();
+    print_growth();
+}
+
+fn print_conditions() {
+    println!("Processor: {}. One core.", processor());
+    println!();
+    println!(
+        "Each number is the best of at least {TURNS} turns, in which the library, the quick version (written \
+         by hand for speed, two passes like the library's) and a copy of the input's bytes take turns. \
+         Buffers are long enough, written once before the first turn, and not cleared between turns. MB/s \
+         are millions of bytes of input a second. A ratio is time over time: below 1 the library is faster."
+    );
+    println!();
+}
+
+fn processor() -> String {
+    let text = std::fs::read_to_string("/proc/cpuinfo").unwrap_or_default();
+    let line = text.lines().find(|line| line.starts_with("model name"));
+    line.and_then(|line| line.split(": ").nth(1)).unwrap_or("unknown").into()
+}
+
+fn print_operations() {
+    println!("| operation | input | bytes | library MB/s | quick MB/s | copy MB/s | to quick | to copy |");
+    println!("|---|---|--:|--:|--:|--:|--:|--:|");
+    let tape = yearbook(SEED, TAPE_LIMIT);
+    print_row("read a tape", "yearbook", &tape, &mut read_tape(&tape));
+    let galley = galley_of_length(&tape, GALLEY_LIMIT);
+    print_row("check a galley", "yearbook", &galley, &mut check_galley(&galley));
+    print_row("read back the last character", "yearbook", &galley, &mut read_back(&galley));
+    print_row("write a DVI file", "yearbook", &galley, &mut write_dvi(&galley));
+    print_row("reprint", "yearbook", &galley, &mut reprint(&galley));
+    let written = spatecanter::write_dvi(&galley).unwrap();
+    print_row("read a DVI file", "yearbook, as written", &written, &mut read_dvi(&written, vec![]));
+    let dvi = book(SEED, DVI_LIMIT);
+    print_row("read a DVI file", "book with pushes and rules", &dvi, &mut read_dvi(&dvi, book_widths(SEED)));
+    println!();
+}
+
+fn print_growth() {
+    println!("How time grows with length, in nanoseconds for each byte of input:");
+    println!();
+    println!("| operation | bytes | library ns/byte | quick ns/byte | ratio |");
+    println!("|---|--:|--:|--:|--:|");
+    for length in lengths(TAPE_LIMIT) {
+        let tape = yearbook(SEED, length);
+        print_growth_row("read a tape", &tape, &mut read_tape(&tape));
+    }
+    let tape = yearbook(SEED, TAPE_LIMIT);
+    for length in lengths(GALLEY_LIMIT) {
+        let galley = galley_of_length(&tape, length);
+        print_growth_row("check a galley", &galley, &mut check_galley(&galley));
+    }
+    for length in lengths(GALLEY_LIMIT) {
+        let galley = galley_of_length(&tape, length);
+        print_growth_row("write a DVI file", &galley, &mut write_dvi(&galley));
+    }
+    for length in lengths(DVI_LIMIT) {
+        let dvi = book(SEED, length);
+        print_growth_row("read a DVI file", &dvi, &mut read_dvi(&dvi, book_widths(SEED)));
+    }
+}
+
+/// Lengths from the smallest, each four times the one before, to the limit.
+fn lengths(limit: usize) -> impl Iterator<Item = usize> {
+    std::iter::successors(Some(SMALLEST), move |length| (*length < limit).then_some((4 * length).min(limit)))
+}
+
+/// A galley of at most so many bytes: the characters of a tape, over and over.
+fn galley_of_length(tape: &[u8], length: usize) -> Vec<u8> {
+    let page = spatecanter::read_tape(tape).unwrap();
+    let fields = &page[..page.len() - 7];
+    let count = (length - 7) / 9;
+    let mut galley: Vec<u8> = fields.iter().copied().cycle().take(9 * count).collect();
+    galley.extend([2, 0, 4]);
+    galley.extend((count as u32).to_be_bytes());
+    galley
+}
+
+/// The same work by the library and by the quick version.
+struct Contest<'a> {
+    library: Box<dyn FnMut() + 'a>,
+    quick: Box<dyn FnMut() + 'a>,
+}
+
+fn read_tape(tape: &[u8]) -> Contest<'_> {
+    let room = spatecanter::read_tape(tape).unwrap().len();
+    contest_of_one(
+        room,
+        move |galley| spatecanter::read_tape_into(tape, galley).unwrap(),
+        move |galley| quick::read_tape(tape, galley),
+    )
+}
+
+fn check_galley(galley: &[u8]) -> Contest<'_> {
+    assert_eq!(quick::check_galley(galley), [0, 0, spatecanter::check_galley(galley).unwrap()]);
+    Contest {
+        library: Box::new(move || done(spatecanter::check_galley(black_box(galley)))),
+        quick: Box::new(move || done(quick::check_galley(black_box(galley)))),
+    }
+}
+
+fn read_back(galley: &[u8]) -> Contest<'_> {
+    let last = galley.len() / 9 - 1;
+    Contest {
+        library: Box::new(move || done(spatecanter::read_back(black_box(galley), last))),
+        quick: Box::new(move || done(quick::read_back(black_box(galley), last))),
+    }
+}
+
+fn write_dvi(galley: &[u8]) -> Contest<'_> {
+    let room = spatecanter::write_dvi(galley).unwrap().len();
+    contest_of_one(
+        room,
+        move |dvi| spatecanter::write_dvi_into(galley, dvi).unwrap(),
+        move |dvi| quick::write_dvi(galley, dvi),
+    )
+}
+
+fn read_dvi(dvi: &[u8], widths: Vec<i32>) -> Contest<'_> {
+    let room = spatecanter::read_dvi(dvi, &widths).unwrap().len();
+    let same_widths = widths.clone();
+    contest_of_one(
+        room,
+        move |sheet| spatecanter::read_dvi_into(dvi, &widths, sheet).unwrap(),
+        move |sheet| quick::read_dvi(dvi, &same_widths, sheet),
+    )
+}
+
+fn reprint(galley: &[u8]) -> Contest<'_> {
+    let whole = spatecanter::reprint(galley, &[]).unwrap();
+    let (mut dvi, mut quick_dvi) = (whole.dvi.clone(), whole.dvi.clone());
+    contest_of_one(
+        whole.sheet.len(),
+        move |sheet| spatecanter::reprint_into(galley, &[], &mut dvi, sheet).unwrap(),
+        move |sheet| quick::reprint(galley, &[], &mut quick_dvi, sheet),
+    )
+}
+
+/// A contest over one buffer; both have to write the same.
+fn contest_of_one<'a>(
+    room: usize,
+    mut library: impl FnMut(&mut [u8]) -> usize + 'a,
+    mut quick: impl FnMut(&mut [u8]) -> [usize; 3] + 'a,
+) -> Contest<'a> {
+    let (mut buffer, mut other) = (vec![1; room], vec![2; room]);
+    assert_eq!(quick(&mut other), [0, 0, library(&mut buffer)]);
+    assert!(buffer == other, "the quick version writes something else");
+    Contest {
+        library: Box::new(move || done(library(black_box(&mut buffer)))),
+        quick: Box::new(move || done(quick(black_box(&mut other)))),
+    }
+}
+
+/// The work may not be left out.
+fn done<T>(result: T) {
+    black_box(result);
+}
+
+fn print_row(operation: &str, input: &str, bytes: &[u8], contest: &mut Contest) {
+    let mut copied = vec![1; bytes.len()];
+    let mut copy = || black_box(&mut copied[..]).copy_from_slice(black_box(bytes));
+    let [library, quick, copy] = best([&mut contest.library, &mut contest.quick, &mut copy]);
+    let speed = |time: f64| bytes.len() as f64 / time / 1e6;
+    println!(
+        "| {operation} | {input} | {} | {:.0} | {:.0} | {:.0} | {:.2} | {:.1} |",
+        bytes.len(),
+        speed(library),
+        speed(quick),
+        speed(copy),
+        library / quick,
+        library / copy
+    );
+}
+
+fn print_growth_row(operation: &str, bytes: &[u8], contest: &mut Contest) {
+    let [library, quick] = best([&mut contest.library, &mut contest.quick]);
+    let each = |time: f64| time * 1e9 / bytes.len() as f64;
+    println!(
+        "| {operation} | {} | {:.3} | {:.3} | {:.2} |",
+        bytes.len(),
+        each(library),
+        each(quick),
+        library / quick
+    );
+}
+
+/// The best time of each contender in seconds; they take turns.
+fn best<const N: usize>(mut contenders: [&mut dyn FnMut(); N]) -> [f64; N] {
+    let mut best = [f64::INFINITY; N];
+    let start = Instant::now();
+    let mut turns = 0;
+    while turns < TURNS || start.elapsed() < TIME * N as u32 {
+        for (contender, best) in contenders.iter_mut().zip(&mut best) {
+            let start = Instant::now();
+            contender();
+            *best = best.min(start.elapsed().as_secs_f64());
+        }
+        turns += 1;
+    }
+    best
+}

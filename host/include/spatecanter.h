@@ -1,0 +1,153 @@
+/*
+ * spatecanter.h: C/A/T phototypesetter tapes to galleys, galleys to DVI files of 1980, and DVI files
+ * to sheets. Link with libspatecanter.a.
+ *
+ * ANSWERS. Every function fills `answer` with three numbers:
+ *
+ *     answer[0]  number  0 if accepted, else the refusal's number (enum sp_number)
+ *     answer[1]  place   0 if accepted, else where the input was refused
+ *     answer[2]  length  the bytes written if accepted (sp_check_galley: the characters), else 0
+ *
+ * An accepted call leaves the buffer beyond the bytes written as it was. A refused call changes no
+ * byte of any buffer. To learn how long a buffer must be, call with a length of 0: if the input is good,
+ * the answer is the refusal for room, and its place is the number of bytes needed.
+ *
+ * LENT MEMORY. A pointer and the length after it make one slice; the length counts bytes, for `widths`
+ * 32-bit numbers. No pointer may be null, not even with length 0. A buffer that is written must not
+ * overlap anything else in the call. Nothing is allocated, kept or freed, and no state is held
+ * between calls: any number of threads may call at once. A stack of 256 KB is enough.
+ *
+ * FORMATS. All numbers have the high byte first.
+ *
+ *   galley  a run of fields: tag (1 byte), length (2), body.
+ *           character  tag 1, length 6: x (2, signed, units of 1/432 inch), height (2, quanta of 1/144
+ *                      inch), font number (1), character 1 to 108 (1)
+ *           End        tag 2, length 4: the number of characters; nothing follows
+ *           A font number is 15 x (font - 1) + size index, 0 to 119; fonts are 1 to 8, and the size
+ *           indices 0 to 14 stand for 7 8 10 11 12 14 18 9 6 16 20 22 24 28 36 points. From index 9
+ *           on sizes are double, with x from -55 to 3,184; in single sizes x is 0 to 3,239.
+ *   sheet   a run of fields as above. Places and sides are in rsu, 1/65536 of a point of 1/72 inch.
+ *           page       tag 5, length 4: its number
+ *           character  tag 3, length 13: x, y, font (4 each), character (1)
+ *           rule       tag 4, length 17: 0 vertical or 1 horizontal (1), x, y before the rule, height,
+ *                      width (4 each)
+ *           End        tag 2, length 4: the number of fields before it
+ *   widths  128 signed numbers a font, in rsu, for fonts 0, 1, ... in order. Only the DVI commands 0 to 127
+ *           look there.
+ */
+
+#ifndef SPATECANTER_H
+#define SPATECANTER_H
+
+#include <stddef.h>
+#include <stdint.h>
+
+#ifdef __cplusplus
+extern "C" {
+#endif
+
+/* The longest inputs that are taken, in bytes. */
+#define SP_TAPE_LIMIT   1048576
+#define SP_GALLEY_LIMIT 9437191
+#define SP_DVI_LIMIT    33554432
+
+/* answer[0]; after the semicolon, what answer[1] then is. "Offset" counts bytes from 0. */
+enum sp_number {
+    SP_ACCEPTED          = 0,  /* accepted; 0 */
+
+    /* Tapes */
+    SP_TAPE_TOO_LONG     = 1,  /* tape over SP_TAPE_LIMIT; 0 */
+    SP_ILLEGAL_CODE      = 2,  /* 4B, 4D, 5F or FF (hexadecimal); the byte's offset */
+    SP_BEFORE_INITIALIZE = 3,  /* before the first initialize, another code than 00; the byte's offset */
+    SP_AFTER_STOP        = 4,  /* after stop, another code than 00; the byte's offset */
+    SP_PARKED            = 5,  /* parked: a flash, or an escape not forward 16; the byte's offset */
+    SP_NO_SIZE           = 6,  /* a flash, and no size yet; the byte's offset */
+    SP_OUT_OF_RANGE      = 7,  /* the carriage would leave 0 to 3,239, or the height 0 to 65,535;
+                                  the byte's offset */
+    SP_UPPER_HALF        = 8,  /* a flash above 45 in the upper half; the byte's offset */
+    SP_NO_STOP           = 9,  /* the tape ends without stop; the tape's length */
+    SP_GALLEY_ROOM       = 12, /* galley buffer too short; the bytes needed */
+
+    /* DVI files */
+    SP_DVI_TOO_LONG      = 20, /* file over SP_DVI_LIMIT; 0 */
+    SP_COMMAND           = 21, /* an undefined command, or one not allowed there; its offset */
+    SP_DVI_ENDS          = 22, /* the file ends inside a command other than PST; the command's offset.
+                                  It ends inside a page or before PST; the file's length */
+    SP_BOP_OFFSET        = 23, /* a BOP that names a wrong offset for the BOP before it; its offset */
+    SP_PUSH              = 24, /* a push onto 200 entries; the command's offset */
+    SP_POP               = 25, /* a pop of none; the command's offset */
+    SP_EOP               = 26, /* an EOP with entries left; the command's offset */
+    SP_CHARACTER         = 27, /* no font, HORZCHAR outside 0 to 127, or a command 0 to 127 whose
+                                  character has no width; the command's offset */
+    SP_OVERFLOW          = 28, /* x or y leaves signed 32 bits; the command's offset */
+    SP_POSTAMBLE         = 29, /* the postamble is malformed or short; PST's offset */
+    SP_SHEET_ROOM        = 30, /* sheet buffer too short; the bytes needed */
+    SP_WIDTHS            = 31, /* the width table is not whole fonts of 128 numbers; 0 */
+
+    /* Galleys */
+    SP_NO_SUCH_CHARACTER = 11, /* reading back: n is not below the number of characters; 0 */
+    SP_GALLEY_TOO_LONG   = 40, /* galley over SP_GALLEY_LIMIT; 0 */
+    SP_GALLEY_MALFORMED  = 41, /* a bad field, one cut short included; the first one's offset.
+                                  Bytes after End; the first one's offset.
+                                  No End; the galley's length */
+    SP_DVI_ROOM          = 42  /* DVI buffer too short; the bytes needed */
+};
+
+/*
+ * Reads a tape and writes its galley.
+ * Refusals: 1; then 2 to 9, of which the earliest place decides, and at one place the smaller number;
+ * then 12. A galley has at most 9 bytes for each byte of tape, and 7.
+ */
+void sp_read_tape(const uint8_t *tape, size_t tape_len,
+                  uint8_t *galley, size_t galley_len,
+                  size_t answer[3]);
+
+/*
+ * Checks a galley; writes nothing. The length is its number of characters.
+ * Refusals: 40; then 41.
+ */
+void sp_check_galley(const uint8_t *galley, size_t galley_len,
+                     size_t answer[3]);
+
+/*
+ * Reads back character n of a galley, counted from 0: character[0] is its x, [1] its height, [2] its font
+ * number, [3] the character; all four are 0 in a refusal. The length is 0.
+ * Refusals: 40; then 41; then 11. Each call checks the whole galley.
+ */
+void sp_read_back(const uint8_t *galley, size_t galley_len, size_t n,
+                  size_t answer[3], int32_t character[4]);
+
+/*
+ * Writes a galley as a DVI file of one page.
+ * Refusals: 40; then 41; then 42.
+ */
+void sp_write_dvi(const uint8_t *galley, size_t galley_len,
+                  uint8_t *dvi, size_t dvi_len,
+                  size_t answer[3]);
+
+/*
+ * Reads a DVI file, with a table of widths, and writes what it shows as a sheet.
+ * Refusals: 20; then 31; then 21 to 29, of which the earliest place decides, and at one place the
+ * smaller number; then 30.
+ */
+void sp_read_dvi(const uint8_t *dvi, size_t dvi_len,
+                 const int32_t *widths, size_t widths_len,
+                 uint8_t *sheet, size_t sheet_len,
+                 size_t answer[3]);
+
+/*
+ * Writes a galley as a DVI file and reads that file into a sheet, in one call. The length is the
+ * sheet's; the DVI file's is the place that sp_write_dvi gives for a buffer of length 0.
+ * Refusals: 40; then 41; then 31; then 42; then 30. A refusal changes neither buffer.
+ */
+void sp_reprint(const uint8_t *galley, size_t galley_len,
+                const int32_t *widths, size_t widths_len,
+                uint8_t *dvi, size_t dvi_len,
+                uint8_t *sheet, size_t sheet_len,
+                size_t answer[3]);
+
+#ifdef __cplusplus
+}
+#endif
+
+#endif

@@ -1,0 +1,176 @@
+//! The commands.
+
+use crate::arguments::Arguments;
+use crate::failure::Failure;
+use crate::files::{self, Output, NO_LIMIT};
+use crate::summary::Summary;
+use crate::text::{self, grouped};
+use crate::{explain, help, plot, progress};
+use spatecanter::{sheet, Reprint, DVI_LIMIT, GALLEY_LIMIT, TAPE_LIMIT};
+use std::ffi::OsStr;
+use std::fs;
+use std::path::{Path, PathBuf};
+
+pub struct Command {
+    pub name: &'static str,
+    pub usage: &'static str,
+    pub options: &'static [&'static str],
+    pub help: &'static str,
+    pub run: fn(&Arguments) -> Result<(), Failure>,
+}
+
+pub const COMMANDS: [Command; 8] = [
+    Command { name: "read", usage: "read TAPE [-o GALLEY]", options: &["-o"], help: help::READ, run: read },
+    Command { name: "check", usage: "check GALLEY", options: &[], help: help::CHECK, run: check },
+    Command { name: "list", usage: "list GALLEY", options: &[], help: help::LIST, run: list },
+    Command { name: "set", usage: "set GALLEY [-o DVI]", options: &["-o"], help: help::SET, run: set },
+    Command {
+        name: "show",
+        usage: "show DVI [--widths FILE] [-o SHEET]",
+        options: &["--widths", "-o"],
+        help: help::SHOW,
+        run: show,
+    },
+    Command { name: "sheet", usage: "sheet SHEET", options: &[], help: help::SHEET, run: list_sheet },
+    Command {
+        name: "reprint",
+        usage: "reprint TAPE -d FOLDER",
+        options: &["-d"],
+        help: help::REPRINT,
+        run: reprint,
+    },
+    Command {
+        name: "plot",
+        usage: "plot TAPE|GALLEY [-o SVG]",
+        options: &["-o"],
+        help: help::PLOT,
+        run: draw,
+    },
+];
+
+fn read(arguments: &Arguments) -> Result<(), Failure> {
+    let output = Output::choose(arguments.output.as_deref(), &[&arguments.input], "galley")?;
+    let tape = files::read(&arguments.input, TAPE_LIMIT)?;
+    let galley = galley_of(&arguments.input, &tape)?;
+    output.write(&galley)?;
+    output.tell(&format!("{} characters", grouped(galley.len() / 9)));
+    Ok(())
+}
+
+fn check(arguments: &Arguments) -> Result<(), Failure> {
+    let (_, count) = checked_galley(&arguments.input)?;
+    files::print(&format!("accepted, {} characters\n", grouped(count)))
+}
+
+fn list(arguments: &Arguments) -> Result<(), Failure> {
+    let (galley, _) = checked_galley(&arguments.input)?;
+    text::print_galley(&galley)
+}
+
+fn set(arguments: &Arguments) -> Result<(), Failure> {
+    let output = Output::choose(arguments.output.as_deref(), &[&arguments.input], "dvi")?;
+    let galley = files::read(&arguments.input, GALLEY_LIMIT)?;
+    let dvi = progress::during("writing the DVI file", || spatecanter::write_dvi(&galley))
+        .map_err(|refusal| explain::galley(&arguments.input, &galley, refusal))?;
+    output.write(&dvi)?;
+    output.tell(&format!("{} bytes", grouped(dvi.len())));
+    Ok(())
+}
+
+fn show(arguments: &Arguments) -> Result<(), Failure> {
+    let mut inputs = vec![arguments.input.as_os_str()];
+    inputs.extend(arguments.widths.as_deref());
+    if inputs == ["-", "-"] {
+        return Err(Failure::Usage("the DVI file and the widths cannot both be standard input".into()));
+    }
+    let output = Output::choose(arguments.output.as_deref(), &inputs, "sheet")?;
+    let dvi = files::read(&arguments.input, DVI_LIMIT)?;
+    let widths = match &arguments.widths {
+        Some(name) => widths(name)?,
+        None => vec![],
+    };
+    let sheet = progress::during("reading the DVI file", || spatecanter::read_dvi(&dvi, &widths))
+        .map_err(|refusal| explain::dvi(&arguments.input, &dvi, refusal))?;
+    output.write(&sheet)?;
+    output.tell(&format!("{} bytes", grouped(sheet.len())));
+    Ok(())
+}
+
+/// A file of 32-bit numbers, high byte first.
+fn widths(name: &OsStr) -> Result<Vec<i32>, Failure> {
+    let bytes = files::read(name, NO_LIMIT)?;
+    let (numbers, rest) = bytes.as_chunks();
+    if !rest.is_empty() {
+        let what = format!("{}: {} bytes are no whole 32-bit numbers", files::shown(name), bytes.len());
+        return Err(Failure::File(what));
+    }
+    Ok(numbers.iter().copied().map(i32::from_be_bytes).collect())
+}
+
+fn list_sheet(arguments: &Arguments) -> Result<(), Failure> {
+    let bytes = files::read(&arguments.input, NO_LIMIT)?;
+    sheet::check(&bytes)
+        .map_err(|fault| Failure::Refused(format!("{}: {fault}", files::shown(&arguments.input))))?;
+    text::print_sheet(&bytes)
+}
+
+fn reprint(arguments: &Arguments) -> Result<(), Failure> {
+    let Some(folder) = &arguments.folder else {
+        return Err(Failure::Usage(
+            "reprint needs a folder\nUsage: spatecanter reprint TAPE -d FOLDER".into(),
+        ));
+    };
+    let paths = ["galley", "dvi", "sheet"].map(|extension| path_in(folder, &arguments.input, extension));
+    for path in &paths {
+        files::keep_inputs(path, &[&arguments.input])?;
+    }
+    let tape = files::read(&arguments.input, TAPE_LIMIT)?;
+    let galley = galley_of(&arguments.input, &tape)?;
+    let Reprint { dvi, sheet } = progress::during("reprinting", || spatecanter::reprint(&galley, &[]))
+        .map_err(|refusal| explain::galley(&arguments.input, &galley, refusal))?;
+    fs::create_dir_all(folder)
+        .map_err(|error| Failure::File(format!("{}: {error}", files::shown(folder))))?;
+    let [galley_path, dvi_path, sheet_path] = paths;
+    files::write_all(&[(galley_path, &galley), (dvi_path, &dvi), (sheet_path, &sheet)])?;
+    files::print(&Summary::of(&galley, &sheet).to_string())
+}
+
+/// The place of an output in a folder, named after the input.
+fn path_in(folder: &OsStr, input: &OsStr, extension: &str) -> PathBuf {
+    let name = if input == "-" { OsStr::new("tape") } else { Path::new(input).file_stem().unwrap_or(input) };
+    let mut name = name.to_os_string();
+    name.push(".");
+    name.push(extension);
+    Path::new(folder).join(name)
+}
+
+fn draw(arguments: &Arguments) -> Result<(), Failure> {
+    let output = Output::choose(arguments.output.as_deref(), &[&arguments.input], "svg")?;
+    let bytes = files::read(&arguments.input, GALLEY_LIMIT)?;
+    let galley = match bytes.first() {
+        Some(1 | 2) => {
+            spatecanter::check_galley(&bytes)
+                .map_err(|refusal| explain::galley(&arguments.input, &bytes, refusal))?;
+            bytes
+        }
+        _ => galley_of(&arguments.input, &bytes)?,
+    };
+    let name = files::shown(&arguments.input);
+    let picture = progress::during("drawing", || plot::picture(&name, &galley));
+    output.write(picture.as_bytes())?;
+    output.tell(&format!("{} characters", grouped(galley.len() / 9)));
+    Ok(())
+}
+
+fn galley_of(name: &OsStr, tape: &[u8]) -> Result<Vec<u8>, Failure> {
+    progress::during("reading the tape", || spatecanter::read_tape(tape))
+        .map_err(|refusal| explain::tape(name, tape, refusal))
+}
+
+/// A galley that the check accepts, and its number of characters.
+fn checked_galley(name: &OsStr) -> Result<(Vec<u8>, usize), Failure> {
+    let galley = files::read(name, GALLEY_LIMIT)?;
+    let count = progress::during("checking the galley", || spatecanter::check_galley(&galley))
+        .map_err(|refusal| explain::galley(name, &galley, refusal))?;
+    Ok((galley, count))
+}

@@ -1,0 +1,168 @@
+//! Refusals in words: what stands at the place, and what was expected there.
+
+use crate::failure::Failure;
+use crate::files::shown;
+use crate::text::grouped;
+use spatecanter::galley::characters;
+use spatecanter::{number, Refusal};
+use std::ffi::OsStr;
+
+pub fn tape(name: &OsStr, tape: &[u8], refusal: Refusal) -> Failure {
+    let mut lines = vec![format!("{}: {refusal}", shown(name))];
+    if refusal.number != number::TAPE_TOO_LONG {
+        lines.push(match tape.get(refusal.place) {
+            Some(&code) => format!("{}: byte {code:02X}, {}", offset(refusal.place), code_in_words(code)),
+            None => format!("{}: the end of the tape", offset(refusal.place)),
+        });
+        lines.push(format!("  expected: {}", expected_code(tape, refusal)));
+    }
+    Failure::Refused(lines.join("\n"))
+}
+
+pub fn galley(name: &OsStr, galley: &[u8], refusal: Refusal) -> Failure {
+    let mut lines = vec![format!("{}: {refusal}", shown(name))];
+    if refusal.number == number::GALLEY_MALFORMED {
+        let rest = &galley[refusal.place.min(galley.len())..];
+        lines.push(format!("{}: {}", offset(refusal.place), bytes_in_words(rest, 9)));
+        lines.push(format!("  expected: {}", expected_field(galley, refusal.place)));
+    }
+    Failure::Refused(lines.join("\n"))
+}
+
+pub fn dvi(name: &OsStr, dvi: &[u8], refusal: Refusal) -> Failure {
+    let mut lines = vec![format!("{}: {refusal}", shown(name))];
+    if !matches!(refusal.number, number::DVI_TOO_LONG | number::WIDTHS) {
+        lines.push(match dvi.get(refusal.place) {
+            Some(&command) => {
+                format!("{}: command {command}, {}", offset(refusal.place), command_in_words(command))
+            }
+            None => format!("{}: the end of the file", offset(refusal.place)),
+        });
+    }
+    Failure::Refused(lines.join("\n"))
+}
+
+fn offset(place: usize) -> String {
+    format!("  at offset {place} (hexadecimal {place:X})")
+}
+
+/// The first bytes of a rest in hexadecimal.
+fn bytes_in_words(rest: &[u8], most: usize) -> String {
+    if rest.is_empty() {
+        return "the end of the file".into();
+    }
+    let bytes: Vec<String> = rest.iter().take(most).map(|byte| format!("{byte:02X}")).collect();
+    format!("bytes {}", bytes.join(" "))
+}
+
+fn code_in_words(code: u8) -> String {
+    let words = match code {
+        0x00 => "nothing",
+        0x01..=0x3F => return format!("a flash of {code}"),
+        0x40 => "initialize",
+        0x41 => "lower rail",
+        0x42 => "upper rail",
+        0x43 => "upper mag",
+        0x44 => "lower mag",
+        0x45 => "lower half",
+        0x46 => "upper half",
+        0x47 => "escape forward",
+        0x48 => "escape backward",
+        0x49 => "stop",
+        0x4A => "lead forward",
+        0x4C => "lead backward",
+        0x4E => "tilt up",
+        0x4F => "tilt down",
+        0x4B | 0x4D | 0x5F | 0xFF => "which means nothing to the machine",
+        0x50..=0x5E => "a size",
+        0x60..=0x7F => return format!("a lead of {} quanta", lead_size(code)),
+        0x80..=0xFE => return format!("an escape of {} units", escape_size(code)),
+    };
+    words.into()
+}
+
+fn lead_size(code: u8) -> i32 {
+    i32::from(!code & 31)
+}
+
+fn escape_size(code: u8) -> i32 {
+    i32::from(!code & 127)
+}
+
+fn expected_code(tape: &[u8], refusal: Refusal) -> String {
+    let words = match refusal.number {
+        number::ILLEGAL_CODE => "any code but 4B, 4D, 5F and FF",
+        number::BEFORE_INITIALIZE => "initialize (40), after nothing but 00",
+        number::AFTER_STOP => "nothing but 00, since stop was read",
+        number::PARKED => "an escape of 16 (EF), forward, since the carriage is parked",
+        number::NO_SIZE => "a size (50 to 5E) before the first flash",
+        number::OUT_OF_RANGE => return expected_motion(tape, refusal.place),
+        number::UPPER_HALF => "a flash of at most 45 (2D), or lower half (45) before it",
+        number::NO_STOP => "stop (49)",
+        _ => "nothing else",
+    };
+    words.into()
+}
+
+/// What a motion has to keep to, and where it would go.
+fn expected_motion(tape: &[u8], place: usize) -> String {
+    let (code, standing) = (tape[place], standing(&tape[..place]));
+    if code >= 0x80 {
+        let way = standing.map_or(String::new(), |(carriage, _)| way(carriage, escape_size(code), 3_239));
+        format!("an escape that keeps the carriage in 0 to 3,239{way}")
+    } else {
+        let way = standing.map_or(String::new(), |(_, height)| way(height, lead_size(code), 65_535));
+        format!("a lead that keeps the height in 0 to 65,535{way}")
+    }
+}
+
+/// Where a refused motion starts and ends: forward if that is beyond the range, else backward.
+fn way(from: i32, size: i32, most: i32) -> String {
+    let to = if from + size > most { from + size } else { from - size };
+    format!("; it would go from {from} to {to}")
+}
+
+/// The carriage and the height after the start of a tape: those of one more character, in size 7, read
+/// off the galley of that tape. A parked carriage has to leave the switch first.
+fn standing(start: &[u8]) -> Option<(i32, i32)> {
+    let ends: [&[u8]; 2] = [&[0x50, 0x45, 0x01, 0x49], &[0x47, 0xEF, 0x50, 0x45, 0x01, 0x49]];
+    let galley = ends.iter().find_map(|end| spatecanter::read_tape(&[start, end].concat()).ok())?;
+    characters(&galley).last().map(|character| (character.x, character.height))
+}
+
+/// What is wrong with the first bad field of a galley.
+fn expected_field(galley: &[u8], place: usize) -> String {
+    let count = place / 9;
+    match &galley[place.min(galley.len())..] {
+        _ if !place.is_multiple_of(9) => "the end of the file, since End was read".into(),
+        [2, 0, 4, _, _, _, _, ..] => format!("an End that counts {} characters", grouped(count)),
+        [1, 0, 6, _, _, _, _, font_number, code, ..] => expected_character(*font_number, *code).into(),
+        [1, 0, 6, ..] | [2, 0, 4, ..] => "the rest of the field, which is cut short".into(),
+        _ => "a character (01 00 06 ...) or End (02 00 04 ...)".into(),
+    }
+}
+
+fn expected_character(font_number: u8, code: u8) -> &'static str {
+    if font_number > 119 {
+        "a font number of 0 to 119"
+    } else if !(1..=108).contains(&code) {
+        "a character of 1 to 108"
+    } else if font_number % 15 >= 9 {
+        "an x of -55 to 3,184, in a double size"
+    } else {
+        "an x of 0 to 3,239, in a single size"
+    }
+}
+
+fn command_in_words(command: u8) -> String {
+    const NAMES: [&str; 26] = [
+        "NOP", "BOP", "EOP", "PST", "PUSH", "POP", "VERTRULE", "HORZRULE", "HORZCHAR", "FONT", "W4", "W3",
+        "W2", "W0", "X4", "X3", "X2", "X0", "Y4", "Y3", "Y2", "Y0", "Z4", "Z3", "Z2", "Z0",
+    ];
+    match command {
+        0..=127 => "a character of the font".into(),
+        128..=153 => NAMES[usize::from(command) - 128].into(),
+        154..=217 => format!("font {}", command - 154),
+        218..=255 => "which is undefined".into(),
+    }
+}

@@ -1,0 +1,145 @@
+//! The texts of --help.
+
+pub const WHOLE: &str = "\
+C/A/T phototypesetter tapes to galleys, galleys to DVI files of 1980, and DVI files to
+sheets.
+
+Usage: spatecanter COMMAND ...
+
+  read TAPE [-o GALLEY]                 a tape to a galley
+  check GALLEY                          is this a galley, and of how many characters?
+  list GALLEY                           a galley as text
+  set GALLEY [-o DVI]                   a galley to a DVI file
+  show DVI [--widths FILE] [-o SHEET]   a DVI file to a sheet
+  sheet SHEET                           a sheet as text
+  reprint TAPE -d FOLDER                a tape to galley, DVI file and sheet, with a summary
+  plot TAPE|GALLEY [-o SVG]             a picture of the page
+
+  COMMAND --help                        more about a command
+  --version                             the version
+
+Files. - is standard input or standard output. Without -o the output is named after the
+input, with .galley, .dvi, .sheet or .svg for its extension; if the input is standard input,
+the output is standard output. An output file is written whole or not at all, never in place
+of an input, and takes the place of an older file of its name.
+
+Exit status. 0: accepted. 1: refused; standard error says why, with the refusal's number and
+its place. 2: wrong usage, or a file that cannot be read or written.
+";
+
+pub const READ: &str = "\
+Reads a C/A/T tape and writes its galley: every character with its place, font and size.
+
+Usage: spatecanter read TAPE [-o GALLEY]
+
+A tape has at most 1,048,576 bytes. If it is refused, standard error tells the number, the
+place, the byte there and its offset in hexadecimal, and what was expected.
+
+Numbers, at the place of the byte unless another is said:
+   1  the tape is longer than that; at 0
+   2  illegal code (4B, 4D, 5F, FF)
+   3  a code other than 00 before the first initialize
+   4  a code other than 00 after stop
+   5  while parked, a flash or an escape other than 16 forward
+   6  a flash before any size
+   7  the carriage would leave 0 to 3,239, or the height 0 to 65,535
+   8  a flash above 45 in the upper half
+   9  the tape ends without stop; at its length
+
+Without -o the galley of page.tape is page.galley.
+";
+
+pub const CHECK: &str = "\
+Says whether a file is a galley, and how many characters it has.
+
+Usage: spatecanter check GALLEY
+
+Numbers:
+  40  the galley is longer than 9,437,191 bytes; at 0
+  41  it is malformed; at the first bad field, at the first byte after End, or at the length
+      if End is missing
+";
+
+pub const LIST: &str = "\
+Lists a galley as text: a line for each character, then their number.
+
+Usage: spatecanter list GALLEY
+
+The columns are x (units of 1/432 inch), y (the height, in quanta of 1/144 inch), font (1 to
+8), size (points) and char (1 to 108). The text goes to standard output. Refusals are those
+of check.
+";
+
+pub const SET: &str = "\
+Writes a galley as a DVI file of 1980, on one page.
+
+Usage: spatecanter set GALLEY [-o DVI]
+
+Refusals are those of check. Without -o the DVI file of page.galley is page.dvi.
+";
+
+pub const SHOW: &str = "\
+Reads a DVI file of 1980 and writes what it shows, as a sheet: pages, characters and rules.
+
+Usage: spatecanter show DVI [--widths FILE] [-o SHEET]
+
+The widths are 32-bit numbers, high byte first, 128 for each of the fonts 0, 1, ... Without
+them no character has a width, and the commands 0 to 127 are refused; files made by set do
+not use them.
+
+Numbers, at the place of the command unless another is said:
+  20  the file is longer than 33,554,432 bytes; at 0
+  31  the width table is not a whole number of fonts; at 0
+  21  an undefined command, or one not allowed there
+  22  the file ends inside a command; or inside a page or before PST, then at its length
+  23  a wrong pointer to the page before
+  24  a push onto 200 entries
+  25  a pop of none
+  26  a page ends with entries left
+  27  a character with no font, outside 0 to 127, or without a width
+  28  x or y leaves 32 bits
+  29  the postamble is malformed or short
+
+Without -o the sheet of page.dvi is page.sheet.
+";
+
+pub const SHEET: &str = "\
+Lists a sheet as text, a line for each field.
+
+Usage: spatecanter sheet SHEET
+
+The lines are
+  page NUMBER
+  char X Y FONT CHAR
+  rule vertical|horizontal X Y HEIGHT WIDTH
+  end FIELDS
+with places and sides in rsu, 1/65536 of a point of 1/72 inch, X to the right and Y down.
+The text goes to standard output.
+";
+
+pub const REPRINT: &str = "\
+Takes a tape all the way: NAME.tape to NAME.galley, NAME.dvi and NAME.sheet in a folder.
+
+Usage: spatecanter reprint TAPE -d FOLDER
+
+Prints a summary: characters, pages, fonts, and how many characters are in font 1 and in
+font 2, since measured and estimated values differ in nothing else. The folder is made if it
+is missing. All three files are written or none. From standard input they are tape.galley,
+tape.dvi and tape.sheet.
+
+Refusals are those of read.
+";
+
+pub const PLOT: &str = "\
+Draws the page as an SVG picture: a small mark for each character at its place, without
+letter shapes.
+
+Usage: spatecanter plot TAPE|GALLEY [-o SVG]
+
+Font 1 is blue and upright, font 2 orange and slanted, other fonts grey; marks of double
+sizes are larger. The legend tells how many there are. A file that begins with byte 01 or 02
+is read as a galley, any other as a tape; no tape and no galley is taken for the other.
+Refusals are those of read and check.
+
+Without -o the picture of page.tape is page.svg.
+";

@@ -1,0 +1,54 @@
+//! The C interface, as `include/spatecanter.h` declares it.
+//!
+//! `answer` is number, place, length. A pointer and the length after it make one slice; no two of a
+//! call's slices overlap unless both are read only.
+
+extern "C" {
+    pub fn sp_read_tape(
+        tape: *const u8,
+        tape_len: usize,
+        galley: *mut u8,
+        galley_len: usize,
+        answer: *mut [usize; 3],
+    );
+
+    pub fn sp_check_galley(galley: *const u8, galley_len: usize, answer: *mut [usize; 3]);
+
+    pub fn sp_read_back(
+        galley: *const u8,
+        galley_len: usize,
+        n: usize,
+        answer: *mut [usize; 3],
+        character: *mut [i32; 4],
+    );
+
+    pub fn sp_write_dvi(
+        galley: *const u8,
+        galley_len: usize,
+        dvi: *mut u8,
+        dvi_len: usize,
+        answer: *mut [usize; 3],
+    );
+
+    pub fn sp_read_dvi(
+        dvi: *const u8,
+        dvi_len: usize,
+        widths: *const i32,
+        widths_len: usize,
+        sheet: *mut u8,
+        sheet_len: usize,
+        answer: *mut [usize; 3],
+    );
+
+    pub fn sp_reprint(
+        galley: *const u8,
+        galley_len: usize,
+        widths: *const i32,
+        widths_len: usize,
+        dvi: *mut u8,
+        dvi_len: usize,
+        sheet: *mut u8,
+        sheet_len: usize,
+        answer: *mut [usize; 3],
+    );
+}

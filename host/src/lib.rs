@@ -1,0 +1,17 @@
+//! C/A/T phototypesetter tapes to galleys, galleys to DVI files of 1980, and DVI files to sheets.
+//!
+//! The operations are those of the proved library `libspatecanter.a`; this package adds safe calls,
+//! readers of galleys and sheets for people, and the command `spatecanter`.
+
+pub mod ffi;
+pub mod galley;
+mod operations;
+mod refusal;
+pub mod sample;
+pub mod sheet;
+
+pub use operations::{
+    check_galley, read_back, read_dvi, read_dvi_into, read_tape, read_tape_into, reprint, reprint_into,
+    write_dvi, write_dvi_into, Reprint, DVI_LIMIT, GALLEY_LIMIT, TAPE_LIMIT, WIDTHS_PER_FONT,
+};
+pub use refusal::{number, Outcome, Refusal};

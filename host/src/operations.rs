@@ -1,0 +1,157 @@
+//! The library's operations on slices. Each `…_into` fills a lent buffer; its namesake makes a vector.
+
+use crate::ffi;
+use crate::galley::Character;
+use crate::refusal::{number, Outcome, Refusal};
+
+/// The longest tape, galley and DVI file that are taken, in bytes.
+pub const TAPE_LIMIT: usize = 1_048_576;
+pub const GALLEY_LIMIT: usize = 9_437_191;
+pub const DVI_LIMIT: usize = 33_554_432;
+
+/// Widths in each font of a width table.
+pub const WIDTHS_PER_FONT: usize = 128;
+
+/// The DVI file and the sheet of one galley.
+#[derive(Clone, Debug, PartialEq, Eq)]
+pub struct Reprint {
+    pub dvi: Vec<u8>,
+    pub sheet: Vec<u8>,
+}
+
+/// Reads a tape into a galley; the length is the galley's.
+pub fn read_tape_into(tape: &[u8], galley: &mut [u8]) -> Outcome {
+    let mut answer = [0; 3];
+    // SAFETY: every pointer comes from a live slice, with its length.
+    unsafe {
+        ffi::sp_read_tape(tape.as_ptr(), tape.len(), galley.as_mut_ptr(), galley.len(), &mut answer);
+    }
+    outcome(answer)
+}
+
+/// The galley of a tape.
+pub fn read_tape(tape: &[u8]) -> Result<Vec<u8>, Refusal> {
+    let enough = 9 * tape.len().min(TAPE_LIMIT) + 7;
+    filled(enough, number::GALLEY_ROOM, |galley| read_tape_into(tape, galley))
+}
+
+/// Checks a galley; the length is its number of characters.
+pub fn check_galley(galley: &[u8]) -> Outcome {
+    let mut answer = [0; 3];
+    // SAFETY: the pointer comes from a live slice, with its length.
+    unsafe { ffi::sp_check_galley(galley.as_ptr(), galley.len(), &mut answer) };
+    outcome(answer)
+}
+
+/// Character `n` of a galley, counted from 0.
+pub fn read_back(galley: &[u8], n: usize) -> Result<Character, Refusal> {
+    let mut answer = [0; 3];
+    let mut character = [0; 4];
+    // SAFETY: the pointers come from a live slice, with its length, and from live arrays.
+    unsafe {
+        ffi::sp_read_back(galley.as_ptr(), galley.len(), n, &mut answer, &mut character);
+    }
+    let [x, height, font_number, code] = character;
+    outcome(answer).map(|_| Character { x, height, font_number, code })
+}
+
+/// Writes a galley as a DVI file; the length is the file's.
+pub fn write_dvi_into(galley: &[u8], dvi: &mut [u8]) -> Outcome {
+    let mut answer = [0; 3];
+    // SAFETY: every pointer comes from a live slice, with its length.
+    unsafe {
+        ffi::sp_write_dvi(galley.as_ptr(), galley.len(), dvi.as_mut_ptr(), dvi.len(), &mut answer);
+    }
+    outcome(answer)
+}
+
+/// The DVI file of a galley.
+pub fn write_dvi(galley: &[u8]) -> Result<Vec<u8>, Refusal> {
+    let usual = 36 + galley.len().min(GALLEY_LIMIT);
+    filled(usual, number::DVI_ROOM, |dvi| write_dvi_into(galley, dvi))
+}
+
+/// Reads a DVI file, with a table of widths, into a sheet; the length is the sheet's.
+pub fn read_dvi_into(dvi: &[u8], widths: &[i32], sheet: &mut [u8]) -> Outcome {
+    let mut answer = [0; 3];
+    // SAFETY: every pointer comes from a live slice, with its length.
+    unsafe {
+        ffi::sp_read_dvi(
+            dvi.as_ptr(),
+            dvi.len(),
+            widths.as_ptr(),
+            widths.len(),
+            sheet.as_mut_ptr(),
+            sheet.len(),
+            &mut answer,
+        );
+    }
+    outcome(answer)
+}
+
+/// The sheet of a DVI file, with a table of widths.
+pub fn read_dvi(dvi: &[u8], widths: &[i32]) -> Result<Vec<u8>, Refusal> {
+    let usual = 4 * dvi.len().min(DVI_LIMIT);
+    filled(usual, number::SHEET_ROOM, |sheet| read_dvi_into(dvi, widths, sheet))
+}
+
+/// Writes a galley as a DVI file and reads that into a sheet; the length is the sheet's.
+pub fn reprint_into(galley: &[u8], widths: &[i32], dvi: &mut [u8], sheet: &mut [u8]) -> Outcome {
+    let mut answer = [0; 3];
+    // SAFETY: every pointer comes from a live slice, with its length.
+    unsafe {
+        ffi::sp_reprint(
+            galley.as_ptr(),
+            galley.len(),
+            widths.as_ptr(),
+            widths.len(),
+            dvi.as_mut_ptr(),
+            dvi.len(),
+            sheet.as_mut_ptr(),
+            sheet.len(),
+            &mut answer,
+        );
+    }
+    outcome(answer)
+}
+
+/// The DVI file and the sheet of a galley.
+pub fn reprint(galley: &[u8], widths: &[i32]) -> Result<Reprint, Refusal> {
+    let mut dvi = vec![0; room_for_dvi(galley)?];
+    let usual = 14 + 16 * (galley.len().min(GALLEY_LIMIT) / 9);
+    let sheet = filled(usual, number::SHEET_ROOM, |sheet| reprint_into(galley, widths, &mut dvi, sheet))?;
+    Ok(Reprint { dvi, sheet })
+}
+
+/// The length of a galley's DVI file: an empty buffer is refused with the bytes needed.
+fn room_for_dvi(galley: &[u8]) -> Outcome {
+    match write_dvi_into(galley, &mut []) {
+        Err(refusal) if refusal.number == number::DVI_ROOM => Ok(refusal.place),
+        other => other,
+    }
+}
+
+/// A vector of what `fill` writes: `usual` bytes are offered first, then the bytes needed.
+fn filled(
+    usual: usize,
+    no_room: usize,
+    mut fill: impl FnMut(&mut [u8]) -> Outcome,
+) -> Result<Vec<u8>, Refusal> {
+    let mut buffer = vec![0; usual];
+    let mut outcome = fill(&mut buffer);
+    if let Err(refusal) = outcome {
+        if refusal.number == no_room {
+            buffer = vec![0; refusal.place];
+            outcome = fill(&mut buffer);
+        }
+    }
+    buffer.truncate(outcome?);
+    Ok(buffer)
+}
+
+fn outcome(answer: [usize; 3]) -> Outcome {
+    match answer {
+        [0, _, length] => Ok(length),
+        [number, place, _] => Err(Refusal { number, place }),
+    }
+}

@@ -1,0 +1,240 @@
+//! A yearbook on tape: tables of figures, in font 1 or font 2 by column, with words in font 3.
+
+use super::Random;
+
+const COLUMNS: usize = 8;
+const ROWS: usize = 36;
+/// The right edge of the first column, and from one column to the next, in units.
+const FIRST_EDGE: i32 = 620;
+const COLUMN_WIDTH: i32 = 370;
+/// From line to line, and the greatest height, in quanta.
+const SPACING: i32 = 24;
+const DEEPEST: i32 = 65_535;
+
+/// Size codes, and the width of a figure in them, in units.
+const SIZE_6: (u8, i32) = (0x58, 18);
+const SIZE_8: (u8, i32) = (0x51, 24);
+const SIZE_9: (u8, i32) = (0x57, 27);
+const SIZE_16: (u8, i32) = (0x59, 48);
+
+/// A tape of exactly `length` bytes, at least 100: as many whole lines as fit, stop, and 00 to the end. When
+/// the greatest height is near, the tape goes back to the top.
+pub fn yearbook(seed: u64, length: usize) -> Vec<u8> {
+    let mut random = Random::new(seed);
+    let mut punch = Punch::new();
+    let mut table = Table::new(&mut random);
+    loop {
+        let before = punch.tape.len();
+        table.line(&mut punch, &mut random);
+        punch.next_line();
+        if punch.tape.len() >= length {
+            punch.tape.truncate(before);
+            break;
+        }
+    }
+    punch.tape.push(0x49);
+    punch.tape.resize(length, 0);
+    punch.tape
+}
+
+/// Which figures of a column are in font 2: those from this row on.
+struct Table {
+    row: usize,
+    year: u32,
+    estimated_from: [usize; COLUMNS],
+}
+
+impl Table {
+    fn new(random: &mut Random) -> Table {
+        let mut estimated_from = [0; COLUMNS];
+        for from in &mut estimated_from {
+            *from = random.pick(&[ROWS, ROWS, ROWS, ROWS - 5, ROWS / 2]);
+        }
+        estimated_from[random.below(COLUMNS)] = 0;
+        Table { row: 0, year: random.between(1890, 1950) as u32, estimated_from }
+    }
+
+    /// The next line: a title, the heads of the columns, rows of figures, a note, and a new table.
+    fn line(&mut self, punch: &mut Punch, random: &mut Random) {
+        let line = self.row;
+        self.row += 1;
+        match line {
+            0 => punch.words(random, SIZE_16, 3, 3),
+            1 => punch.heads(random),
+            2 => {}
+            _ if line < ROWS + 3 => self.figures(line - 3, punch, random),
+            _ if line == ROWS + 3 => punch.words(random, SIZE_6, 4, 9),
+            _ => *self = Table::new(random),
+        }
+    }
+
+    /// A year and its figures; every other row is set from right to left.
+    fn figures(&self, row: usize, punch: &mut Punch, random: &mut Random) {
+        let mut cells =
+            vec![Cell { font: 3, edge: 4 * SIZE_9.1, value: self.year + row as u32, size: SIZE_9 }];
+        for column in 0..COLUMNS {
+            cells.push(self.cell(row, column, random));
+        }
+        let backward = row % 2 == 1;
+        if backward {
+            cells.reverse();
+        }
+        for cell in cells {
+            punch.figure(&cell, backward);
+        }
+    }
+
+    fn cell(&self, row: usize, column: usize, random: &mut Random) -> Cell {
+        let font = if row >= self.estimated_from[column] || random.one_in(40) { 2 } else { 1 };
+        let edge = FIRST_EDGE + COLUMN_WIDTH * column as i32;
+        let digits = random.between(3, 8) as u32;
+        Cell { font, edge, value: random.between(0, 10_i64.pow(digits) - 1) as u32, size: SIZE_8 }
+    }
+}
+
+/// A figure: its font, its right edge and its value.
+struct Cell {
+    font: u8,
+    edge: i32,
+    value: u32,
+    size: (u8, i32),
+}
+
+/// The tape so far, and what the machine is set to.
+struct Punch {
+    tape: Vec<u8>,
+    carriage: i32,
+    height: i32,
+    backward: bool,
+    upper_half: bool,
+    upper_rail: bool,
+    tilt_down: bool,
+    size: u8,
+}
+
+impl Punch {
+    /// Initialized, and off the left switch by the escape of 16.
+    fn new() -> Punch {
+        Punch {
+            tape: vec![0x40, 0xEF],
+            carriage: 0,
+            height: 0,
+            backward: false,
+            upper_half: false,
+            upper_rail: false,
+            tilt_down: true,
+            size: 0,
+        }
+    }
+
+    /// Some words in font 3 from the left edge on.
+    fn words(&mut self, random: &mut Random, size: (u8, i32), fewest: i64, most: i64) {
+        self.font(3);
+        self.size(size.0);
+        let mut x = 0;
+        for _ in 0..random.between(fewest, most) {
+            x = self.word(random, x, size.1) + size.1;
+        }
+    }
+
+    /// A word of three to nine letters; gives the place after it.
+    fn word(&mut self, random: &mut Random, x: i32, width: i32) -> i32 {
+        let letters = random.between(3, 9) as i32;
+        for letter in 0..letters {
+            self.go(x + letter * width);
+            self.set(random.between(1, 52) as u8);
+        }
+        x + letters * width
+    }
+
+    /// A word over each column.
+    fn heads(&mut self, random: &mut Random) {
+        self.font(3);
+        self.size(SIZE_8.0);
+        for column in 0..COLUMNS as i32 {
+            self.word(random, FIRST_EDGE + COLUMN_WIDTH * column - 9 * SIZE_8.1, SIZE_8.1);
+        }
+    }
+
+    /// A figure, its digits in the order in which the carriage meets them.
+    fn figure(&mut self, cell: &Cell, backward: bool) {
+        let (size, width) = cell.size;
+        self.font(cell.font);
+        self.size(size);
+        let digits: Vec<u8> = cell.value.to_string().bytes().collect();
+        let count = digits.len();
+        for turn in 0..count {
+            let index = if backward { count - 1 - turn } else { turn };
+            self.go(cell.edge - (count - index) as i32 * width);
+            self.set(72 + digits[index] - b'0');
+        }
+    }
+
+    fn font(&mut self, font: u8) {
+        let upper_rail = font > 2;
+        let tilt_down = font.is_multiple_of(2);
+        if upper_rail != self.upper_rail {
+            self.tape.push(if upper_rail { 0x42 } else { 0x41 });
+        }
+        if tilt_down != self.tilt_down {
+            self.tape.push(if tilt_down { 0x4F } else { 0x4E });
+        }
+        self.upper_rail = upper_rail;
+        self.tilt_down = tilt_down;
+    }
+
+    fn size(&mut self, code: u8) {
+        if code != self.size {
+            self.tape.push(code);
+        }
+        self.size = code;
+    }
+
+    /// Moves so that a character stands at `x`; the doubler shifts it 55 units to the left.
+    fn go(&mut self, x: i32) {
+        let carriage = if self.size >= 0x59 { x + 55 } else { x };
+        let mut distance = (carriage - self.carriage).abs();
+        let backward = carriage < self.carriage;
+        if distance > 0 && backward != self.backward {
+            self.tape.push(if backward { 0x48 } else { 0x47 });
+            self.backward = backward;
+        }
+        while distance > 0 {
+            let step = distance.min(127);
+            self.tape.push(0xFF - step as u8);
+            distance -= step;
+        }
+        self.carriage = carriage;
+    }
+
+    /// Flashes a character, 1 to 108.
+    fn set(&mut self, character: u8) {
+        let upper_half = character > 63;
+        if upper_half != self.upper_half {
+            self.tape.push(if upper_half { 0x46 } else { 0x45 });
+        }
+        self.upper_half = upper_half;
+        self.tape.push(if upper_half { character - 63 } else { character });
+    }
+
+    fn next_line(&mut self) {
+        if self.height + SPACING > DEEPEST {
+            self.tape.push(0x4C);
+            self.lead(self.height);
+            self.tape.push(0x4A);
+            self.height = 0;
+        }
+        self.lead(SPACING);
+        self.height += SPACING;
+    }
+
+    /// Leads so far in the direction that is set.
+    fn lead(&mut self, quanta: i32) {
+        let mut left = quanta;
+        while left > 0 {
+            let step = left.min(31);
+            self.tape.push(0x7F - step as u8);
+            left -= step;
+        }
+    }
+}

@@ -1,0 +1,29 @@
+//! Made inputs, valid and damaged, for comparison.
+
+mod dvi;
+mod galley;
+mod tape;
+
+pub use dvi::{dvi_file, valid_dvi_file};
+pub use galley::{galley, valid_galley};
+pub use tape::{tape, valid_tape};
+
+use spatecanter::sample::Random;
+
+/// The same bytes with one thing wrong: a byte changed, left out or put in, or the end cut off or grown.
+pub fn damaged(random: &mut Random, mut bytes: Vec<u8>) -> Vec<u8> {
+    if bytes.is_empty() {
+        return vec![random.byte()];
+    }
+    let place = random.below(bytes.len());
+    match random.below(8) {
+        0 => bytes[place] ^= 1 << random.below(8),
+        1 => bytes[place] = bytes[place].wrapping_add(random.pick(&[1, 255])),
+        2 => drop(bytes.remove(place)),
+        3 => bytes.insert(place, random.byte()),
+        4 => bytes.truncate(place),
+        5 => bytes.push(random.byte()),
+        _ => bytes[place] = random.byte(),
+    }
+    bytes
+}

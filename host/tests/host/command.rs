@@ -1,0 +1,322 @@
+//! The command `spatecanter`: files, exit status and texts.
+
+use crate::readings::hex;
+use spatecanter::sample::yearbook;
+use std::fs;
+use std::io::Write;
+use std::path::{Path, PathBuf};
+use std::process::{Command, Stdio};
+
+const P3_TAPE: &str = "40 EF 52 4E 01 FC 02 49";
+const P3_LIST: &str = "x y font size char\n0 0 1 10 1\n3 0 1 10 2\n2 glyphs\n";
+const P3_SHEET: &str = "page 1\nchar 0 0 2 1\nchar 32768 0 2 2\nend 3\n";
+
+/// What a run gave: exit status, standard output, standard error.
+struct Run {
+    status: i32,
+    out: Vec<u8>,
+    err: String,
+}
+
+impl Run {
+    fn text(&self) -> String {
+        String::from_utf8_lossy(&self.out).into_owned()
+    }
+}
+
+/// A new empty folder to run in.
+fn folder(name: &str) -> PathBuf {
+    let path = Path::new(env!("CARGO_TARGET_TMPDIR")).join(name);
+    let _ = fs::remove_dir_all(&path);
+    fs::create_dir_all(&path).unwrap();
+    path
+}
+
+fn run(folder: &Path, words: &[&str]) -> Run {
+    run_on(folder, words, &[])
+}
+
+/// Runs the command on these bytes as standard input.
+fn run_on(folder: &Path, words: &[&str], input: &[u8]) -> Run {
+    let mut child = Command::new(env!("CARGO_BIN_EXE_spatecanter"))
+        .args(words)
+        .current_dir(folder)
+        .stdin(Stdio::piped())
+        .stdout(Stdio::piped())
+        .stderr(Stdio::piped())
+        .spawn()
+        .unwrap();
+    // A command that does not read its input may be gone already.
+    let _ = child.stdin.take().unwrap().write_all(input);
+    let output = child.wait_with_output().unwrap();
+    let err = String::from_utf8_lossy(&output.stderr).into_owned();
+    Run { status: output.status.code().unwrap(), out: output.stdout, err }
+}
+
+fn names(folder: &Path) -> Vec<String> {
+    let entries = fs::read_dir(folder).unwrap();
+    let mut names: Vec<String> =
+        entries.map(|entry| entry.unwrap().file_name().into_string().unwrap()).collect();
+    names.sort();
+    names
+}
+
+#[test]
+fn help_for_the_whole_and_for_each_command() {
+    let folder = folder("help");
+    let whole = run(&folder, &["--help"]);
+    assert_eq!((whole.status, whole.err.as_str()), (0, ""));
+    for name in ["read", "check", "list", "set", "show", "sheet", "reprint", "plot"] {
+        assert!(whole.text().contains(&format!("\n  {name} ")), "{name} in the whole help");
+        let usage = format!("Usage: spatecanter {name} ");
+        for words in [[name, "--help"], [name, "-h"], ["help", name]] {
+            let help = run(&folder, &words);
+            assert_eq!((help.status, help.err.as_str()), (0, ""));
+            assert!(help.text().contains(&usage), "{words:?}");
+        }
+    }
+}
+
+#[test]
+fn wrong_usage_is_2() {
+    let folder = folder("usage");
+    fs::write(folder.join("p3.tape"), hex(P3_TAPE)).unwrap();
+    let calls: [&[&str]; 13] = [
+        &[],
+        &["reed", "p3.tape"],
+        &["read"],
+        &["read", "p3.tape", "p3.tape"],
+        &["read", "p3.tape", "-o"],
+        &["read", "p3.tape", "-x"],
+        &["read", "p3.tape", "-o", "a", "-o", "b"],
+        &["read", "p3.tape", "-d", "out"],
+        &["reprint", "p3.tape"],
+        &["show", "-", "--widths", "-"],
+        &["read", "missing.tape"],
+        &["read", "."],
+        &["read", "p3.tape", "-o", "missing/p3.galley"],
+    ];
+    for words in calls {
+        let run = run(&folder, words);
+        assert_eq!(run.status, 2, "{words:?}");
+        assert!(run.err.starts_with("spatecanter: "), "{words:?}: {}", run.err);
+        assert!(run.out.is_empty());
+    }
+    assert_eq!(names(&folder), ["p3.tape"]);
+}
+
+#[test]
+fn the_way_of_a_tape() {
+    let folder = folder("way");
+    fs::write(folder.join("p3.tape"), hex(P3_TAPE)).unwrap();
+    assert_eq!(run(&folder, &["read", "p3.tape"]).status, 0);
+    assert_eq!(run(&folder, &["check", "p3.galley"]).text(), "accepted, 2 characters\n");
+    assert_eq!(run(&folder, &["list", "p3.galley"]).text(), P3_LIST);
+    assert_eq!(run(&folder, &["set", "p3.galley"]).status, 0);
+    assert_eq!(run(&folder, &["show", "p3.dvi"]).status, 0);
+    assert_eq!(run(&folder, &["sheet", "p3.sheet"]).text(), P3_SHEET);
+    assert_eq!(names(&folder), ["p3.dvi", "p3.galley", "p3.sheet", "p3.tape"]);
+    assert_eq!(fs::read(folder.join("p3.dvi")).unwrap().len(), 59);
+}
+
+#[test]
+fn standard_input_and_output() {
+    let folder = folder("standard");
+    let galley = run_on(&folder, &["read", "-"], &hex(P3_TAPE));
+    assert_eq!((galley.status, galley.out.len(), galley.err.as_str()), (0, 25, ""));
+    assert_eq!(run_on(&folder, &["list", "-"], &galley.out).text(), P3_LIST);
+    let dvi = run_on(&folder, &["set", "-", "-o", "-"], &galley.out);
+    let sheet = run_on(&folder, &["show", "-"], &dvi.out);
+    assert_eq!(run_on(&folder, &["sheet", "-"], &sheet.out).text(), P3_SHEET);
+    assert_eq!(run_on(&folder, &["read", "-", "-o", "x"], &hex(P3_TAPE)).status, 0);
+    assert_eq!(names(&folder), ["x"]);
+}
+
+#[test]
+fn a_refused_tape_says_why_and_writes_nothing() {
+    let folder = folder("refused");
+    let rows: [(&str, &str, &str); 9] = [
+        ("", "refused 9 at 0", "expected: stop (49)"),
+        ("40 EF 4D", "refused 2 at 2", "at offset 2 (hexadecimal 2): byte 4D, which means nothing"),
+        ("EF", "refused 3 at 0", "byte EF, an escape of 16 units"),
+        ("40 49 01", "refused 4 at 2", "nothing but 00"),
+        ("40 F0", "refused 5 at 1", "expected: an escape of 16 (EF), forward"),
+        ("40 EF 01", "refused 6 at 2", "expected: a size"),
+        ("40 EF 80 48 80 FE", "refused 7 at 5", "keeps the carriage in 0 to 3,239; it would go from 0 to -1"),
+        ("40 60 4C 60 7E", "refused 7 at 4", "keeps the height in 0 to 65,535; it would go from 0 to -1"),
+        ("40 EF 46 52 2E", "refused 8 at 4", "byte 2E, a flash of 46"),
+    ];
+    fs::write(folder.join("bad.galley"), "as before").unwrap();
+    for (tape, refusal, more) in rows {
+        fs::write(folder.join("bad.tape"), hex(tape)).unwrap();
+        for words in [&["read", "bad.tape"][..], &["reprint", "bad.tape", "-d", "out"], &["plot", "bad.tape"]]
+        {
+            let run = run(&folder, words);
+            assert_eq!((run.status, run.text().as_str()), (1, ""), "{words:?} of {tape}");
+            assert!(run.err.contains(refusal) && run.err.contains(more), "{}", run.err);
+        }
+        assert_eq!(names(&folder), ["bad.galley", "bad.tape"]);
+        assert_eq!(fs::read(folder.join("bad.galley")).unwrap(), b"as before");
+    }
+}
+
+#[test]
+fn a_tape_over_the_limit() {
+    let folder = folder("long");
+    fs::write(folder.join("long.tape"), vec![0; spatecanter::TAPE_LIMIT + 5]).unwrap();
+    let run = run(&folder, &["read", "long.tape"]);
+    assert_eq!(run.status, 1);
+    assert_eq!(run.err, "spatecanter: long.tape: refused 1 at 0: the tape is longer than 1,048,576 bytes\n");
+}
+
+#[test]
+fn refused_galleys_and_dvi_files() {
+    let folder = folder("others");
+    let rows: [(&str, &str, &str, &str); 8] = [
+        ("check", "", "refused 41 at 0", "expected: a character (01 00 06 ...) or End (02 00 04 ...)"),
+        ("list", "02 00 04 00 00 00 01", "refused 41 at 0", "an End that counts 0 characters"),
+        ("set", "02 00 04 00 00 00 00 05", "refused 41 at 7", "since End was read"),
+        ("plot", "01 00 06 00 00 00 00 02 00", "refused 41 at 0", "a character of 1 to 108"),
+        ("check", "01 00 06 00 00 00", "refused 41 at 0", "cut short"),
+        ("show", "83", "refused 21 at 0", "command 131, PST"),
+        ("show", "81 00 00 00 01 FF FF FF FF", "refused 22 at 9", "the end of the file"),
+        ("show", "81 00 00 00 01 FF FF FF FF 88 01", "refused 27 at 9", "command 136, HORZCHAR"),
+    ];
+    for (command, input, refusal, more) in rows {
+        fs::write(folder.join("bad"), hex(input)).unwrap();
+        let run = run(&folder, &[command, "bad"]);
+        assert_eq!((run.status, run.text().as_str()), (1, ""), "{command} {input}");
+        assert!(run.err.contains(refusal) && run.err.contains(more), "{}", run.err);
+        assert_eq!(names(&folder), ["bad"]);
+    }
+    fs::write(folder.join("bad"), hex("05 00 04 00 00 00 01 02 00 04 00 00 00 02")).unwrap();
+    let run = run(&folder, &["sheet", "bad"]);
+    assert_eq!((run.status, run.text().as_str()), (1, ""));
+    assert_eq!(run.err, "spatecanter: bad: no sheet: an End with a wrong count at 7\n");
+}
+
+#[test]
+fn an_input_is_never_written_over() {
+    let folder = folder("inputs");
+    let tape = hex(P3_TAPE);
+    for name in ["p3.galley", "p3.tape"] {
+        fs::write(folder.join(name), &tape).unwrap();
+    }
+    let calls: [&[&str]; 5] = [
+        &["read", "p3.galley"],
+        &["read", "p3.tape", "-o", "p3.tape"],
+        &["read", "p3.tape", "-o", "./p3.tape"],
+        &["reprint", "p3.galley", "-d", "."],
+        &["show", "p3.tape", "--widths", "p3.galley", "-o", "p3.galley"],
+    ];
+    for words in calls {
+        let run = run(&folder, words);
+        assert_eq!(run.status, 2, "{words:?}");
+        assert!(run.err.contains("is an input, and is not written over"), "{}", run.err);
+    }
+    assert_eq!(names(&folder), ["p3.galley", "p3.tape"]);
+    assert_eq!(fs::read(folder.join("p3.tape")).unwrap(), tape);
+    assert_eq!(fs::read(folder.join("p3.galley")).unwrap(), tape);
+}
+
+#[cfg(unix)]
+#[test]
+fn links_and_devices_stay() {
+    use std::os::unix::fs::{symlink, FileTypeExt, PermissionsExt};
+    let folder = folder("links");
+    fs::write(folder.join("p3.tape"), hex(P3_TAPE)).unwrap();
+    fs::write(folder.join("old.galley"), "old").unwrap();
+    fs::set_permissions(folder.join("old.galley"), fs::Permissions::from_mode(0o600)).unwrap();
+    symlink("old.galley", folder.join("link.galley")).unwrap();
+    symlink("p3.tape", folder.join("link.tape")).unwrap();
+    assert_eq!(run(&folder, &["read", "p3.tape", "-o", "link.galley"]).status, 0);
+    assert!(fs::symlink_metadata(folder.join("link.galley")).unwrap().is_symlink());
+    let old = fs::metadata(folder.join("old.galley")).unwrap();
+    assert_eq!((old.len(), old.permissions().mode() & 0o777), (25, 0o600));
+    assert_eq!(run(&folder, &["read", "p3.tape", "-o", "link.tape"]).status, 2);
+    assert_eq!(run(&folder, &["read", "p3.tape", "-o", "/dev/null"]).status, 0);
+    assert!(fs::metadata("/dev/null").unwrap().file_type().is_char_device());
+    assert_eq!(names(&folder), ["link.galley", "link.tape", "old.galley", "p3.tape"]);
+}
+
+#[test]
+fn reprint_writes_three_files_and_a_summary() {
+    let folder = folder("reprint");
+    let tape = yearbook(3, 5_000);
+    fs::write(folder.join("page.1.tape"), &tape).unwrap();
+    let run = run(&folder, &["reprint", "page.1.tape", "-d", "out/deep"]);
+    assert_eq!(run.status, 0, "{}", run.err);
+    let out = folder.join("out/deep");
+    assert_eq!(names(&out), ["page.1.dvi", "page.1.galley", "page.1.sheet"]);
+    let galley = spatecanter::read_tape(&tape).unwrap();
+    let reprint = spatecanter::reprint(&galley, &[]).unwrap();
+    assert_eq!(fs::read(out.join("page.1.galley")).unwrap(), galley);
+    assert_eq!(fs::read(out.join("page.1.dvi")).unwrap(), reprint.dvi);
+    assert_eq!(fs::read(out.join("page.1.sheet")).unwrap(), reprint.sheet);
+    let count = |text: &str, what: &str| -> usize {
+        let line = text.lines().find(|line| line.starts_with(what)).unwrap();
+        line.rsplit(' ').next().unwrap().replace(',', "").parse().unwrap()
+    };
+    let font = |font| spatecanter::galley::characters(&galley).filter(|it| it.font() == font).count();
+    assert_eq!(count(&run.text(), "characters"), galley.len() / 9);
+    assert_eq!(count(&run.text(), "pages"), 1);
+    assert_eq!(count(&run.text(), "in font 1"), font(1));
+    assert_eq!(count(&run.text(), "in font 2"), font(2));
+}
+
+#[test]
+fn a_picture_has_a_mark_for_each_character() {
+    let folder = folder("plot");
+    let tape = yearbook(4, 3_000);
+    fs::write(folder.join("a&b.tape"), &tape).unwrap();
+    assert_eq!(run(&folder, &["plot", "a&b.tape"]).status, 0);
+    assert_eq!(run(&folder, &["read", "a&b.tape"]).status, 0);
+    assert_eq!(run(&folder, &["plot", "a&b.galley", "-o", "b.svg"]).status, 0);
+    let picture = fs::read_to_string(folder.join("a&b.svg")).unwrap();
+    let again = fs::read_to_string(folder.join("b.svg")).unwrap();
+    assert_eq!(picture.replace("a&amp;b.tape", "a&amp;b.galley"), again);
+    let count = spatecanter::read_tape(&tape).unwrap().len() / 9;
+    let marks: usize =
+        picture.lines().filter(|line| line.contains("d=\"M")).map(|line| line.matches('M').count()).sum();
+    let rulers = picture.matches("stroke=\"#c8c8c8\" stroke-width=\"4\" d=").count();
+    assert_eq!(marks - rulers - 3, count);
+    assert!(picture.starts_with("<svg ") && picture.ends_with("</svg>\n"));
+}
+
+#[test]
+fn widths_for_a_dvi_file() {
+    let folder = folder("widths");
+    let dvi = hex("81 00 00 00 01 FF FF FF FF 9A 41 42 82
+         83 00 00 00 00 00 00 00 00 00 00 00 00 FF FF FF FF 00 00 00 0D 00 DF DF DF DF");
+    fs::write(folder.join("a.dvi"), dvi).unwrap();
+    let mut widths = vec![0; 512];
+    widths[4 * 0x41 + 2] = 1;
+    fs::write(folder.join("a.widths"), &widths).unwrap();
+    fs::write(folder.join("odd.widths"), &widths[..511]).unwrap();
+    fs::write(folder.join("short.widths"), &widths[..508]).unwrap();
+    assert_eq!(run(&folder, &["show", "a.dvi"]).status, 1);
+    assert_eq!(run(&folder, &["show", "a.dvi", "--widths", "odd.widths"]).status, 2);
+    let short = run(&folder, &["show", "a.dvi", "--widths=short.widths"]);
+    assert_eq!(short.status, 1);
+    assert!(short.err.contains("refused 31 at 0"), "{}", short.err);
+    assert_eq!(run(&folder, &["show", "a.dvi", "--widths=a.widths"]).status, 0);
+    let text = run(&folder, &["sheet", "a.sheet"]).text();
+    assert_eq!(text, "page 1\nchar 0 0 0 65\nchar 256 0 0 66\nend 3\n");
+}
+
+#[test]
+fn a_reader_that_leaves_ends_the_command_quietly() {
+    let folder = folder("pipe");
+    fs::write(folder.join("a.tape"), yearbook(5, 200_000)).unwrap();
+    assert_eq!(run(&folder, &["read", "a.tape"]).status, 0);
+    let mut child = Command::new(env!("CARGO_BIN_EXE_spatecanter"))
+        .args(["list", "a.galley"])
+        .current_dir(&folder)
+        .stdout(Stdio::piped())
+        .stderr(Stdio::piped())
+        .spawn()
+        .unwrap();
+    drop(child.stdout.take());
+    let output = child.wait_with_output().unwrap();
+    assert_eq!((output.status.code(), output.stderr), (Some(2), vec![]));
+}

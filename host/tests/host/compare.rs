@@ -1,0 +1,343 @@
+//! One call of an implementation against the plain reading: every answer, every byte.
+
+use crate::{plain, quick};
+use spatecanter::ffi;
+use spatecanter::sample::Random;
+use std::collections::BTreeMap;
+use std::io::Write;
+
+/// Number, place, length.
+pub type Answer = [usize; 3];
+
+/// Fills the second slice from the first.
+type Fill = fn(&[u8], &mut [u8]) -> Answer;
+
+/// Fills the last two slices, a DVI file and its sheet.
+type FillBoth = fn(&[u8], &[i32], &mut [u8], &mut [u8]) -> Answer;
+
+/// The operations of one implementation.
+#[derive(Clone, Copy)]
+pub struct Implementation {
+    pub name: &'static str,
+    pub read_tape: Fill,
+    pub check_galley: fn(&[u8]) -> Answer,
+    pub read_back: fn(&[u8], usize) -> (Answer, [i32; 4]),
+    pub write_dvi: Fill,
+    pub read_dvi: fn(&[u8], &[i32], &mut [u8]) -> Answer,
+    pub reprint: FillBoth,
+}
+
+pub const QUICK: Implementation = Implementation {
+    name: "quick version",
+    read_tape: quick::read_tape,
+    check_galley: quick::check_galley,
+    read_back: quick::read_back,
+    write_dvi: quick::write_dvi,
+    read_dvi: quick::read_dvi,
+    reprint: quick::reprint,
+};
+
+/// The library by its C interface, with a guard on both sides of every answer.
+pub const LIBRARY: Implementation = Implementation {
+    name: "library",
+    read_tape: |tape, galley| {
+        answered(|answer| unsafe {
+            ffi::sp_read_tape(tape.as_ptr(), tape.len(), galley.as_mut_ptr(), galley.len(), answer)
+        })
+    },
+    check_galley: |galley| {
+        answered(|answer| unsafe { ffi::sp_check_galley(galley.as_ptr(), galley.len(), answer) })
+    },
+    read_back: |galley, n| {
+        let mut lent = [0x5A5A_5A5A_i32; 6];
+        let character = lent[1..5].as_mut_ptr().cast();
+        let answer = answered(|answer| unsafe {
+            ffi::sp_read_back(galley.as_ptr(), galley.len(), n, answer, character)
+        });
+        let [before, x, height, font_number, code, after] = lent;
+        assert_eq!([before, after], [0x5A5A_5A5A; 2], "written beside the character");
+        (answer, [x, height, font_number, code])
+    },
+    write_dvi: |galley, dvi| {
+        answered(|answer| unsafe {
+            ffi::sp_write_dvi(galley.as_ptr(), galley.len(), dvi.as_mut_ptr(), dvi.len(), answer)
+        })
+    },
+    read_dvi: |dvi, widths, sheet| {
+        answered(|answer| unsafe {
+            ffi::sp_read_dvi(
+                dvi.as_ptr(),
+                dvi.len(),
+                widths.as_ptr(),
+                widths.len(),
+                sheet.as_mut_ptr(),
+                sheet.len(),
+                answer,
+            )
+        })
+    },
+    reprint: |galley, widths, dvi, sheet| {
+        answered(|answer| unsafe {
+            ffi::sp_reprint(
+                galley.as_ptr(),
+                galley.len(),
+                widths.as_ptr(),
+                widths.len(),
+                dvi.as_mut_ptr(),
+                dvi.len(),
+                sheet.as_mut_ptr(),
+                sheet.len(),
+                answer,
+            )
+        })
+    },
+};
+
+fn answered(call: impl FnOnce(*mut Answer)) -> Answer {
+    let mut lent = [usize::MAX - 1; 5];
+    call(lent[1..4].as_mut_ptr().cast());
+    let [before, number, place, length, after] = lent;
+    assert_eq!([before, after], [usize::MAX - 1; 2], "written beside the answer");
+    [number, place, length]
+}
+
+/// A slice in the midst of other bytes, at an odd address as often as not.
+struct Lent {
+    bytes: Vec<u8>,
+    start: usize,
+    end: usize,
+}
+
+impl Lent {
+    /// So many bytes, of any content.
+    fn new(random: &mut Random, length: usize) -> Lent {
+        let (before, after) = (24 + random.below(8), 24 + random.below(8));
+        let (mut bits, turn) = (random.bits(), random.bits() | 1);
+        let mut bytes = Vec::with_capacity(before + length + after);
+        for _ in 0..before + length + after {
+            bits = bits.wrapping_mul(0x5851_F42D_4C95_7F2D).wrapping_add(turn);
+            bytes.push((bits >> 56) as u8);
+        }
+        Lent { bytes, start: before, end: before + length }
+    }
+
+    fn holding(random: &mut Random, content: &[u8]) -> Lent {
+        let mut lent = Lent::new(random, content.len());
+        lent.slice_mut().copy_from_slice(content);
+        lent
+    }
+
+    fn slice(&self) -> &[u8] {
+        &self.bytes[self.start..self.end]
+    }
+
+    fn slice_mut(&mut self) -> &mut [u8] {
+        &mut self.bytes[self.start..self.end]
+    }
+
+    /// An input is only read.
+    fn still_holds(&self, content: &[u8]) {
+        assert!(self.slice() == content, "written into the input");
+    }
+
+    /// All bytes as they should be after a call that writes these.
+    fn after(&self, written: &[u8]) -> Vec<u8> {
+        let mut bytes = self.bytes.clone();
+        bytes[self.start..self.start + written.len()].copy_from_slice(written);
+        bytes
+    }
+}
+
+/// How many calls gave each number, by operation.
+type Counts = BTreeMap<&'static str, BTreeMap<usize, usize>>;
+
+pub struct Comparison {
+    implementation: Implementation,
+    random: Random,
+    counts: Counts,
+    /// Whether every buffer for an accepted input is as long as needed.
+    exact_room: bool,
+}
+
+impl Comparison {
+    pub fn new(implementation: Implementation, seed: u64) -> Comparison {
+        Comparison { implementation, random: Random::new(seed), counts: Counts::new(), exact_room: false }
+    }
+
+    pub fn with_exact_room(self) -> Comparison {
+        Comparison { exact_room: true, ..self }
+    }
+
+    pub fn tape(&mut self, tape: &[u8]) {
+        let result = plain::read_tape(tape);
+        let room = self.room(tape, &result);
+        let expected = plain::with_room(result, room, 12);
+        self.fills("read_tape", tape, expected, room, |them, tape, galley| (them.read_tape)(tape, galley));
+    }
+
+    /// A galley checked, read back, written and reprinted.
+    pub fn galley(&mut self, galley: &[u8]) {
+        self.check_galley(galley);
+        self.read_back(galley);
+        self.write_dvi(galley);
+        self.reprint(galley);
+    }
+
+    pub fn check_galley(&mut self, galley: &[u8]) {
+        let lent = Lent::holding(&mut self.random, galley);
+        let expected = match plain::check_galley(galley) {
+            Ok(count) => [0, 0, count],
+            Err((number, place)) => [number, place, 0],
+        };
+        let answer = (self.implementation.check_galley)(lent.slice());
+        lent.still_holds(galley);
+        self.agree("check_galley", galley, answer, expected);
+    }
+
+    pub fn read_back(&mut self, galley: &[u8]) {
+        let lent = Lent::holding(&mut self.random, galley);
+        let n = self.character_number(galley.len() / 9);
+        let (expected, expected_character) = match plain::read_back(galley, n) {
+            Ok(plain::Character { x, height, font_number, code }) => ([0; 3], [x, height, font_number, code]),
+            Err((number, place)) => ([number, place, 0], [0; 4]),
+        };
+        let (answer, character) = (self.implementation.read_back)(lent.slice(), n);
+        lent.still_holds(galley);
+        assert_eq!(
+            character,
+            expected_character,
+            "{}, character {n} of {}",
+            self.implementation.name,
+            shown(galley)
+        );
+        self.agree("read_back", galley, answer, expected);
+    }
+
+    pub fn write_dvi(&mut self, galley: &[u8]) {
+        let result = plain::write_dvi(galley);
+        let room = self.room(galley, &result);
+        let expected = plain::with_room(result, room, 42);
+        self.fills("write_dvi", galley, expected, room, |them, galley, dvi| (them.write_dvi)(galley, dvi));
+    }
+
+    pub fn dvi(&mut self, dvi: &[u8], widths: &[i32]) {
+        let result = plain::read_dvi(dvi, widths);
+        let room = self.room(dvi, &result);
+        let expected = plain::with_room(result, room, 30);
+        let call = |them: &Implementation, dvi: &[u8], sheet: &mut [u8]| (them.read_dvi)(dvi, widths, sheet);
+        self.fills("read_dvi", dvi, expected, room, call);
+    }
+
+    pub fn reprint(&mut self, galley: &[u8]) {
+        let widths = vec![1; self.random.pick(&[0, 0, 0, 128, 256, 127, 1])];
+        let whole = plain::reprint(galley, &widths, usize::MAX, usize::MAX);
+        let dvi_room = self.room(galley, &whole.as_ref().map(|(dvi, _)| dvi));
+        let sheet_room = self.room(galley, &whole.as_ref().map(|(_, sheet)| sheet));
+        let expected = plain::reprint(galley, &widths, dvi_room, sheet_room);
+
+        let lent = Lent::holding(&mut self.random, galley);
+        let mut dvi = Lent::new(&mut self.random, dvi_room);
+        let mut sheet = Lent::new(&mut self.random, sheet_room);
+        let (dvi_bytes, sheet_bytes) = expected.clone().unwrap_or_default();
+        let after = (dvi.after(&dvi_bytes), sheet.after(&sheet_bytes));
+        let answer = (self.implementation.reprint)(lent.slice(), &widths, dvi.slice_mut(), sheet.slice_mut());
+        lent.still_holds(galley);
+        self.same_bytes("reprint, DVI file", galley, &dvi.bytes, &after.0);
+        self.same_bytes("reprint, sheet", galley, &sheet.bytes, &after.1);
+        self.agree("reprint", galley, answer, answer_of(expected.map(|(_, sheet)| sheet)));
+    }
+
+    /// A call that fills one buffer.
+    fn fills(
+        &mut self,
+        operation: &'static str,
+        input: &[u8],
+        expected: Result<Vec<u8>, plain::Refused>,
+        room: usize,
+        call: impl FnOnce(&Implementation, &[u8], &mut [u8]) -> Answer,
+    ) {
+        let lent = Lent::holding(&mut self.random, input);
+        let mut buffer = Lent::new(&mut self.random, room);
+        let after = buffer.after(expected.as_deref().unwrap_or_default());
+        let answer = call(&self.implementation, lent.slice(), buffer.slice_mut());
+        lent.still_holds(input);
+        self.same_bytes(operation, input, &buffer.bytes, &after);
+        self.agree(operation, input, answer, answer_of(expected));
+    }
+
+    fn agree(&mut self, operation: &'static str, input: &[u8], answer: Answer, expected: Answer) {
+        let name = self.implementation.name;
+        assert_eq!(answer, expected, "{name}, {operation} of {}", shown(input));
+        *self.counts.entry(operation).or_default().entry(answer[0]).or_default() += 1;
+    }
+
+    fn same_bytes(&self, operation: &str, input: &[u8], bytes: &[u8], expected: &[u8]) {
+        let name = self.implementation.name;
+        if let Some(place) = (0..bytes.len()).find(|&place| bytes[place] != expected[place]) {
+            panic!("{name}, {operation} of {}: byte {place} of the lent bytes is wrong", shown(input));
+        }
+    }
+
+    /// Room for a buffer: as needed, one byte less, some less, more, or none. A refused input needs none; its
+    /// buffer has room enough to be written to by mistake.
+    fn room(&mut self, input: &[u8], result: &Result<impl AsRef<[u8]>, impl Sized>) -> usize {
+        let Ok(bytes) = result else {
+            return self.random.pick(&[0, 1, 2, 20]) * input.len() + self.random.below(40);
+        };
+        let needed = bytes.as_ref().len();
+        match self.random.below(12) {
+            _ if self.exact_room => needed,
+            0 => needed.saturating_sub(1),
+            1 => self.random.below(needed + 1),
+            2 => 0,
+            3..=5 => needed + self.random.below(40),
+            _ => needed,
+        }
+    }
+
+    /// The number of a character to be read back, at times one that is not there.
+    fn character_number(&mut self, count: usize) -> usize {
+        match self.random.below(8) {
+            0 => count,
+            1 => usize::MAX,
+            2 => count.saturating_sub(1),
+            _ => self.random.below(count + 1),
+        }
+    }
+
+    /// How many calls gave this number.
+    pub fn count(&self, operation: &str, number: usize) -> usize {
+        self.counts.get(operation).and_then(|numbers| numbers.get(&number)).copied().unwrap_or(0)
+    }
+
+    pub fn total(&self) -> usize {
+        self.counts.values().flat_map(BTreeMap::values).sum()
+    }
+
+    /// Prints the cases of each operation by number, past the test harness.
+    pub fn print(&self) {
+        let mut out = std::io::stdout().lock();
+        for (operation, numbers) in &self.counts {
+            let total: usize = numbers.values().sum();
+            let parts: Vec<String> =
+                numbers.iter().map(|(number, count)| format!("{number}: {count}")).collect();
+            let line =
+                format!("{}, {operation}: {total} cases ({})", self.implementation.name, parts.join(", "));
+            writeln!(out, "{line}").unwrap();
+        }
+        writeln!(out, "{}: {} cases in all", self.implementation.name, self.total()).unwrap();
+    }
+}
+
+fn answer_of(expected: Result<Vec<u8>, plain::Refused>) -> Answer {
+    match expected {
+        Ok(bytes) => [0, 0, bytes.len()],
+        Err((number, place)) => [number, place, 0],
+    }
+}
+
+/// An input in hexadecimal, or the start of a long one.
+fn shown(input: &[u8]) -> String {
+    let start = &input[..input.len().min(4_000)];
+    format!("{} bytes {start:02X?}", input.len())
+}

@@ -1,0 +1,142 @@
+//! The library and the quick version against the plain reading, on the same cases.
+
+use crate::cases;
+use crate::compare::{Comparison, Implementation, LIBRARY, QUICK};
+use spatecanter::sample::Random;
+
+const SEED: u64 = 1980;
+
+#[test]
+fn library_gives_what_the_plain_reading_gives() {
+    compare(LIBRARY);
+}
+
+#[test]
+fn quick_version_gives_what_the_plain_reading_gives() {
+    compare(QUICK);
+}
+
+fn compare(implementation: Implementation) {
+    let mut comparison = Comparison::new(implementation, SEED);
+    tapes(&mut comparison);
+    codes(&mut comparison);
+    galleys(&mut comparison);
+    dvi_files(&mut comparison);
+    comparison.print();
+    every_number_is_met(&comparison);
+}
+
+fn tapes(comparison: &mut Comparison) {
+    let mut random = Random::new(SEED + 1);
+    for _ in 0..150_000 {
+        comparison.tape(&cases::tape(&mut random));
+    }
+    for _ in 0..20 {
+        let tape = cases::valid_tape(&mut random);
+        for length in 0..=tape.len() {
+            comparison.tape(&tape[..length]);
+        }
+    }
+}
+
+/// Every code, and every two codes, after some beginnings.
+fn codes(comparison: &mut Comparison) {
+    let beginnings: [&[u8]; 10] = [
+        &[],
+        &[0x40],
+        &[0x40, 0x48],
+        &[0x40, 0x52],
+        &[0x40, 0xEF],
+        &[0x40, 0xEF, 0x46],
+        &[0x40, 0xEF, 0x46, 0x59],
+        &[0x40, 0xEF, 0x52, 0x48, 0x4C],
+        &[0x40, 0xEF, 0x43, 0x42, 0x5E, 0x60, 0x80],
+        &[0x40, 0xEF, 0x52, 0x49],
+    ];
+    for beginning in beginnings {
+        for code in 0..=255 {
+            comparison.tape(&[beginning, &[code]].concat());
+            comparison.tape(&[beginning, &[code, 0x49]].concat());
+        }
+    }
+    for first in 0..=255 {
+        for second in 0..=255 {
+            comparison.tape(&[0x40, 0xEF, 0x52, first, second, 0x01, 0x49]);
+        }
+    }
+}
+
+fn galleys(comparison: &mut Comparison) {
+    let mut random = Random::new(SEED + 2);
+    for _ in 0..50_000 {
+        comparison.galley(&cases::galley(&mut random));
+    }
+    for characters in [0, 1, 2, 5, 70, 200] {
+        let galley = cases::valid_galley(&mut random, characters);
+        for length in 0..=galley.len() {
+            comparison.galley(&galley[..length]);
+        }
+        each_byte_changed(&galley, &mut random, |galley| comparison.galley(galley));
+    }
+    let galley = cases::valid_galley(&mut random, 2);
+    for value in 0..=255 {
+        each_byte_set(&galley, value, |galley| comparison.check_galley(galley));
+    }
+}
+
+fn dvi_files(comparison: &mut Comparison) {
+    let mut random = Random::new(SEED + 3);
+    for _ in 0..150_000 {
+        let file = cases::dvi_file(&mut random);
+        comparison.dvi(&file.bytes, &file.widths);
+    }
+    for _ in 0..40 {
+        let file = cases::valid_dvi_file(&mut random);
+        for length in 0..file.bytes.len() {
+            comparison.dvi(&file.bytes[..length], &file.widths);
+        }
+        each_byte_changed(&file.bytes, &mut random, |dvi| comparison.dvi(dvi, &file.widths));
+    }
+    for _ in 0..3 {
+        let file = cases::valid_dvi_file(&mut random);
+        for value in 0..=255 {
+            each_byte_set(&file.bytes, value, |dvi| comparison.dvi(dvi, &file.widths));
+        }
+    }
+}
+
+/// The bytes with each one changed in turn.
+fn each_byte_changed(bytes: &[u8], random: &mut Random, mut take: impl FnMut(&[u8])) {
+    for place in 0..bytes.len() {
+        let mut changed = bytes.to_vec();
+        changed[place] ^= random.between(1, 255) as u8;
+        take(&changed);
+    }
+}
+
+/// The bytes with each one set to a value in turn.
+fn each_byte_set(bytes: &[u8], value: u8, mut take: impl FnMut(&[u8])) {
+    for place in 0..bytes.len() {
+        let mut changed = bytes.to_vec();
+        changed[place] = value;
+        take(&changed);
+    }
+}
+
+/// The cases are worth their number: each answer that small inputs can get was met often.
+fn every_number_is_met(comparison: &Comparison) {
+    let numbers: [(&str, &[usize]); 6] = [
+        ("read_tape", &[0, 2, 3, 4, 5, 6, 7, 8, 9, 12]),
+        ("check_galley", &[0, 41]),
+        ("read_back", &[0, 41, 11]),
+        ("write_dvi", &[0, 41, 42]),
+        ("read_dvi", &[0, 31, 21, 22, 23, 24, 25, 26, 27, 28, 29, 30]),
+        ("reprint", &[0, 41, 31, 42, 30]),
+    ];
+    for (operation, expected) in numbers {
+        for &number in expected {
+            assert!(comparison.count(operation, number) >= 20, "{operation} gave {number} hardly ever");
+        }
+    }
+    assert!(comparison.total() >= 100_000);
+}

@@ -1,0 +1,133 @@
+//! The largest inputs, and one byte more of each, in a thread with a stack of 256 KB.
+
+use crate::cases;
+use crate::compare::{Comparison, Implementation, LIBRARY, QUICK};
+use spatecanter::sample::{book, book_widths, yearbook, Random};
+use spatecanter::{DVI_LIMIT, GALLEY_LIMIT, TAPE_LIMIT};
+
+const CHARACTERS: usize = 1_048_576;
+const STACK: usize = 256 * 1024;
+
+#[test]
+fn library_takes_the_largest_inputs() {
+    on_a_small_stack(LIBRARY);
+}
+
+#[test]
+fn quick_version_takes_the_largest_inputs() {
+    on_a_small_stack(QUICK);
+}
+
+fn on_a_small_stack(implementation: Implementation) {
+    let work = move || {
+        let mut comparison = Comparison::new(implementation, 432).with_exact_room();
+        tapes(&mut comparison);
+        galleys(&mut comparison);
+        dvi_files(&mut comparison);
+        comparison.print();
+        needs_the_largest_sheet(implementation);
+    };
+    std::thread::Builder::new().stack_size(STACK).spawn(work).unwrap().join().unwrap();
+}
+
+fn tapes(comparison: &mut Comparison) {
+    let mut tape = yearbook(7, TAPE_LIMIT);
+    comparison.tape(&tape);
+    tape.push(0);
+    comparison.tape(&tape);
+
+    let mut flashes = vec![0x2A; TAPE_LIMIT];
+    flashes[..3].copy_from_slice(&[0x40, 0xEF, 0x52]);
+    comparison.tape(&flashes);
+    flashes[TAPE_LIMIT - 1] = 0x49;
+    comparison.tape(&flashes);
+    flashes[TAPE_LIMIT - 2] = 0xFF;
+    comparison.tape(&flashes);
+}
+
+fn galleys(comparison: &mut Comparison) {
+    let mut galley = cases::valid_galley(&mut Random::new(8), CHARACTERS);
+    assert_eq!(galley.len(), GALLEY_LIMIT);
+    comparison.galley(&galley);
+    galley.push(0);
+    comparison.galley(&galley);
+    galley.pop();
+    // A wrong count, then a bad last character, then one missing byte.
+    galley[GALLEY_LIMIT - 1] ^= 1;
+    comparison.galley(&galley);
+    galley[GALLEY_LIMIT - 8] = 109;
+    comparison.galley(&galley);
+    comparison.galley(&galley[..GALLEY_LIMIT - 8]);
+}
+
+fn dvi_files(comparison: &mut Comparison) {
+    let widths = book_widths(9);
+    let mut dvi = book(9, DVI_LIMIT);
+    comparison.dvi(&dvi, &widths);
+    dvi.push(223);
+    comparison.dvi(&dvi, &widths);
+    dvi.truncate(DVI_LIMIT - 200_000);
+    comparison.dvi(&dvi, &widths);
+    comparison.dvi(&empty_pages(), &[]);
+    comparison.dvi(&one_page(&[132; 200], &[133; 200]), &[]);
+    comparison.dvi(&long_name(), &[]);
+}
+
+/// As many pages without a command as fit.
+fn empty_pages() -> Vec<u8> {
+    let mut dvi = Vec::with_capacity(DVI_LIMIT);
+    let mut last = -1_i32;
+    while dvi.len() + 10 + 26 <= DVI_LIMIT {
+        let place = dvi.len() as i32;
+        dvi.push(129);
+        dvi.extend(place.to_be_bytes());
+        dvi.extend(last.to_be_bytes());
+        dvi.push(130);
+        last = place;
+    }
+    ended(dvi, last)
+}
+
+/// A page of the same commands over and over.
+fn one_page(first: &[u8], second: &[u8]) -> Vec<u8> {
+    let commands = [first, second].concat();
+    let mut dvi = vec![129, 0, 0, 0, 1, 255, 255, 255, 255];
+    while dvi.len() + commands.len() + 1 + 26 <= DVI_LIMIT {
+        dvi.extend(&commands);
+    }
+    dvi.push(130);
+    ended(dvi, 0)
+}
+
+/// A postamble with a name that fills the file.
+fn long_name() -> Vec<u8> {
+    let mut dvi = vec![129, 0, 0, 0, 1, 255, 255, 255, 255, 130, 131];
+    dvi.extend([0; 12]);
+    dvi.extend([0, 0, 0, 2, 0, 0, 0, 2, 223]);
+    dvi.resize(DVI_LIMIT - 14, 255);
+    dvi.push(223);
+    dvi.extend([255, 255, 255, 255, 0, 0, 0, 10, 0, 223, 223, 223, 223]);
+    dvi
+}
+
+/// A postamble without fonts, and 223 to the limit.
+fn ended(mut dvi: Vec<u8>, last: i32) -> Vec<u8> {
+    let place = dvi.len() as i32;
+    dvi.push(131);
+    for number in [last, 0, 0, -1, place] {
+        dvi.extend(number.to_be_bytes());
+    }
+    dvi.push(0);
+    dvi.resize(DVI_LIMIT, 223);
+    dvi
+}
+
+/// The largest sheet: a font, and a character of 16 bytes for each byte that is left.
+fn needs_the_largest_sheet(implementation: Implementation) {
+    let mut dvi = vec![1; DVI_LIMIT - 27];
+    dvi[..10].copy_from_slice(&[129, 0, 0, 0, 1, 255, 255, 255, 255, 154]);
+    dvi[DVI_LIMIT - 28] = 130;
+    let dvi = ended(dvi, 0);
+    let needed = 7 + 16 * (DVI_LIMIT - 27 - 11) + 7;
+    assert_eq!((implementation.read_dvi)(&dvi, &[0; 128], &mut []), [30, needed, 0]);
+}

@@ -1,0 +1,47 @@
+//! The rules, read plainly: for comparison, with no thought of speed.
+//!
+//! Each operation gives the bytes it would write, or a refusal as (number, place).
+
+mod dvi;
+mod galley;
+mod tape;
+mod writer;
+
+pub use dvi::read_dvi;
+pub use galley::{check_galley, read_back, Character};
+pub use tape::read_tape;
+pub use writer::{target, write_dvi};
+
+pub type Refused = (usize, usize);
+
+/// Room comes last: bytes that the buffer cannot take are refused with the bytes needed.
+pub fn with_room(result: Result<Vec<u8>, Refused>, room: usize, number: usize) -> Result<Vec<u8>, Refused> {
+    let bytes = result?;
+    if bytes.len() > room {
+        return Err((number, bytes.len()));
+    }
+    Ok(bytes)
+}
+
+/// A galley's DVI file and that file's sheet: 40, 41, then 31, then 42, then 30.
+pub fn reprint(
+    galley: &[u8],
+    widths: &[i32],
+    dvi_room: usize,
+    sheet_room: usize,
+) -> Result<(Vec<u8>, Vec<u8>), Refused> {
+    check_galley(galley)?;
+    if !widths.len().is_multiple_of(128) {
+        return Err((31, 0));
+    }
+    let dvi = with_room(write_dvi(galley), dvi_room, 42)?;
+    let sheet = with_room(read_dvi(&dvi, widths), sheet_room, 30)?;
+    Ok((dvi, sheet))
+}
+
+/// A field: tag, length in two bytes, body.
+fn field(tag: u8, body: &[u8]) -> Vec<u8> {
+    let mut bytes = vec![tag, 0, body.len() as u8];
+    bytes.extend(body);
+    bytes
+}

@@ -1,0 +1,257 @@
+//! Where the rules meet: which refusal comes first, and where. Each row holds for the plain reading,
+//! the library and the quick version.
+
+use crate::compare::{LIBRARY, QUICK};
+use crate::plain;
+
+/// A row of hexadecimal bytes.
+pub fn hex(text: &str) -> Vec<u8> {
+    text.split_whitespace().map(|byte| u8::from_str_radix(byte, 16).unwrap()).collect()
+}
+
+#[test]
+fn tapes() {
+    let rows: [(&str, usize, usize); 44] = [
+        // An illegal code is 2 wherever it stands, but the earliest place decides.
+        ("FF", 2, 0),
+        ("4B", 2, 0),
+        ("40 49 4D", 2, 2),
+        ("40 5F", 2, 1),
+        ("EF FF", 3, 0),
+        // Before the first initialize nothing but 00.
+        ("00", 9, 1),
+        ("00 00 00", 9, 3),
+        ("00 01", 3, 1),
+        ("49", 3, 0),
+        ("52", 3, 0),
+        ("7F", 3, 0),
+        ("40", 9, 1),
+        ("40 00", 9, 2),
+        // After stop nothing but 00; 4 comes before 5 to 8.
+        ("40 49", 0, 7),
+        ("40 49 00 00", 0, 7),
+        ("40 49 49", 4, 2),
+        ("40 49 40", 4, 2),
+        ("40 49 01", 4, 2),
+        ("40 EF 46 49 3F", 4, 4),
+        ("40 EF 48 49 FE", 4, 4),
+        // Parked: no flash, and no escape but 16 forward; modes, sizes and leads are taken.
+        ("40 01", 5, 1),
+        ("40 46 3F", 5, 2),
+        ("40 80", 5, 1),
+        ("40 48 EF", 5, 2),
+        ("40 48 47 EF 49", 0, 7),
+        ("40 4C 7E", 7, 2),
+        ("40 4C 7F 49", 0, 7),
+        ("40 52 60 EF 01 49", 0, 16),
+        ("40 EF 52 80 40 EF 01 49", 0, 16),
+        ("40 EF 52 40 01", 5, 4),
+        // A flash: 6 before 8.
+        ("40 EF 46 3F", 6, 3),
+        ("40 EF 46 52 3F", 8, 4),
+        ("40 EF 46 45 52 3F 49", 0, 16),
+        // Initialize keeps size and height, and sets the lower half again.
+        ("40 EF 52 46 40 EF 3F 49", 0, 16),
+        ("40 6F 40 4C 60", 7, 4),
+        ("40 60 40 4C 60 49", 0, 7),
+        // The left switch, also in a double size.
+        ("40 EF 59 48 FE", 7, 4),
+        ("40 EF 59 01 F0 48 F0 01 49", 0, 25),
+        ("40 EF 48 FF", 2, 3),
+        // A lead of 0 is a motion of 0.
+        ("40 EF 4C 7F 49", 0, 7),
+        ("40 EF 4C 7E", 7, 3),
+        ("40 EF 4C 4A 7E 4C 7E 7E", 7, 7),
+        ("40 EF 52 01 02 03", 9, 6),
+        ("40 EF 52 01 02 03 49 00", 0, 34),
+    ];
+    for (tape, number, second) in rows {
+        let tape = hex(tape);
+        let expected = if number == 0 { [0, 0, second] } else { [number, second, 0] };
+        let plainly = match plain::read_tape(&tape) {
+            Ok(galley) => [0, 0, galley.len()],
+            Err((number, place)) => [number, place, 0],
+        };
+        assert_eq!(plainly, expected, "plain reading of {tape:02X?}");
+        for them in [LIBRARY, QUICK] {
+            assert_eq!((them.read_tape)(&tape, &mut [0; 64]), expected, "{} on {tape:02X?}", them.name);
+        }
+    }
+}
+
+#[test]
+fn the_right_switch_and_the_greatest_height() {
+    // 3,239 is 25 escapes of 127 and one of 64; 65,535 is 2,114 leads of 31 and one of 1.
+    let mut tape = vec![0x40, 0xEF, 0x52];
+    tape.extend([0x80; 25]);
+    tape.extend([0xFF - 64, 0x01]);
+    tape.extend([0x60; 2_114]);
+    tape.extend([0x7E, 0x01, 0x5E, 0x01, 0x49]);
+    let galley = hex("01 00 06 0C A7 00 00 11 01  01 00 06 0C A7 FF FF 11 01  01 00 06 0C 70 FF FF 1D 01
+         02 00 04 00 00 00 03");
+    assert_eq!(plain::read_tape(&tape), Ok(galley.clone()));
+    let mut buffer = [0; 34];
+    assert_eq!((LIBRARY.read_tape)(&tape, &mut buffer), [0, 0, 34]);
+    assert_eq!(buffer[..], galley[..]);
+    for code in [0xFE, 0x7E] {
+        let place = tape.len() - 1;
+        let further = [&tape[..place], &[code, 0x49]].concat();
+        assert_eq!(plain::read_tape(&further), Err((7, place)));
+        assert_eq!((LIBRARY.read_tape)(&further, &mut buffer), [7, place, 0]);
+    }
+}
+
+#[test]
+fn galleys() {
+    let rows: [(&str, usize, usize); 27] = [
+        ("", 41, 0),
+        ("02 00 04 00 00 00 00", 0, 0),
+        ("02 00 04 00 00 00", 41, 0),
+        ("02 00", 41, 0),
+        // A wrong count makes End the bad field, whatever follows.
+        ("02 00 04 00 00 00 01", 41, 0),
+        ("02 00 04 00 00 00 01 00", 41, 0),
+        ("02 00 04 00 00 00 00 00", 41, 7),
+        ("01 00 06 00 00 00 00 02 01", 41, 9),
+        ("01 00 06 00 00 00 00 02 01 02 00 04 00 00 00 01", 0, 1),
+        ("01 00 06 00 00 00 00 02 01 02 00 04 00 00 00 02", 41, 9),
+        ("01 00 06 00 00 00 00 02 01 02 00 04 00 00 00 00 00", 41, 9),
+        ("01 00 06 00 00 00 00 02 01 01 00", 41, 9),
+        ("01 00 06 00 00 00 00 02", 41, 0),
+        // Unknown tags and lengths.
+        ("00", 41, 0),
+        ("03 00 06 00 00 00 00 02 01", 41, 0),
+        ("01 00 05 00 00 00 00 02", 41, 0),
+        ("01 01 06 00 00 00 00 02 01", 41, 0),
+        ("02 00 05 00 00 00 00 00", 41, 0),
+        ("06 FF FF", 41, 0),
+        // Values at the ends of their ranges: x 3,239 and 3,240, -55 and -56, 3,184 and 3,185.
+        ("01 00 06 0C A7 FF FF 02 6C 02 00 04 00 00 00 01", 0, 1),
+        ("01 00 06 0C A8 FF FF 02 6C 02 00 04 00 00 00 01", 41, 0),
+        ("01 00 06 FF C9 00 00 77 01 02 00 04 00 00 00 01", 0, 1),
+        ("01 00 06 FF C8 00 00 77 01 02 00 04 00 00 00 01", 41, 0),
+        ("01 00 06 0C 71 00 00 77 01 02 00 04 00 00 00 01", 41, 0),
+        ("01 00 06 00 00 00 00 78 01 02 00 04 00 00 00 01", 41, 0),
+        ("01 00 06 00 00 00 00 02 00 02 00 04 00 00 00 01", 41, 0),
+        ("01 00 06 00 00 00 00 02 6D 02 00 04 00 00 00 01", 41, 0),
+    ];
+    for (galley, number, second) in rows {
+        let galley = hex(galley);
+        let expected = if number == 0 { [0, 0, second] } else { [number, second, 0] };
+        let plainly = match plain::check_galley(&galley) {
+            Ok(count) => [0, 0, count],
+            Err((number, place)) => [number, place, 0],
+        };
+        assert_eq!(plainly, expected, "plain reading of {galley:02X?}");
+        for them in [LIBRARY, QUICK] {
+            assert_eq!((them.check_galley)(&galley), expected, "{} on {galley:02X?}", them.name);
+        }
+    }
+}
+
+/// The start of a first page, number 1.
+const BOP: &str = "81 00 00 00 01 FF FF FF FF ";
+
+#[test]
+fn dvi_files() {
+    let end = |pst: &str| {
+        format!("83 00 00 00 00 00 00 00 00 00 00 00 00 FF FF FF FF 00 00 00 {pst} 00 DF DF DF DF")
+    };
+    let page = |commands: &str, pst: &str| format!("{BOP} {commands} 82 {}", end(pst));
+    let rows: [(String, usize, usize); 47] = [
+        // The first byte is a BOP.
+        ("".into(), 22, 0),
+        ("83".into(), 21, 0),
+        ("80".into(), 21, 0),
+        ("DF".into(), 21, 0),
+        ("81".into(), 22, 0),
+        ("81 00 00 00 01 00 00 00".into(), 22, 0),
+        ("81 00 00 00 01 00 00 00 00".into(), 23, 0),
+        (BOP.into(), 22, 9),
+        // What is not allowed in a page is 21, also cut short.
+        (format!("{BOP} 81"), 21, 9),
+        (format!("{BOP} 83"), 21, 9),
+        (format!("{BOP} DA"), 21, 9),
+        (format!("{BOP} DF DF DF DF"), 21, 9),
+        // A command cut short is 22 at its start, before 27.
+        (format!("{BOP} 88"), 22, 9),
+        (format!("{BOP} 88 01"), 27, 9),
+        (format!("{BOP} 8F 00 80"), 22, 9),
+        (format!("{BOP} 86 00 00 00 00 00 00 00"), 22, 9),
+        (format!("{BOP} 84"), 22, 10),
+        // Between pages BOP or PST and nothing else; a cut BOP is 22, a short postamble 29.
+        (format!("{BOP} 82"), 22, 10),
+        (format!("{BOP} 82 80"), 21, 10),
+        (format!("{BOP} 82 82"), 21, 10),
+        (format!("{BOP} 82 DA"), 21, 10),
+        (format!("{BOP} 82 81"), 22, 10),
+        (format!("{BOP} 82 81 00 00 00 02 00 00 00 01"), 23, 10),
+        (format!("{BOP} 82 81 00 00 00 02 00 00 00 00"), 22, 19),
+        (format!("{BOP} 82 83"), 29, 10),
+        (page("", "0A"), 0, 14),
+        (page("", "0B"), 29, 10),
+        (page("", "0A") + " DF", 0, 14),
+        (page("", "0A") + " DE", 29, 10),
+        // The stack.
+        (page("85", "0B"), 25, 9),
+        (page("84", "0B"), 26, 10),
+        (page("84 85", "0C"), 0, 14),
+        // Characters: a font, 0 to 127, and for the short commands a width.
+        (page("00", "0B"), 27, 9),
+        (page("9A 00", "0C"), 0, 30),
+        (page("9B 00", "0C"), 27, 10),
+        (page("89 FF FF FF FF 00", "10"), 27, 14),
+        (page("89 FF FF FF FF 88 00", "11"), 0, 30),
+        (page("D9 88 7F", "0D"), 0, 30),
+        (page("D9 88 80", "0D"), 27, 10),
+        // A font set inside a push stays after the pop.
+        (page("84 9A 85 88 01", "0F"), 0, 30),
+        // x and y as true sums, tested after each command; rules do not test their far edges.
+        (page("8E 7F FF FF FF 90 00 01", "12"), 28, 14),
+        (page("8E 7F FF FF FF 90 00 00", "12"), 0, 14),
+        (page("92 80 00 00 00 94 FF FF", "12"), 28, 14),
+        (page("8E 7F FF FF FF 86 00 00 00 00 00 00 00 01", "18"), 28, 14),
+        (page("8E 7F FF FF FF 87 7F FF FF FF 7F FF FF FF", "18"), 0, 34),
+        (page("9A 8E 7F FF FF FF 00", "11"), 28, 15),
+        (page("8D 91 95 99", "0E"), 0, 14),
+    ];
+    let widths = [1; 128];
+    for (dvi, number, second) in rows {
+        let dvi = hex(&dvi);
+        let expected = if number == 0 { [0, 0, second] } else { [number, second, 0] };
+        let plainly = match plain::read_dvi(&dvi, &widths) {
+            Ok(sheet) => [0, 0, sheet.len()],
+            Err((number, place)) => [number, place, 0],
+        };
+        assert_eq!(plainly, expected, "plain reading of {dvi:02X?}");
+        for them in [LIBRARY, QUICK] {
+            assert_eq!((them.read_dvi)(&dvi, &widths, &mut [0; 64]), expected, "{} on {dvi:02X?}", them.name);
+        }
+    }
+}
+
+/// A sheet by hand: a page -3; a rule of each kind around moves, a push and a pop; two characters.
+#[test]
+fn a_sheet_by_hand() {
+    let dvi = hex("81 FF FF FF FD FF FF FF FF
+         9A  8C 00 05  84  86 00 00 00 07 FF FF FF FE  8D  93 01 00 00  87 00 00 00 00 00 00 00 09
+         41  85  88 42  82
+         83 00 00 00 00 00 00 00 00 00 00 00 00
+         00 00 00 41 FF FF FF FF FF DF DF FF
+         FF FF FF FF 00 00 00 2A 00 DF DF DF DF DF");
+    // Right 5; a vertical rule of width -2; right 5 again by W0; down 65,536; the character A (41) at
+    // 8, 65,536, after which x is 8 + 3 inside the push; after the pop B (42) at 5, 0.
+    let sheet = hex("05 00 04 FF FF FF FD
+         04 00 11 00 00 00 00 05 00 00 00 00 00 00 00 07 FF FF FF FE
+         04 00 11 01 00 00 00 08 00 01 00 00 00 00 00 00 00 00 00 09
+         03 00 0D 00 00 00 08 00 01 00 00 00 00 00 00 41
+         03 00 0D 00 00 00 05 00 00 00 00 00 00 00 00 42
+         02 00 04 00 00 00 05");
+    let widths = [3; 128];
+    assert_eq!(plain::read_dvi(&dvi, &widths), Ok(sheet.clone()));
+    let mut buffer = vec![0; sheet.len()];
+    for them in [LIBRARY, QUICK] {
+        assert_eq!((them.read_dvi)(&dvi, &widths, &mut buffer), [0, 0, sheet.len()]);
+        assert_eq!(buffer, sheet);
+    }
+}
