@@ -12,7 +12,7 @@ mul-put-character : tie.Need-mul-put-character
 mul-put-character c = let s = c .before .before .before in omega (arith, s .pre (c .before .if1 .taken), s .good)
 
 put-character-requires : tie.Need-put-character-requires
-put-character-requires c κs = c .before .before .before .pre (c .before .if1 .taken)
+put-character-requires c κs = omega (arith, c .before .before .before .pre (c .before .if1 .taken))
 
 same-length : tie.Need-same-length
 same-length c = search needs
