@@ -102,10 +102,10 @@ refused-by : (c : tie.After-known-told) → let a = c .before .before .before .b
 refused-by c = sym (ap outcomeOf (c .before .written .given .1)) ∙ c .before .before .before .before .before .write-dvi .ensures .0
 
 slice-reshare-prefix-read-dvi : tie.Need-slice-reshare-prefix-read-dvi
-slice-reshare-prefix-read-dvi c = part-fits c
+slice-reshare-prefix-read-dvi c = omega (arith, part-fits c)
 
 slice-aggregate-read-dvi : tie.Need-slice-aggregate-read-dvi
-slice-aggregate-read-dvi c = sym (length-take-le _ _ (part-fits (c .before)))
+slice-aggregate-read-dvi c = sym (length-take-le _ _ (slice-reshare-prefix-read-dvi (c .before)))
 
 read-dvi-requires : tie.Need-read-dvi-requires
 read-dvi-requires c κs = search needs
