@@ -77,6 +77,38 @@ leading-fits =
     leading-ind (λ m s k. 9 * k ≤ length s) (λ s. omega arith) (λ m s e. omega arith)
     (λ m k s e r. let l = read-character s e .long in let d = length-drop 9 s in omega arith)
 
+-- after n of them, the count goes on in what follows
+leading-split : (n : ℕ) (s : List ℕ) → leading n s ≡ n → (r : ℕ) → leading (n + r) s ≡ n + leading r (drop (9 * n) s)
+leading-split =
+    leading-ind (λ n s k. k ≡ n → (r : ℕ) → leading (n + r) s ≡ n + leading r (drop (9 * n) s))
+    (λ s h r. let x : 0 + r ≡ r = omega arith in let y : 0 + leading r s ≡ leading r s = omega arith in rw (x, y))
+    (λ n s e h r. absurd (omega arith))
+    (λ n k s e split h r.
+    let x : suc n + r - 1 ≡ n + r = omega arith in
+    let y : 9 * suc n ≡ 9 + 9 * n = omega arith in
+    let i = split (omega arith) r in
+    leading-more (suc n + r) s (λ q. omega arith) e
+    ∙ rw (x, y, ← drop-drop (9 * n) 9 s) (omega (arith, i)))
+
+module _ (n : ℕ) (s : List ℕ) (h : leading n s ≡ n) where
+  leading-after : (m : ℕ) → n ≤ m → leading m s ≡ n + leading (m - n) (drop (9 * n) s)
+  leading-after m l = let x : m ≡ n + (m - n) = omega arith in ap (λ (k : ℕ). leading k s) x ∙ leading-split n s h (m - n)
+
+  -- one more
+  pub leading-next : isCharacter (drop (9 * n) s) ≡ true → leading (n + 1) s ≡ n + 1
+  leading-next e =
+      let x = leading-more 1 (drop (9 * n) s) (λ q. omega arith) e in
+      let y = leading-none (drop 9 (drop (9 * n) s)) in
+      leading-split n s h 1 ∙ omega (arith, x, y)
+
+  -- no more
+  pub leading-last : (m : ℕ) → n ≤ m → isCharacter (drop (9 * n) s) ≡ false → leading m s ≡ n
+  leading-last m l e = let x = leading-stop (m - n) (drop (9 * n) s) e in leading-after m l ∙ omega (arith, x)
+
+  -- and those of the slice's part after them
+  pub leading-part : (m : ℕ) → n ≤ m → leading (m - n) (take (length s - 9 * n) (drop (9 * n) s)) + n ≡ leading m s
+  leading-part m l = rw (part (9 * n) s, leading-after m l) (omega arith)
+
 same-place : (s : List ℕ) (at n : ℕ) → countOutcome n (reading s at n) ≡ countOutcome (n + 0) (reading (drop (9 * 0) s) (at + 9 * 0) (n + 0))
 same-place s at n = let y : at + 9 * 0 ≡ at = omega arith in let z : n + 0 ≡ n = omega arith in rw (y, z)
 

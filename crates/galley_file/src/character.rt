@@ -4,7 +4,9 @@ use measure::Units;
 use octets::field;
 use octets::number;
 ghost use mathlib.Core.Path.{_≡_};
+ghost use mathlib.Core.Bool.{_&&_};
 ghost use Prim.Native.Nat.{_+_, _≤_};
+ghost use lib.Dec.{leb, ltb};
 ghost use lib.ListN.{length};
 ghost use Rattle.octets.specs.Write.{Wrote};
 ghost use Rattle.measure.specs.Place.{heightEnd, within};
@@ -30,6 +32,9 @@ const FONTS: u8 = 120;
 
 const LAST_CODE: u8 = 108;
 
+// The last x that is valid in every size.
+const LAST_X: u32 = 3_184;
+
 // Whether x is valid in a single or a double size.
 fn valid_x(double: bool, x: Units) -> bool
     ensures { λ r. ⌜ r ≡ validX double (x .0) ⌝ }
@@ -53,8 +58,9 @@ fn valid_height(h: Quanta) -> bool
     }
 }
 
-pub fn is_valid(c: Character) -> bool
-    ensures { λ r. ⌜ r ≡ valid c ⌝ }
+// Whether c is valid, where `across` says whether its x is.
+fn valid_beside_x(c: Character, across: bool) -> bool
+    ensures { λ r. ⌜ r ≡ (ltb (c .font) 120 && leb 1 (c .code) && leb (c .code) 108 && across && within heightEnd (c .height .0)) ⌝ }
 {
     let font = c.font;
     let code = c.code;
@@ -67,11 +73,20 @@ pub fn is_valid(c: Character) -> bool
     if LAST_CODE < code {
         return false;
     }
-    if valid_x(crate::font::is_double(crate::font::size_index(font)), c.x) {
+    if across {
         valid_height(c.height)
     } else {
         false
     }
+}
+
+pub fn is_valid(c: Character) -> bool
+    ensures { λ r. ⌜ r ≡ valid c ⌝ }
+{
+    valid_beside_x(
+        c,
+        valid_x(crate::font::is_double(crate::font::size_index(c.font)), c.x),
+    )
 }
 
 // The character whose field starts at i.
@@ -89,12 +104,17 @@ pub fn character_at(s: &[u8], i: usize) -> Character
     }
 }
 
-// Whether s starts with the whole field of a valid character.
+// Whether s starts with the whole field of a valid character. An x of 0 to LAST_X is valid in every size.
 pub fn is_character(s: &[u8]) -> bool
     ensures { λ r. ⌜ r ≡ isCharacter (now (s .entry)) ⌝ }
 {
     if field::starts_field(s, TAG, LENGTH) {
-        is_valid(character_at(s, 0))
+        let c = character_at(s, 0);
+        if number::nat2_at(s, field::HEAD) <= LAST_X {
+            valid_beside_x(c, true)
+        } else {
+            is_valid(c)
+        }
     } else {
         false
     }

@@ -8,6 +8,7 @@ use octets::answer::Answer;
 use octets::field;
 ghost use mathlib.Core.Path.{_≡_};
 ghost use Prim.Native.Nat.{_+_, _≤_};
+ghost use lib.Dec.{eqb};
 ghost use lib.ListN.{length};
 ghost use Rattle.octets.specs.Answer.{outcomeOf};
 ghost use Rattle.galley_file.specs.Galley.{maxGalley, reading, readEnd, leading};
@@ -25,6 +26,12 @@ pub const MAX_GALLEY: usize = 9_437_191;
 // A galley has at most 1,024 runs of 1,024 characters.
 const MAX_DEPTH: usize = 1_024;
 
+// The characters of a block.
+const BLOCK: usize = 64;
+
+// The bytes of their fields.
+const BLOCK_BYTES: usize = 576;
+
 // The number of character fields that s starts with, at most `room`. The part after a field goes to this function again.
 fn leading_characters(s: &[u8], room: usize) -> usize
     ensures { λ r. ⌜ r ≡ leading room (now (s .entry)) ⌝ }
@@ -36,6 +43,35 @@ fn leading_characters(s: &[u8], room: usize) -> usize
         leading_characters(&s[character::FIELD..], room - 1) + 1
     } else {
         0
+    }
+}
+
+// Whether s starts with a block: BLOCK character fields.
+fn starts_block(s: &[u8]) -> bool
+    ensures { λ r. ⌜ r ≡ eqb (leading 64 (now (s .entry))) 64 ⌝ }
+{
+    let mut i = 0;
+    while i < BLOCK {
+        let start = character::FIELD * i;
+        if !character::is_character(&s[start..]) {
+            return false;
+        }
+        i += 1;
+    }
+    true
+}
+
+// The same number, with one call for each block. The part after a block goes to this function again.
+fn leading_blocks(s: &[u8], room: usize) -> usize
+    ensures { λ r. ⌜ r ≡ leading room (now (s .entry)) ⌝ }
+{
+    if room < BLOCK {
+        return leading_characters(s, room);
+    }
+    if starts_block(s) {
+        leading_blocks(&s[BLOCK_BYTES..], room - BLOCK) + BLOCK
+    } else {
+        leading_characters(s, room)
     }
 }
 
@@ -59,7 +95,7 @@ fn check_fields(s: &[u8], at: usize, count: usize) -> Answer
     requires { ⌜ (at + length (now s) ≤ maxGalley) × (count ≤ at) ⌝ }
     ensures { λ r. ⌜ outcomeOf r ≡ countOutcome count (reading (now (s .entry)) at count) ⌝ }
 {
-    let n = leading_characters(s, MAX_DEPTH);
+    let n = leading_blocks(s, MAX_DEPTH);
     let start = character::FIELD * n;
     let rest = &s[start..];
     if n == MAX_DEPTH {

@@ -22,7 +22,7 @@ counted : (c : tie.After-checked2) → accepted (c .checked2 .given .0 .0) ≡ c
 counted c = sym (ap outcomeOf (c .checked2 .given .1)) ∙ c .before .before .check-galley .ensures
 
 character-at-requires : tie.Need-character-at-requires
-character-at-requires c κs = back-room _ _ _ (counted (c .before .before)) (c .if1 .taken)
+character-at-requires c κs = let h = back-room _ _ _ (counted (c .before .before)) (c .if1 .taken) in omega arith
 
 mul-character-at : tie.Need-mul-character-at
 mul-character-at c = let h = back-room _ _ _ (counted (c .before .before)) (c .if1 .taken) in omega arith
