@@ -3,5 +3,6 @@ mod Commands
 mod Pages
 mod Postambles
 mod Steps
+mod Puts
 mod Passes
 mod Results

@@ -17,9 +17,10 @@ use Rattle.dvi.specs.File as F
 use Rattle.dvi.specs.File.{Shown, refusedAt, shows, refuse, goOn, finish, showsFirst, run, readDvi}
 use Rattle.dvi.specs.FileLaws.{Low, Sound, step-sound, showsFirst-nil, showsFirst-append, stepHere, run-next, run-refuse, run-finish, run-end}
 use Rattle.dvi.specs.Sheet.{markField, markFields, sheet}
-use Rattle.dvi.specs.SheetLaws.{fieldSize, length-markField, fieldSize-most, markFields-append, markFields-more, length-sheet}
+use Rattle.dvi.specs.SheetLaws.{length-markField, fieldSize-most, markFields-append, markFields-more, length-sheet}
 use Rattle.dvi_reader.specs.Stack.{stackSize}
 use Rattle.dvi_reader.specs.Step.{stateOf, depthOf}
+use Rattle.dvi_reader.specs.Put.{Put}
 use Rattle.dvi_reader.specs.Pass.{readingOf, accepts, marksOf, Roomy, Passed}
 use Rattle.dvi_reader.specs.declared.Reading.the-variants.{Needs, Fault}
 use Rattle.dvi_reader.specs.declared.step.State.{State}
@@ -122,17 +123,17 @@ module _ {w : Bool} {first out : List ℕ} {ms : List Mark} {at to count : ℕ} 
       subst (λ (ns : List Mark). Filled w first out ns k to count) (sym (append-nil ms))
       (record { wrote = p .wrote; place-is = p .place-is; counted = p .counted; few = omega (arith, p .few); near = omega (arith, p .near); same = p .same })
 
-  pub filled-more : (k n : ℕ) (m : Mark) {later : List ℕ} → at < k → n ≡ fieldSize m → later ≡ putIf w out to (markField m) → length later ≡ length out
-      → Filled w first later (ms ++ (m ∷ [])) k (to + n) (count + 1)
-  filled-more k n m h e f g =
+  pub filled-more : (k : ℕ) (m : Mark) {later : List ℕ} {next : ℕ} → at < k → Put w out to (markField m) later next → length later ≡ length out
+      → Filled w first later (ms ++ (m ∷ [])) k next (count + 1)
+  filled-more k m h f g =
       let d = ap length (markFields-more ms m) in
       let j = length-append (markFields ms) (markField m) in
       record {
-        wrote = put-more w first (markFields ms) (markField m) (p .wrote) (p .place-is) f ∙ ap (putIf w first 0) (sym (markFields-more ms m));
-        place-is = omega (arith, p .place-is, length-markField m);
+        wrote = put-more w first (markFields ms) (markField m) (p .wrote) (p .place-is) (f .buffer) ∙ ap (putIf w first 0) (sym (markFields-more ms m));
+        place-is = omega (arith, p .place-is, f .place);
         counted = omega (arith, p .counted, length-append ms (m ∷ []));
         few = omega (arith, p .few);
-        near = omega (arith, p .near, fieldSize-most m);
+        near = omega (arith, p .near, f .place, length-markField m, fieldSize-most m);
         same = g ∙ p .same;
       }
 

@@ -5,4 +5,5 @@ pub mod Command
 pub mod Page
 pub mod Postamble
 pub mod Step
+pub mod Put
 pub mod Pass

@@ -10,7 +10,6 @@ mod step;
 use octets::answer;
 use octets::answer::Answer;
 use octets::field;
-use page::Mark;
 use step::State;
 use step::Stepped;
 ghost use mathlib.Core.Path.{_≡_};
@@ -20,9 +19,7 @@ ghost use lib.ListN.{length};
 ghost use Rattle.octets.specs.Answer.{outcomeOf, outcome, after};
 ghost use Rattle.octets.specs.Field.{endField};
 ghost use Rattle.dvi.specs.File.{readDvi};
-ghost use Rattle.dvi.specs.Sheet.{maxDvi, markField, sheetResult};
-ghost use Rattle.dvi.specs.SheetLaws.{fieldSize};
-ghost use Rattle.dvi_reader.specs.Page.{markOf};
+ghost use Rattle.dvi.specs.Sheet.{maxDvi, sheetResult};
 ghost use Rattle.octets.specs.Write.{putIf};
 ghost use Rattle.dvi_reader.specs.Pass.{Roomy, Passed};
 
@@ -32,16 +29,6 @@ pub const MAX_DVI: usize = 33_554_432;
 pub enum Reading {
     Needs(usize),
     Fault(u8, usize),
-}
-
-// Writes a mark's field, if writing.
-fn show_mark(out: &mut [u8], to: usize, m: Mark, writing: bool)
-    requires { ⌜ (writing ≡ true → to + fieldSize (markOf m) ≤ length (now out)) ⌝ }
-    ensures { λ _. ⌜ now (out .exit) ≡ putIf writing (now (out .entry)) to (markField (markOf m)) ⌝ }
-{
-    if writing {
-        sheet::put_mark(out, to, m);
-    }
 }
 
 // Writes End, if writing.
@@ -76,8 +63,8 @@ fn pass(dvi: &[u8], widths: &[i32], out: &mut [u8], writing: bool) -> Reading
                 at = at + 1 + n;
             }
             Stepped::Show(t, m, n) => {
-                show_mark(out, to, m, writing);
-                to = to + sheet::field_size(m);
+                let next = sheet::show_mark(out, to, m, writing);
+                to = next;
                 count = count + 1;
                 q = t;
                 at = at + 1 + n;

@@ -13,7 +13,7 @@ use Rattle.dvi.specs.Page.{Mark}
 use Rattle.dvi.specs.File.{goOn}
 use Rattle.dvi.specs.FileLaws.{stepHere}
 use Rattle.dvi.specs.Sheet.{markField, markFields}
-use Rattle.dvi.specs.SheetLaws.{fieldSize, length-markField, fieldSize-most, markFields-more}
+use Rattle.dvi.specs.SheetLaws.{fieldSize, length-markField, markFields-more}
 use Rattle.dvi_reader.specs.Page.{markOf}
 use Rattle.dvi_reader.specs.Step.{stateOf, stepOf}
 use Rattle.dvi_reader.specs.declared.step.State.{State}
@@ -133,44 +133,36 @@ enum-known-r-3 : tie.Need-enum-known-r-3 Inv-loop μ-loop
 enum-known-r-3 c = search needs
 
 show-mark-requires : tie.Need-show-mark-requires Inv-loop μ-loop
-show-mark-requires c κs w =
-    let p = filled (c .before .before .before .before .before) in
-    omega (arith, room (c .before) w, p .place-is, p .same)
-
-field-size-requires : tie.Need-field-size-requires Inv-loop μ-loop
-field-size-requires c κs = search needs
-
-add-to : tie.Need-add-to Inv-loop μ-loop
-add-to c =
-    let k = c .before .before .before .before .before .before .before .before .before in
-    let m = markOf (c .before .before .before .before .before .before .r3 .given .0 .1 .0) in
-    record { fits = omega (arith, c .field-size .ensures, fieldSize-most m, filled k .near, standing k .within, start k .pre .0) }
+show-mark-requires c κs =
+    let k = c .before .before .before .before .before in
+    let p = filled k in
+    (omega (arith, p .near, standing k .within, start k .pre .0), λ w. omega (arith, room (c .before) w, p .place-is, p .same))
 
 add-count : tie.Need-add-count Inv-loop μ-loop
 add-count c =
-    let k = c .before .before .before .before .before .before .before .before .before in
+    let k = c .before .before .before .before .before .before .before .before in
     record { fits = omega (arith, filled k .few, standing k .within, start k .pre .0) }
 
 add-at-3 : tie.Need-add-at-3 Inv-loop μ-loop
 add-at-3 c =
-    let t = c .before .before .before .before .before in
+    let t = c .before .before .before .before in
     record { fits = omega (arith, showing t .within, start (t .before .before .before .before) .pre .0) }
 
 add-at-4 : tie.Need-add-at-4 Inv-loop μ-loop
 add-at-4 c =
-    let t = c .before .before .before .before .before in
+    let t = c .before .before .before .before in
     record { fits = omega (arith, showing t .within, start (t .before .before .before .before) .pre .0) }
 
 loop-less-2 : tie.Need-loop-less-2 Inv-loop μ-loop
 loop-less-2 c =
-    let t = c .before .before .before .before .before in
+    let t = c .before .before .before .before in
     omega (arith, showing t .within, t .before .before .before .before .before .before .loop-test .taken)
 
 loop-again-2 : tie.Need-loop-again-2 Inv-loop μ-loop
 loop-again-2 c =
-    let t = c .before .before .before .before .before in
-    let p = c .before .before .before .show-mark in
-    (_, (showing t, filled-more (filled (t .before .before .before .before)) _ (c .field-size .result) (markOf (t .before .r3 .given .0 .1 .0)) (omega arith) (c .field-size .ensures) (p .ensures) (p .kept .0)))
+    let t = c .before .before .before .before in
+    let p = c .before .before .show-mark in
+    (_, (showing t, filled-more (filled (t .before .before .before .before)) _ (markOf (t .before .r3 .given .0 .1 .0)) (omega arith) (p .ensures) (p .kept .0)))
 
 enum-told : tie.Need-enum-told Inv-loop μ-loop
 enum-told c = search needs
@@ -222,8 +214,6 @@ pass-spec =
     loop-again
     enum-known-r-3
     show-mark-requires
-    field-size-requires
-    add-to
     add-count
     add-at-3
     add-at-4

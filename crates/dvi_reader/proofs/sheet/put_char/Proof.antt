@@ -19,9 +19,9 @@ put-two-requires : tie.Need-put-two-requires
 unfolding bytes
 put-two-requires c κs = let w = c .before .before .before .put-head .ensures in omega (arith, w .next-is, length-wrote w)
 
-put-signed4-requires : tie.Need-put-signed4-requires
+put-number-requires : tie.Need-put-number-requires
 unfolding bytes signedBytes
-put-signed4-requires c κs =
+put-number-requires c κs =
     let w = then (c .before .before .before .before .before .before .before .put-head .ensures) (c .before .before .before .put-two .ensures) in
     omega (arith, w .next-is, length-wrote w)
 
@@ -29,7 +29,7 @@ put-byte-requires : tie.Need-put-byte-requires
 unfolding bytes signedBytes
 put-byte-requires c κs =
     let w₁ = then (c .before .before .before .before .before .before .before .before .before .before .before .put-head .ensures) (c .before .before .before .before .before .before .before .put-two .ensures) in
-    let w = then w₁ (c .before .before .before .put-signed4 .ensures) in
+    let w = then w₁ (c .before .before .before .put-number .ensures) in
     omega (arith, w .next-is, length-wrote w)
 
 same-length : tie.Need-same-length
@@ -42,7 +42,7 @@ returns c =
     let h = k .before .before .before .before in
     let f = h .before .before .before .fits in
     let place = named (λ i. signedBytes 4 (plain (f .x) i) ++ signedBytes 4 (plain (f .y) i)) (k .put-two .ensures) in
-    let font = named (ap (signedBytes 4) (plain (f .font))) (c .before .before .before .before .before .before .put-signed4 .ensures) in
+    let font = named (ap (signedBytes 4) (plain (f .font))) (c .before .before .before .before .before .before .put-number .ensures) in
     then (then (then (h .put-head .ensures) place) font) (c .before .before .put-byte .ensures)
 
 pub put-char-spec : {M : Type 1} → statement M
@@ -51,7 +51,7 @@ put-char-spec =
     (tie.spec
     put-head-requires
     put-two-requires
-    put-signed4-requires
+    put-number-requires
     put-byte-requires
     same-length
     returns)

@@ -14,9 +14,9 @@ use Rattle.dvi_reader.proofs.sheet.put_page.Tie as tie
 put-head-requires : tie.Need-put-head-requires
 put-head-requires c κs = search needs
 
-put-signed4-requires : tie.Need-put-signed4-requires
+put-number-requires : tie.Need-put-number-requires
 unfolding bytes
-put-signed4-requires c κs = let w = c .before .before .before .put-head .ensures in omega (arith, w .next-is, length-wrote w)
+put-number-requires c κs = let w = c .before .before .before .put-head .ensures in omega (arith, w .next-is, length-wrote w)
 
 same-length : tie.Need-same-length
 same-length c = search needs
@@ -25,7 +25,7 @@ returns : tie.Need-returns
 unfolding markField field signedBytes bytes
 returns c =
     let s = c .before .before .before .before .before .before .before .before .before in
-    then (c .before .before .before .before .before .before .put-head .ensures) (named (ap (signedBytes 4) (plain (s .fits .n))) (c .before .before .put-signed4 .ensures))
+    then (c .before .before .before .before .before .before .put-head .ensures) (named (ap (signedBytes 4) (plain (s .fits .n))) (c .before .before .put-number .ensures))
 
 pub put-page-spec : {M : Type 1} → statement M
-put-page-spec = tie.close (tie.spec put-head-requires put-signed4-requires same-length returns)
+put-page-spec = tie.close (tie.spec put-head-requires put-number-requires same-length returns)
