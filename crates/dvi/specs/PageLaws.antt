@@ -1,5 +1,6 @@
 -- What 002 and document 01 say of a page holds of its definition, and no effect makes the stack too high.
 --     unset-char, unset-horzChar     no character is set before a font command
+--     horzChar-widths                HORZCHAR asks for no width
 --     push-pop                       PUSH and POP give back the page
 --     horzChar-stays                 HORZCHAR changes nothing on the page
 --     effect-stack                   the stack has at most 200 entries
@@ -24,6 +25,11 @@ use Rattle.dvi.specs.Page.{maxStack, fontChars, Numbers, Page, newPage, 
 pub unset-char : (ws : List ℤ) (c : ℕ) → effect ws newPage (setChar c) ≡ fault cannotSet
 unfolding effect newPage setInFont
 unset-char ws c = refl
+
+-- HORZCHAR is set in a font beyond the table too: whatever the widths, it does the same
+pub horzChar-widths : (ws vs : List ℤ) (p : Page) (c : ℤ) → effect ws p (horzChar c) ≡ effect vs p (horzChar c)
+unfolding effect
+horzChar-widths ws vs p c = refl
 
 pub unset-horzChar : (ws : List ℤ) (c : ℤ) → effect ws newPage (horzChar c) ≡ fault cannotSet
 unfolding effect newPage setStill
