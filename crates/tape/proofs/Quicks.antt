@@ -1,15 +1,19 @@
 -- The codes that are taken without the whole step: 00, flashes and escapes.
 -- Assumes nothing.
-use mathlib.Core.Path.{_≡_, refl, sym, _∙_}
-use mathlib.Core.Bool.{Bool, true, false}
-use Prim.Native.Nat.{ℕ, _-_, _%_, _≤_, _<_}
+use mathlib.Core.Path.{_≡_, refl, sym, ap, _∙_}
+use mathlib.Core.Bool.{Bool, true, false, cond}
+use Prim.Native.Nat.{ℕ, zero, suc, _-_, _*_, _/_, _%_, _≤_, _<_}
 use native.Mathlib.Omega.{arith}
-use borrow.Author.Tests.{lt-ltb, le-ltb, lt-leb, ne-eqb}
-use lib.IntN.{_+ℤ_}
+use borrow.Author.Tests.{lt-ltb, le-ltb, lt-leb, ne-eqb, ltb-true, ltb-false, eqb-true, eqb-false}
+use lib.Dec.{ltb, eqb}
+use lib.IntN.{ℤ, pos, _+ℤ_}
+use Rattle.integers.specs.Parts.{integers, sum-parts}
 use Rattle.measure.specs.declared.Units.{Units}
 use Rattle.measure.specs.declared.Carriage.the-variants as carriage
 use Rattle.measure.specs.Place.{directedBy, carriageAt}
+use Rattle.measure.specs.PlaceLaws.{carriage-in}
 use Rattle.measure.specs.Target.{xOf}
+use Rattle.galley_file.specs.declared.character.Character.{Character}
 use Rattle.galley_file.specs.Font.{isDouble}
 use Rattle.tape.specs.declared.code.Order.the-variants.{Flash, Escape}
 use Rattle.tape.specs.declared.code.Code.the-variants.{Ignored, Ordered}
@@ -18,7 +22,7 @@ use Rattle.tape.specs.declared.machine.Effect.the-variants.{Moved, Flash
 use Rattle.tape.specs.declared.quick.Derived.{Derived}
 use Rattle.tape.specs.Code.{codeOf}
 use Rattle.tape.specs.Machine.{pastHalf, codeIn, orderOf, effectOf}
-use Rattle.tape.specs.Quick.{placed, Running, halfSize, Flashing, DerivedFrom}
+use Rattle.tape.specs.Quick.{placed, Running, halfSize, Flashing, DerivedFrom, Takes, escapeBy, flashesIn}
 use Rattle.tape.proofs.Steps.{step-ignored, order-taken, flash-set, escape-at}
 
 pub half-taken : (u : Bool) (v : ℕ) → v ≤ halfSize u → (v < 64) × (pastHalf u v ≡ false)
@@ -57,11 +61,77 @@ module _ (s : State) (b : ℕ) where
   quick-at r h k c e =
       sym (escape-at s (127 - b % 128) (r .unparked) c e ∙ order-taken s b (code-escape b h k) (r .begun) (r .unstopped))
 
+-- ---- codes that are counted
+
+pub small-product : (q k : ℕ) → q < 2 → k ≤ 127 → q * k < 256
+small-product zero k h l = omega arith
+small-product (suc zero) k h l = omega arith
+small-product (suc (suc q)) k h l = absurd (omega arith)
+
+no-way : (q k : ℕ) → q ≡ 0 → q * k ≡ 0
+no-way zero k e = omega arith
+no-way (suc q) k e = absurd (omega arith)
+
+one-way : (q k : ℕ) → q ≡ 1 → q * k ≡ k
+one-way zero k e = absurd (omega arith)
+one-way (suc zero) k e = omega arith
+one-way (suc (suc q)) k e = absurd (omega arith)
+
+stands : (back : Bool) (z : ℤ) → z +ℤ directedBy back 0 ≡ z
+unfolding directedBy
+stands true z = omega (integers, sum-parts z (pos 0))
+stands false z = omega (integers, sum-parts z (pos 0))
+
+pub one-at-most : (b : ℕ) → flashesIn b ≤ 1
+one-at-most b = go (eqb b 0)
+  where
+    go : (t : Bool) → cond t 0 (1 - b / 128) ≤ 1
+    go true = omega arith
+    go false = omega arith
+
+-- a code that leaves the carriage at c: it moves, or it sets a character and stands
+pub data Counted (s : State) (b : ℕ) (c : Units) : Type 0 where
+  moves : effectOf s b ≡ Moved (placed s c) → flashesIn b ≡ 0 → Counted s b c
+  sets : (k : Character) → effectOf s b ≡ Flashed k → placed s c ≡ s → flashesIn b ≡ 1 → Counted s b c
+
+module _ (s : State) (b : ℕ) (d : Derived) (f : DerivedFrom s d) (t : Takes d b) (c : Units) (e : carriageAt (s .carriage .0 +ℤ directedBy (s .modes .«escape_back») (escapeBy b)) ≡ carriage.At c) where
+  stays : b < 128 → s .carriage ≡ c
+  stays l =
+      let back = s .modes .«escape_back» in
+      let z = s .carriage .0 in
+      let here : z +ℤ directedBy back (escapeBy b) ≡ z = ap (λ (n : ℕ). z +ℤ directedBy back n) (no-way (b / 128) (127 - b % 128) (omega arith)) ∙ stands back z in
+      λ i. record { 0 = sym (carriage-in (z +ℤ directedBy back (escapeBy b)) c e .0 ∙ here) i }
+
+  pub counted : Counted s b c
+  counted = high (ltb b 128) refl
+    where
+      low : b < 128 → (u : Bool) → eqb b 0 ≡ u → Counted s b c
+      low l true q =
+          moves (quick-ignored s b (eqb-true b 0 q) ∙ ap (λ (u : Units). Moved (placed s u)) (stays l)) (ap (λ (u : Bool). cond u 0 (1 - b / 128)) q)
+      low l false q =
+          let n = eqb-false b 0 q in
+          let k : 1 ≤ b = omega arith in
+          let last = t .flash l in
+          sets _ (quick-set s b d (f .flashing (omega arith)) k last _ _ refl refl) (ap (placed s) (sym (stays l)))
+          (ap (λ (u : Bool). cond u 0 (1 - b / 128)) q ∙ omega arith)
+
+      high : (u : Bool) → ltb b 128 ≡ u → Counted s b c
+      high true q = low (ltb-true b 128 q) (eqb b 0) refl
+      high false q =
+          let m : 128 ≤ b = ltb-false b 128 q in
+          let last = t .escape m in
+          let most = f .escapes in
+          moves
+          (quick-at s b (f .escaping (omega arith)) m (omega arith) c
+          (ap (λ (n : ℕ). carriageAt (s .carriage .0 +ℤ directedBy (s .modes .«escape_back») n)) (sym (one-way (b / 128) (127 - b % 128) (omega arith))) ∙ e))
+          (ap (λ (u : Bool). cond u 0 (1 - b / 128)) (ne-eqb b 0 (not-zero b (omega arith))) ∙ omega arith)
+
 -- what is derived from a state stays where only the carriage moves
 pub still-derived : (s : State) (c : Units) {d : Derived} → DerivedFrom s d → DerivedFrom (placed s c) d
 still-derived s c f =
     record {
-      running-is = λ h. let r = f .running-is h in record { begun = r .begun; unstopped = r .unstopped; unparked = r .unparked };
+      escapes = f .escapes;
+      escaping = λ h. let r = f .escaping h in record { begun = r .begun; unstopped = r .unstopped; unparked = r .unparked };
       flashing = λ h.
           let g = f .flashing h in
           record {

@@ -1,12 +1,14 @@
 -- What the quick step's contracts cite; nothing here is part of what a call promises.
 use mathlib.Core.Path.{_≡_}
-use mathlib.Core.Bool.{Bool, true, false}
-use Prim.Native.Nat.{ℕ, _≤_, _<_}
+use mathlib.Core.Bool.{Bool, true, false, cond}
+use Prim.Native.Nat.{ℕ, _-_, _*_, _/_, _%_, _≤_, _<_}
+use lib.Dec.{eqb}
 use Rattle.measure.specs.declared.Units.{Units}
 use Rattle.galley_file.specs.Font.{fontNumber}
 use Rattle.tape.specs.declared.machine.State.{State}
 use Rattle.tape.specs.declared.machine.Effect.the-variants.{Moved, Flashed}
 use Rattle.tape.specs.declared.quick.Derived.{Derived}
+use Rattle.tape.specs.declared.quick.Stretch.{Stretch}
 use Rattle.tape.specs.declared.quick.Quick.{Quick}
 use Rattle.tape.specs.declared.quick.Quick.the-variants as quick
 use Rattle.tape.specs.Machine.{fontIn, effectOf}
@@ -31,8 +33,21 @@ pub record Flashing (s : State) (d : Derived) : Type 0 where
 
 -- what is derived from a state: nothing of it is about the carriage or the height
 pub record DerivedFrom (s : State) (d : Derived) : Type 0 where
-  pub running-is : d .running ≡ true → Running s
+  pub escapes : d .«last_escape» ≤ 254
+  pub escaping : 1 ≤ d .«last_escape» → Running s
   pub flashing : 1 ≤ d .«last_flash» → Flashing s d
+
+-- a code within the escapes, or within 00 and the flashes, that are taken
+pub record Takes (d : Derived) (b : ℕ) : Type 0 where
+  pub escape : 128 ≤ b → b ≤ d .«last_escape»
+  pub flash : b < 128 → b ≤ d .«last_flash»
+
+-- how far 00, a flash or an escape moves, and how many characters it sets
+abbrev pub escapeBy : ℕ → ℕ
+escapeBy b = (b / 128) * (127 - b % 128)
+
+abbrev pub flashesIn : ℕ → ℕ
+flashesIn b = cond (eqb b 0) 0 (1 - b / 128)
 
 -- a state with its carriage elsewhere
 abbrev pub placed : State → Units → State
@@ -43,3 +58,7 @@ abbrev pub Quickly : State → ℕ → Quick → Type 0
 Quickly s b (quick.Set c) = effectOf s b ≡ Flashed c
 Quickly s b (quick.At place) = effectOf s b ≡ Moved (placed s place)
 Quickly s b quick.Slow = Unit {0}
+
+-- a stretch of no codes
+abbrev pub stretchAt : State → ℕ → ℕ → Stretch
+stretchAt s i n = record { next = i; carriage = s .carriage; count = n }

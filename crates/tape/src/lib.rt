@@ -10,7 +10,6 @@ use machine::State;
 use octets::answer;
 use octets::answer::Answer;
 use octets::field;
-use quick::Quick;
 ghost use mathlib.Core.Path.{_≡_};
 ghost use mathlib.Core.Bool.{true};
 ghost use Prim.Native.Nat.{_+_, _*_, _≤_};
@@ -55,18 +54,13 @@ fn pass(first: State, at: usize, tape: &[u8], out: &mut [u8], writing: bool) -> 
     let mut count: usize = 0;
     let mut i: usize = 0;
     while i < tape.len() {
-        let b = tape[i];
-        match quick::quick_step(s, d, b) {
-            Quick::Set(c) => {
-                put_nth(writing, out, count, c);
-                count += 1;
-                i += 1;
-            }
-            Quick::At(place) => {
-                s.carriage = place;
-                i += 1;
-            }
-            Quick::Slow => match machine::step(s, b) {
+        let r = quick::quick_stretch(writing, s, d, tape, i, count, out);
+        let place = r.carriage;
+        s.carriage = place;
+        count = r.count;
+        i = r.next;
+        if i < tape.len() {
+            match machine::step(s, tape[i]) {
                 Effect::Moved(next) => {
                     s = next;
                     d = quick::derived_of(next);
@@ -83,7 +77,7 @@ fn pass(first: State, at: usize, tape: &[u8], out: &mut [u8], writing: bool) -> 
                         ending: Ending::Fault(n, at + i),
                     };
                 }
-            },
+            }
         }
     }
     Reading {

@@ -1,22 +1,32 @@
-// The commonest codes without the whole step: 00, and the flashes and escapes that are taken.
+// The commonest codes in stretches, without the whole step: 00, and the flashes and escapes that are taken.
 use crate::code;
 use crate::machine;
 use crate::machine::State;
+use galley_file::character;
 use galley_file::character::Character;
 use galley_file::font;
 use measure::Carriage;
 use measure::Units;
 ghost use mathlib.Core.Path.{_≡_};
-ghost use mathlib.Core.Bool.{true};
+ghost use mathlib.Core.Bool.{true, false};
+ghost use mathlib.Core.List.{List};
+ghost use Prim.Native.Nat.{ℕ, _≤_};
 ghost use Rattle.tape.specs.Sound.{Sound};
-ghost use Rattle.tape.specs.Quick.{Running, halfSize, DerivedFrom, Quickly};
+ghost use Rattle.tape.specs.Quick.{Running, halfSize, DerivedFrom, Takes, escapeBy, flashesIn, placed, stretchAt, Quickly};
+ghost use Rattle.tape.specs.Pass.{Further};
 
-// What is derived from a state and outlives flashes and escapes.
+// What is derived from a state and outlives flashes and escapes: the last escape and the last flash that are taken, or 0, and the font number.
 pub struct Derived {
-    pub running: bool,
-    // The last flash that is taken, or 0.
+    pub last_escape: u8,
     pub last_flash: u8,
     pub font: u8,
+}
+
+// Where a stretch of codes ends: the place on the tape, the carriage, and the number of characters.
+pub struct Stretch {
+    pub next: usize,
+    pub carriage: Units,
+    pub count: usize,
 }
 
 // A character set, or the carriage at a place; Slow is every other code and every refusal.
@@ -24,6 +34,29 @@ pub enum Quick {
     Set(Character),
     At(Units),
     Slow,
+}
+
+const LAST_ESCAPE: u8 = 254;
+
+// No code yet.
+fn at_state(s: State, from: usize, before: usize) -> Stretch
+    ensures { λ r. ⌜ r ≡ stretchAt s from before ⌝ }
+{
+    let place = s.carriage;
+    Stretch {
+        next: from,
+        carriage: place,
+        count: before,
+    }
+}
+
+// A state with its carriage elsewhere.
+fn with_carriage(s: State, c: Units) -> State
+    ensures { λ r. ⌜ r ≡ placed s c ⌝ }
+{
+    let mut t = s;
+    t.carriage = c;
+    t
 }
 
 // Initialized, not stopped and past the left switch.
@@ -51,28 +84,32 @@ fn half_size(upper: bool) -> u8
 pub fn derived_of(s: State) -> Derived
     ensures { λ r. ⌜ DerivedFrom s r ⌝ }
 {
-    let runs = running(s);
     let size = s.size;
-    if runs {
+    if running(s) {
         if size < machine::NO_SIZE_YET {
             let number = machine::number_in(s.modes, size);
             let last = half_size(s.modes.upper_half);
             return Derived {
-                running: true,
+                last_escape: LAST_ESCAPE,
                 last_flash: last,
                 font: number,
             };
         }
+        return Derived {
+            last_escape: LAST_ESCAPE,
+            last_flash: 0,
+            font: 0,
+        };
     }
     Derived {
-        running: runs,
+        last_escape: 0,
         last_flash: 0,
         font: 0,
     }
 }
 
 // What a code does, where it is one of these.
-pub fn quick_step(s: State, d: Derived, b: u8) -> Quick
+fn quick_step(s: State, d: Derived, b: u8) -> Quick
     requires { ⌜ (Sound s) × (DerivedFrom s d) ⌝ }
     ensures { λ r. ⌜ Quickly s b r ⌝ }
 {
@@ -94,15 +131,120 @@ pub fn quick_step(s: State, d: Derived, b: u8) -> Quick
     if b < 128 {
         return Quick::Slow;
     }
-    if b == 255 {
+    if d.last_escape < b {
         return Quick::Slow;
     }
-    if d.running {
-        match s.carriage.escape(code::escape_size(b), s.modes.escape_back) {
-            Carriage::At(c) => Quick::At(c),
-            Carriage::Outside => Quick::Slow,
-        }
+    match s.carriage.escape(code::escape_size(b), s.modes.escape_back) {
+        Carriage::At(c) => Quick::At(c),
+        Carriage::Outside => Quick::Slow,
+    }
+}
+
+// Whether b is 00, or a flash or an escape that is taken, if the carriage stays in range.
+fn takes(d: Derived, b: u8) -> bool
+    ensures { λ r. ⌜ (r ≡ true → Takes d b) ⌝ }
+{
+    if b >> 7 == 1 {
+        b <= d.last_escape
     } else {
-        Quick::Slow
+        b <= d.last_flash
+    }
+}
+
+// How far b escapes: 0 for a flash. A product, so that flashes and escapes go the same way.
+fn escape_by(b: u8) -> u8
+    ensures { λ r. ⌜ r ≡ escapeBy b ⌝ }
+{
+    (b >> 7) * code::escape_size(b)
+}
+
+// How many characters b sets, if it is 00, a flash or an escape.
+fn flashes_in(b: u8) -> usize
+    ensures { λ r. ⌜ r ≡ flashesIn b ⌝ }
+{
+    if b == 0 { 0 } else { 1 - (b >> 7) as usize }
+}
+
+// A stretch from `from` on, after `before` characters: counts. Flashes and escapes mix at random, so no branch tells them apart.
+fn count_stretch(s: State, d: Derived, tape: &[u8], from: usize, before: usize) -> Stretch
+    requires { ⌜ ((Sound s) × (DerivedFrom s d)) × (before ≤ from) ⌝ }
+    ensures { λ r. ⌜ ((out : List ℕ) → Further false (now (tape .entry)) out s before from r out) ⌝ }
+{
+    let mut r = at_state(s, from, before);
+    while r.next < tape.len() {
+        let i = r.next;
+        let b = tape[i];
+        if takes(d, b) {
+            match r.carriage.escape(escape_by(b), s.modes.escape_back) {
+                Carriage::At(c) => {
+                    r.carriage = c;
+                    r.count += flashes_in(b);
+                    r.next += 1;
+                }
+                Carriage::Outside => {
+                    return r;
+                }
+            }
+        } else {
+            return r;
+        }
+    }
+    r
+}
+
+// A stretch from `from` on, after `before` characters: writes their fields, as long as there is room.
+fn write_stretch(
+    s: State,
+    d: Derived,
+    tape: &[u8],
+    from: usize,
+    before: usize,
+    out: &mut [u8],
+) -> Stretch
+    requires { ⌜ ((Sound s) × (DerivedFrom s d)) × (before ≤ from) ⌝ }
+    ensures { λ r. ⌜ Further true (now (tape .entry)) (now (out .entry)) s before from r (now (out .exit)) ⌝ }
+{
+    let room = out.len() / character::FIELD;
+    let mut r = at_state(s, from, before);
+    while r.next < tape.len() {
+        let i = r.next;
+        match quick_step(with_carriage(s, r.carriage), d, tape[i]) {
+            Quick::Set(c) => {
+                if room <= r.count {
+                    return r;
+                }
+                character::put_character(out, character::FIELD * r.count, c);
+                r.count += 1;
+                r.next += 1;
+            }
+            Quick::At(c) => {
+                r.carriage = c;
+                r.next += 1;
+            }
+            Quick::Slow => {
+                return r;
+            }
+        }
+    }
+    r
+}
+
+// A stretch from `from` on, after `before` characters; writes their fields, if writing.
+pub fn quick_stretch(
+    writing: bool,
+    s: State,
+    d: Derived,
+    tape: &[u8],
+    from: usize,
+    before: usize,
+    out: &mut [u8],
+) -> Stretch
+    requires { ⌜ ((Sound s) × (DerivedFrom s d)) × (before ≤ from) ⌝ }
+    ensures { λ r. ⌜ Further writing (now (tape .entry)) (now (out .entry)) s before from r (now (out .exit)) ⌝ }
+{
+    if writing {
+        write_stretch(s, d, tape, from, before, out)
+    } else {
+        count_stretch(s, d, tape, from, before)
     }
 }

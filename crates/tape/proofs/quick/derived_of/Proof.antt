@@ -2,6 +2,7 @@
 -- Assumes nothing.
 use borrow.Author.Needs.{needs}
 use native.Mathlib.Omega.{arith}
+use lib.Dec.{lit≤}
 use Rattle.tape.proofs.quick.derived_of.Statement.{statement}
 use Rattle.tape.proofs.quick.derived_of.Tie as tie
 
@@ -19,15 +20,18 @@ returns c =
     let t = c .before .before in
     let r = t .before .before .running .ensures (t .before .if1 .taken) in
     record {
-      running-is = λ _. r;
+      escapes = lit≤ tt;
+      escaping = λ _. r;
       flashing = λ _. record { runs = r; sized = t .if2 .taken; last = c .half-size .ensures; number = c .before .number-in .ensures };
     }
 
 returns-2 : tie.Need-returns-2
-returns-2 c = record { running-is = c .before .before .running .ensures; flashing = λ h. absurd (omega arith) }
+returns-2 c =
+    let r = c .before .before .running .ensures (c .before .if1 .taken) in
+    record { escapes = lit≤ tt; escaping = λ _. r; flashing = λ h. absurd (omega arith) }
 
 returns-3 : tie.Need-returns-3
-returns-3 c = record { running-is = c .before .running .ensures; flashing = λ h. absurd (omega arith) }
+returns-3 c = record { escapes = lit≤ tt; escaping = λ h. absurd (omega arith); flashing = λ h. absurd (omega arith) }
 
 pub derived-of-spec : {M : Type 1} → statement M
 derived-of-spec =

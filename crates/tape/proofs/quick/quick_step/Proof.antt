@@ -62,14 +62,13 @@ returns-5 c =
     let t = e .before .before in
     let s = t .before .before .before .before .before in
     let a = s .args in
-    quick-at (a .s) (a .b) (s .pre .1 .running-is (t .if5 .taken)) (t .before .before .if3 .left) (omega (arith, t .before .if4 .left, s .fits .b .fits)) (k .c .given .0 .0)
+    let low = t .before .before .if3 .left in
+    let high = t .if4 .left in
+    quick-at (a .s) (a .b) (s .pre .1 .escaping (omega (arith, low, high))) low (omega (arith, high, s .pre .1 .escapes)) (k .c .given .0 .0)
     (cc (e .escape .ensures, e .before .escape-size .ensures, k .c .given .1))
 
 returns-6 : tie.Need-returns-6
 returns-6 c = search needs
-
-returns-7 : tie.Need-returns-7
-returns-7 c = search needs
 
 pub quick-step-spec : {M : Type 1} → statement M
 quick-step-spec =
@@ -87,5 +86,4 @@ quick-step-spec =
     enum-known-c
     enum-told
     returns-5
-    returns-6
-    returns-7)
+    returns-6)

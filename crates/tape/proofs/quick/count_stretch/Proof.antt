@@ -1,0 +1,117 @@
+-- `tape::quick::count_stretch` meets its contract. What a pass keeps is kept code by code, whatever it started from.
+-- Assumes nothing.
+use mathlib.Core.Path.{_≡_, sym, subst}
+use mathlib.Core.Bool.{false}
+use mathlib.Core.List.{List}
+use Prim.Native.Nat.{ℕ, _+_, _-_, _≤_, _<_}
+use native.Mathlib.Omega.{arith}
+use borrow.Author.Needs.{needs}
+use lib.ListN.{length, getD}
+use Rattle.measure.specs.declared.Units.{Units}
+use Rattle.tape.specs.declared.quick.Stretch.{Stretch}
+use Rattle.tape.specs.Quick.{placed, stretchAt}
+use Rattle.tape.specs.Pass.{Further}
+use Rattle.tape.proofs.Quicks.{one-at-most, counted, still-derived}
+use Rattle.tape.proofs.Passes.{further-start, further-counted}
+use Rattle.tape.proofs.quick.count_stretch.Statement.{statement}
+use Rattle.tape.proofs.quick.count_stretch.Tie as tie
+
+abbrev Inv-loop : tie.InvT-loop
+Inv-loop s d tape from before r₀ r = ((out : List ℕ) → Further false tape out s before from r out) × (r .count ≤ r .next)
+
+abbrev μ-loop : tie.MeasureT-loop
+μ-loop s d tape from before r₀ r = length tape - r .next
+
+at-state-requires : tie.Need-at-state-requires Inv-loop μ-loop
+at-state-requires c κs = search needs
+
+loop-holds : tie.Need-loop-holds Inv-loop μ-loop
+loop-holds c =
+    let start = c .before .before in
+    let a = start .args in
+    subst (λ (r : Stretch). ((out : List ℕ) → Further false (a .tape .now) out (a .s) (a .before) (a .from) r out) × (r .count ≤ r .next)) (sym (c .at-state .ensures))
+    (λ out. further-start false (a .tape .now) out (a .s) (a .before) (a .from), start .pre .1)
+
+shared-slice-read-b : tie.Need-shared-slice-read-b Inv-loop μ-loop
+shared-slice-read-b c = search needs
+
+takes-requires : tie.Need-takes-requires Inv-loop μ-loop
+takes-requires c κs = search needs
+
+escape-by-requires : tie.Need-escape-by-requires Inv-loop μ-loop
+escape-by-requires c κs = search needs
+
+escape-requires : tie.Need-escape-requires Inv-loop μ-loop
+escape-requires c κs = search needs
+
+enum-known-c : tie.Need-enum-known-c Inv-loop μ-loop
+enum-known-c c = search needs
+
+flashes-in-requires : tie.Need-flashes-in-requires Inv-loop μ-loop
+flashes-in-requires c κs = search needs
+
+add-r : tie.Need-add-r Inv-loop μ-loop
+add-r c =
+    let f = c .before .flashes-in in
+    let l = c .before .before .before .before .before .before .before .before .before .before .before .before .loop in
+    omega (arith, f .ensures, one-at-most (getD (c .before .before .before .before .before .before .before .before .before .before .before .before .before .before .before .args .tape .now) (l .r .next) 0), l .inv .1, c .before .before .before .before .before .before .before .before .before .before .if1 .taken, c .before .before .before .before .before .before .before .before .before .before .before .before .before .before .before .good)
+
+add-r-2 : tie.Need-add-r-2 Inv-loop μ-loop
+add-r-2 c = omega (arith, c .before .before .before .before .before .before .before .before .before .before .before .if1 .taken, c .before .before .before .before .before .before .before .before .before .before .before .before .before .before .before .before .good)
+
+loop-less : tie.Need-loop-less Inv-loop μ-loop
+loop-less c = omega (arith, c .before .before .before .before .before .before .before .before .before .before .before .if1 .taken)
+
+loop-again : tie.Need-loop-again Inv-loop μ-loop
+loop-again c =
+    let start = c .before .before .before .before .before .before .before .before .before .before .before .before .before .before .before .before in
+    let a = start .args in
+    let l = c .before .before .before .before .before .before .before .before .before .before .before .before .before .loop in
+    let r = l .r in
+    let code = getD (a .tape .now) (r .next) 0 in
+    let test = c .before .before .before .before .before .before .before .before .before .before .before .if1 .taken in
+    let takes = c .before .before .before .before .before .before .before .before .before .takes .ensures (c .before .before .before .before .before .before .before .before .if2 .taken) in
+    let way = c .before .before .before .before .before .before in
+    let k = c .before .before .before .before .c .given in
+    let n = c .before .before .flashes-in in
+    let one = counted (placed (a .s) (r .carriage)) code (a .d) (still-derived (a .s) (r .carriage) (start .pre .0 .1)) takes (k .0 .0) (cc (way .escape .ensures, way .before .escape-by .ensures, k .1)) in (
+      λ out.
+          subst (λ (m : ℕ). Further false (a .tape .now) out (a .s) (a .before) (a .from) (record { next = r .next + 1; carriage = k .0 .0; count = r .count + m }) out) (sym (n .ensures))
+          (further-counted (a .tape .now) out (a .s) (a .before) (a .from) r (l .inv .0 out) test (k .0 .0) one),
+      omega (arith, n .ensures, one-at-most code, l .inv .1),
+    )
+
+enum-told : tie.Need-enum-told Inv-loop μ-loop
+enum-told c = search needs
+
+returns : tie.Need-returns Inv-loop μ-loop
+returns c = c .before .before .before .before .before .before .before .before .before .loop .inv .0
+
+returns-2 : tie.Need-returns-2 Inv-loop μ-loop
+returns-2 c = c .before .before .before .before .before .loop .inv .0
+
+returns-3 : tie.Need-returns-3 Inv-loop μ-loop
+returns-3 c = c .before .before .loop .inv .0
+
+pub count-stretch-spec : {M : Type 1} → statement M
+count-stretch-spec =
+    tie.close
+    (tie.spec
+    Inv-loop
+    μ-loop
+    at-state-requires
+    loop-holds
+    shared-slice-read-b
+    takes-requires
+    escape-by-requires
+    escape-requires
+    enum-known-c
+    flashes-in-requires
+    add-r
+    add-r-2
+    loop-less
+    loop-again
+    enum-told
+    returns
+    returns-2
+    returns-3)
