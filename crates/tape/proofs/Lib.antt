@@ -1,5 +1,6 @@
 mod Codes
 mod Steps
 mod Quicks
+mod Turns
 mod Passes
 mod Results

@@ -2,9 +2,10 @@
 use mathlib.Core.Path.{_≡_}
 use mathlib.Core.Bool.{Bool, true, false, cond}
 use Prim.Native.Nat.{ℕ, _-_, _*_, _/_, _%_, _≤_, _<_}
-use lib.Dec.{eqb}
+use lib.Dec.{eqb, ltb}
 use Rattle.measure.specs.declared.Units.{Units}
 use Rattle.galley_file.specs.Font.{fontNumber}
+use Rattle.tape.specs.declared.machine.Modes.{Modes}
 use Rattle.tape.specs.declared.machine.State.{State}
 use Rattle.tape.specs.declared.machine.Effect.the-variants.{Moved, Flashed}
 use Rattle.tape.specs.declared.quick.Derived.{Derived}
@@ -62,3 +63,35 @@ Quickly s b quick.Slow = Unit {0}
 -- a stretch of no codes
 abbrev pub stretchAt : State → ℕ → ℕ → Stretch
 stretchAt s i n = record { next = i; carriage = s .carriage; count = n }
+
+-- ---- the codes that turn a mode or set a size
+
+-- 0x41 to 0x5E but stop and the two illegal ones
+pub record Turn (b : ℕ) : Type 0 where
+  pub low : 0x41 ≤ b
+  pub high : b ≤ 0x5E
+  pub not-stop : b ≡ 0x49 → ⊥
+  pub not-4B : b ≡ 0x4B → ⊥
+  pub not-4D : b ≡ 0x4D → ⊥
+
+-- a mode after a code, by the codes that set and clear it
+abbrev pub turnedBy : ℕ → ℕ → ℕ → Bool → Bool
+turnedBy on off b mode = cond (eqb b on) true (cond (eqb b off) false mode)
+
+abbrev pub modesAfter : Modes → ℕ → Modes
+modesAfter m b =
+    record {
+      «escape_back» = turnedBy 0x48 0x47 b (m .«escape_back»);
+      «lead_back» = turnedBy 0x4C 0x4A b (m .«lead_back»);
+      «upper_half» = turnedBy 0x46 0x45 b (m .«upper_half»);
+      «upper_rail» = turnedBy 0x42 0x41 b (m .«upper_rail»);
+      «upper_mag» = turnedBy 0x43 0x44 b (m .«upper_mag»);
+      «tilt_down» = turnedBy 0x4F 0x4E b (m .«tilt_down»);
+    }
+
+abbrev pub sizeAfter : ℕ → ℕ → ℕ
+sizeAfter size b = cond (ltb b 0x50) size (b - 0x50)
+
+-- a state with other modes and another size
+abbrev pub settled : State → Modes → ℕ → State
+settled s m z = record { initialized = s .initialized; parked = s .parked; stopped = s .stopped; modes = m; size = z; carriage = s .carriage; height = s .height }

@@ -60,22 +60,32 @@ fn pass(first: State, at: usize, tape: &[u8], out: &mut [u8], writing: bool) -> 
         count = r.count;
         i = r.next;
         if i < tape.len() {
-            match machine::step(s, tape[i]) {
-                Effect::Moved(next) => {
-                    s = next;
-                    d = quick::derived_of(next);
-                    i += 1;
-                }
-                Effect::Flashed(c) => {
-                    put_nth(writing, out, count, c);
-                    count += 1;
-                    i += 1;
-                }
-                Effect::Refused(n) => {
-                    return Reading {
-                        count: count,
-                        ending: Ending::Fault(n, at + i),
-                    };
+            let b = tape[i];
+            if quick::takes_turn(s, b) {
+                let modes = quick::modes_after(s.modes, b);
+                let size = quick::size_after(s.size, b);
+                s.modes = modes;
+                s.size = size;
+                d = quick::derived_of(s);
+                i += 1;
+            } else {
+                match machine::step(s, b) {
+                    Effect::Moved(next) => {
+                        s = next;
+                        d = quick::derived_of(next);
+                        i += 1;
+                    }
+                    Effect::Flashed(c) => {
+                        put_nth(writing, out, count, c);
+                        count += 1;
+                        i += 1;
+                    }
+                    Effect::Refused(n) => {
+                        return Reading {
+                            count: count,
+                            ending: Ending::Fault(n, at + i),
+                        };
+                    }
                 }
             }
         }

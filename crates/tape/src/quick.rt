@@ -1,6 +1,7 @@
-// The commonest codes in stretches, without the whole step: 00, and the flashes and escapes that are taken.
+// The commonest codes without the whole step: 00 and the flashes and escapes that are taken, in stretches; and the codes that turn a mode or set a size.
 use crate::code;
 use crate::machine;
+use crate::machine::Modes;
 use crate::machine::State;
 use galley_file::character;
 use galley_file::character::Character;
@@ -12,7 +13,7 @@ ghost use mathlib.Core.Bool.{true, false};
 ghost use mathlib.Core.List.{List};
 ghost use Prim.Native.Nat.{ℕ, _≤_};
 ghost use Rattle.tape.specs.Sound.{Sound};
-ghost use Rattle.tape.specs.Quick.{Running, halfSize, DerivedFrom, Takes, escapeBy, flashesIn, placed, stretchAt, Quickly};
+ghost use Rattle.tape.specs.Quick.{Running, halfSize, DerivedFrom, Takes, escapeBy, flashesIn, Turn, turnedBy, modesAfter, sizeAfter, placed, stretchAt, Quickly};
 ghost use Rattle.tape.specs.Pass.{Further};
 
 // What is derived from a state and outlives flashes and escapes: the last escape and the last flash that are taken, or 0, and the font number.
@@ -247,4 +248,65 @@ pub fn quick_stretch(
     } else {
         count_stretch(s, d, tape, from, before)
     }
+}
+
+// Whether b turns a mode or sets a size.
+fn turns(b: u8) -> bool
+    ensures { λ r. ⌜ (r ≡ true → Turn b) ⌝ }
+{
+    if b >> 5 != 2 {
+        return false;
+    }
+    if b == 0x40 {
+        return false;
+    }
+    if b == 0x49 {
+        return false;
+    }
+    if b == 0x4B {
+        return false;
+    }
+    if b == 0x4D {
+        return false;
+    }
+    b != 0x5F
+}
+
+// Whether b turns a mode or sets a size of a running machine.
+pub fn takes_turn(s: State, b: u8) -> bool
+    ensures { λ r. ⌜ (r ≡ true → ((Running s) × (Turn b))) ⌝ }
+{
+    if running(s) { turns(b) } else { false }
+}
+
+// A mode after b, which `on` sets and `off` clears.
+fn turned(mode: bool, b: u8, on: u8, off: u8) -> bool
+    ensures { λ r. ⌜ r ≡ turnedBy on off b mode ⌝ }
+{
+    if b == on {
+        true
+    } else {
+        if b == off { false } else { mode }
+    }
+}
+
+// The modes after a code that turns one or sets a size. Which one comes is hard to foresee, so every mode is computed.
+pub fn modes_after(m: Modes, b: u8) -> Modes
+    ensures { λ r. ⌜ r ≡ modesAfter m b ⌝ }
+{
+    Modes {
+        escape_back: turned(m.escape_back, b, 0x48, 0x47),
+        lead_back: turned(m.lead_back, b, 0x4C, 0x4A),
+        upper_half: turned(m.upper_half, b, 0x46, 0x45),
+        upper_rail: turned(m.upper_rail, b, 0x42, 0x41),
+        upper_mag: turned(m.upper_mag, b, 0x43, 0x44),
+        tilt_down: turned(m.tilt_down, b, 0x4F, 0x4E),
+    }
+}
+
+// The size after a code that turns a mode or sets a size.
+pub fn size_after(size: u8, b: u8) -> u8
+    ensures { λ r. ⌜ r ≡ sizeAfter size b ⌝ }
+{
+    if b < 0x50 { size } else { b - 0x50 }
 }
