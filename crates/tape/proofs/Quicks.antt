@@ -1,4 +1,4 @@
--- The codes that are taken without the whole step: 00, flashes and escapes.
+-- The codes that are taken without the whole step: 00, flashes, escapes and leads.
 -- Assumes nothing.
 use mathlib.Core.Path.{_≡_, refl, sym, ap, _∙_}
 use mathlib.Core.Bool.{Bool, true, false, cond}
@@ -10,20 +10,23 @@ use lib.IntN.{ℤ, pos, _+ℤ_}
 use Rattle.integers.specs.Parts.{integers, sum-parts}
 use Rattle.measure.specs.declared.Units.{Units}
 use Rattle.measure.specs.declared.Carriage.the-variants as carriage
-use Rattle.measure.specs.Place.{directedBy, carriageAt}
+use Rattle.measure.specs.declared.Quanta.{Quanta}
+use Rattle.measure.specs.declared.Height.{Height}
+use Rattle.measure.specs.declared.Height.the-variants as height
+use Rattle.measure.specs.Place.{directedBy, carriageAt, heightAt}
 use Rattle.measure.specs.PlaceLaws.{carriage-in}
 use Rattle.measure.specs.Target.{xOf}
 use Rattle.galley_file.specs.declared.character.Character.{Character}
 use Rattle.galley_file.specs.Font.{isDouble}
-use Rattle.tape.specs.declared.code.Order.the-variants.{Flash, Escape}
+use Rattle.tape.specs.declared.code.Order.the-variants.{Flash, Lead, Escape}
 use Rattle.tape.specs.declared.code.Code.the-variants.{Ignored, Ordered}
 use Rattle.tape.specs.declared.machine.State.{State}
 use Rattle.tape.specs.declared.machine.Effect.the-variants.{Moved, Flashed}
 use Rattle.tape.specs.declared.quick.Derived.{Derived}
 use Rattle.tape.specs.Code.{codeOf}
-use Rattle.tape.specs.Machine.{pastHalf, codeIn, orderOf, effectOf}
-use Rattle.tape.specs.Quick.{placed, Running, halfSize, Flashing, DerivedFrom, Takes, escapeBy, flashesIn}
-use Rattle.tape.proofs.Steps.{step-ignored, order-taken, flash-set, escape-at}
+use Rattle.tape.specs.Machine.{pastHalf, codeIn, withHeight, orderOf, effectOf}
+use Rattle.tape.specs.Quick.{placed, Running, halfSize, Flashing, DerivedFrom, Takes, escapeBy, flashesIn, Leads}
+use Rattle.tape.proofs.Steps.{step-ignored, order-taken, flash-set, lead-to, escape-at}
 
 pub half-taken : (u : Bool) (v : ℕ) → v ≤ halfSize u → (v < 64) × (pastHalf u v ≡ false)
 half-taken true v h = (omega arith, le-ltb _ _ h)
@@ -41,7 +44,17 @@ unfolding codeOf
 code-escape b h k =
     rw (ne-eqb b 0 (not-zero b (omega arith)), le-ltb b 64 (omega arith), le-ltb b 80 (omega arith), le-ltb b 95 (omega arith), le-ltb b 96 (omega arith), le-ltb b 128 h, lt-ltb b 255 k)
 
+code-lead : (b : ℕ) → 96 ≤ b → b < 128 → codeOf b ≡ Ordered (Lead (31 - b % 32))
+unfolding codeOf
+code-lead b h k =
+    rw (ne-eqb b 0 (not-zero b (omega arith)), le-ltb b 64 (omega arith), le-ltb b 80 (omega arith), le-ltb b 95 (omega arith), le-ltb b 96 h, lt-ltb b 128 k)
+
 module _ (s : State) (b : ℕ) where
+  pub quick-led : Running s → 96 ≤ b → b < 128 → (r : Height) → heightAt (s .height .0 +ℤ directedBy (s .modes .«lead_back») (31 - b % 32)) ≡ r → Leads s b r
+  unfolding orderOf
+  quick-led r h k (height.At t) e = sym (lead-to s (31 - b % 32) e ∙ order-taken s b (code-lead b h k) (r .begun) (r .unstopped))
+  quick-led r h k height.Outside e = tt
+
   pub quick-ignored : b ≡ 0 → effectOf s b ≡ Moved (placed s (s .carriage))
   unfolding codeOf
   quick-ignored e = sym (step-ignored s b (rw e))
@@ -126,7 +139,22 @@ module _ (s : State) (b : ℕ) (d : Derived) (f : DerivedFrom s d) (t : Takes d 
           (ap (λ (n : ℕ). carriageAt (s .carriage .0 +ℤ directedBy (s .modes .«escape_back») n)) (sym (one-way (b / 128) (127 - b % 128) (omega arith))) ∙ e))
           (ap (λ (u : Bool). cond u 0 (1 - b / 128)) (ne-eqb b 0 (not-zero b (omega arith))) ∙ omega arith)
 
--- what is derived from a state stays where only the carriage moves
+-- what is derived from a state stays where only the height changes, or only the carriage moves
+pub led-derived : (s : State) (h : Quanta) {d : Derived} → DerivedFrom s d → DerivedFrom (withHeight s h) d
+led-derived s h f =
+    record {
+      escapes = f .escapes;
+      escaping = λ k. let r = f .escaping k in record { begun = r .begun; unstopped = r .unstopped; unparked = r .unparked };
+      flashing = λ k.
+          let g = f .flashing k in
+          record {
+            runs = record { begun = g .runs .begun; unstopped = g .runs .unstopped; unparked = g .runs .unparked };
+            sized = g .sized;
+            last = g .last;
+            number = g .number;
+          };
+    }
+
 pub still-derived : (s : State) (c : Units) {d : Derived} → DerivedFrom s d → DerivedFrom (placed s c) d
 still-derived s c f =
     record {

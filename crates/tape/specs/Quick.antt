@@ -4,6 +4,8 @@ use mathlib.Core.Bool.{Bool, true, false, cond}
 use Prim.Native.Nat.{ℕ, _-_, _*_, _/_, _%_, _≤_, _<_}
 use lib.Dec.{eqb, ltb}
 use Rattle.measure.specs.declared.Units.{Units}
+use Rattle.measure.specs.declared.Height.{Height}
+use Rattle.measure.specs.declared.Height.the-variants as height
 use Rattle.galley_file.specs.Font.{fontNumber}
 use Rattle.tape.specs.declared.machine.Modes.{Modes}
 use Rattle.tape.specs.declared.machine.State.{State}
@@ -12,7 +14,7 @@ use Rattle.tape.specs.declared.quick.Derived.{Derived}
 use Rattle.tape.specs.declared.quick.Stretch.{Stretch}
 use Rattle.tape.specs.declared.quick.Quick.{Quick}
 use Rattle.tape.specs.declared.quick.Quick.the-variants as quick
-use Rattle.tape.specs.Machine.{fontIn, effectOf}
+use Rattle.tape.specs.Machine.{fontIn, withHeight, effectOf}
 
 -- initialized, not stopped and past the left switch
 pub record Running (s : State) : Type 0 where
@@ -95,3 +97,10 @@ sizeAfter size b = cond (ltb b 0x50) size (b - 0x50)
 -- a state with other modes and another size
 abbrev pub settled : State → Modes → ℕ → State
 settled s m z = record { initialized = s .initialized; parked = s .parked; stopped = s .stopped; modes = m; size = z; carriage = s .carriage; height = s .height }
+
+-- ---- leads
+
+-- what `led` says of a code; of Outside it says nothing
+abbrev pub Leads : State → ℕ → Height → Type 0
+Leads s b (height.At h) = effectOf s b ≡ Moved (withHeight s h)
+Leads s b height.Outside = Unit {0}

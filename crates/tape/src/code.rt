@@ -35,7 +35,7 @@ pub fn escape_size(b: u8) -> u8
 }
 
 // The low five bits, complemented.
-fn lead_size(b: u8) -> u8
+pub fn lead_size(b: u8) -> u8
     ensures { λ r. ⌜ r ≡ 31 - b % 32 ⌝ }
 {
     !b & 31

@@ -7,6 +7,7 @@ use galley_file::character;
 use galley_file::character::Character;
 use machine::Effect;
 use machine::State;
+use measure::Height;
 use octets::answer;
 use octets::answer::Answer;
 use octets::field;
@@ -69,23 +70,29 @@ fn pass(first: State, at: usize, tape: &[u8], out: &mut [u8], writing: bool) -> 
                 d = quick::derived_of(s);
                 i += 1;
             } else {
-                match machine::step(s, b) {
-                    Effect::Moved(next) => {
-                        s = next;
-                        d = quick::derived_of(next);
+                match quick::led(s, b) {
+                    Height::At(h) => {
+                        s.height = h;
                         i += 1;
                     }
-                    Effect::Flashed(c) => {
-                        put_nth(writing, out, count, c);
-                        count += 1;
-                        i += 1;
-                    }
-                    Effect::Refused(n) => {
-                        return Reading {
-                            count: count,
-                            ending: Ending::Fault(n, at + i),
-                        };
-                    }
+                    Height::Outside => match machine::step(s, b) {
+                        Effect::Moved(next) => {
+                            s = next;
+                            d = quick::derived_of(next);
+                            i += 1;
+                        }
+                        Effect::Flashed(c) => {
+                            put_nth(writing, out, count, c);
+                            count += 1;
+                            i += 1;
+                        }
+                        Effect::Refused(n) => {
+                            return Reading {
+                                count: count,
+                                ending: Ending::Fault(n, at + i),
+                            };
+                        }
+                    },
                 }
             }
         }

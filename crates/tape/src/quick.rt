@@ -1,4 +1,4 @@
-// The commonest codes without the whole step: 00 and the flashes and escapes that are taken, in stretches; and the codes that turn a mode or set a size.
+// The commonest codes without the whole step: 00 and the flashes and escapes that are taken, in stretches; leads; and the codes that turn a mode or set a size.
 use crate::code;
 use crate::machine;
 use crate::machine::Modes;
@@ -7,13 +7,14 @@ use galley_file::character;
 use galley_file::character::Character;
 use galley_file::font;
 use measure::Carriage;
+use measure::Height;
 use measure::Units;
 ghost use mathlib.Core.Path.{_≡_};
 ghost use mathlib.Core.Bool.{true, false};
 ghost use mathlib.Core.List.{List};
 ghost use Prim.Native.Nat.{ℕ, _≤_};
 ghost use Rattle.tape.specs.Sound.{Sound};
-ghost use Rattle.tape.specs.Quick.{Running, halfSize, DerivedFrom, Takes, escapeBy, flashesIn, Turn, turnedBy, modesAfter, sizeAfter, placed, stretchAt, Quickly};
+ghost use Rattle.tape.specs.Quick.{Running, halfSize, DerivedFrom, Takes, escapeBy, flashesIn, Turn, turnedBy, modesAfter, sizeAfter, Leads, placed, stretchAt, Quickly};
 ghost use Rattle.tape.specs.Pass.{Further};
 
 // What is derived from a state and outlives flashes and escapes: the last escape and the last flash that are taken, or 0, and the font number.
@@ -309,4 +310,18 @@ pub fn size_after(size: u8, b: u8) -> u8
     ensures { λ r. ⌜ r ≡ sizeAfter size b ⌝ }
 {
     if b < 0x50 { size } else { b - 0x50 }
+}
+
+// The height after b, where b is a lead that a running machine takes; Outside is every other code and every refusal.
+pub fn led(s: State, b: u8) -> Height
+    ensures { λ r. ⌜ Leads s b r ⌝ }
+{
+    if b >> 5 != 3 {
+        return Height::Outside;
+    }
+    if running(s) {
+        s.height.lead(code::lead_size(b), s.modes.lead_back)
+    } else {
+        Height::Outside
+    }
 }

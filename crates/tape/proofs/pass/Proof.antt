@@ -1,6 +1,6 @@
 -- `tape::pass` meets its contract. The invariant is `Going`; its laws are in `Passes`, a stretch keeps it by its contract.
 -- Assumes nothing.
-use mathlib.Core.Path.{_≡_, sym, _∙_}
+use mathlib.Core.Path.{_≡_, sym, _∙_, subst}
 use mathlib.Core.Bool.{true}
 use mathlib.Core.List.{List}
 use Prim.Native.Nat.{ℕ, _+_, _-_, _*_, _≤_, _<_}
@@ -12,10 +12,10 @@ use mir.Val.{Fits}
 use Rattle.galley_file.specs.declared.character.Character.{Character}
 use Rattle.tape.specs.declared.machine.State.{State}
 use Rattle.tape.specs.declared.machine.Effect.the-variants.{Moved, Flashed}
-use Rattle.tape.specs.Machine.{effectOf}
-use Rattle.tape.specs.Quick.{placed, DerivedFrom, settled}
+use Rattle.tape.specs.Machine.{withHeight, effectOf}
+use Rattle.tape.specs.Quick.{placed, DerivedFrom, settled, Leads}
 use Rattle.tape.specs.Pass.{putNth, Going}
-use Rattle.tape.proofs.Quicks.{still-derived}
+use Rattle.tape.proofs.Quicks.{led-derived, still-derived}
 use Rattle.tape.proofs.Turns.{turn-taken}
 use Rattle.tape.proofs.Passes.{going-start, going-bound, going-moved, going-room, going-flashed, going-refused, going-done}
 use Rattle.tape.proofs.pass.Statement.{statement}
@@ -76,7 +76,7 @@ module _ (c : tie.After-place Inv-loop μ-loop) where
     flashed = let a = start .args in going-flashed (a .first) (a .at) (a .tape .now) (a .out .now) (a .writing) out now count i going h
 
 -- the character that `step` finds
-flashes : (c : tie.After-c Inv-loop μ-loop) → effectOf (now (c .before .before .before .before .before .before .before)) (code (c .before .before .before .before .before .before .before)) ≡ Flashed (c .c .given .0 .0)
+flashes : (c : tie.After-c Inv-loop μ-loop) → effectOf (now (c .before .before .before .before .before .before .before .before .before .before)) (code (c .before .before .before .before .before .before .before .before .before .before)) ≡ Flashed (c .c .given .0 .0)
 flashes c = sym (c .before .before .step .ensures) ∙ c .c .given .1
 
 derived-of-requires : tie.Need-derived-of-requires Inv-loop μ-loop
@@ -123,34 +123,35 @@ loop-again c =
     let z = c .before .size-after in
     (moved t (c .before .before .before .before .before .before .if1 .taken) (settled (now t) (m .result) (z .result)) (turn-taken (now t) (turn .0) (code t) (turn .1) (m .result) (m .ensures) (z .result) (z .ensures)), c .derived-of2 .ensures)
 
+led-requires : tie.Need-led-requires Inv-loop μ-loop
+led-requires c κs = search needs
+
+enum-known-h : tie.Need-enum-known-h Inv-loop μ-loop
+enum-known-h c = search needs
+
+add-i-2 : tie.Need-add-i-2 Inv-loop μ-loop
+add-i-2 c = next-i (c .before .before .before .before .before .before .before .before) (c .before .before .before .before .before .before .before .if1 .taken)
+
+loop-less-2 : tie.Need-loop-less-2 Inv-loop μ-loop
+loop-less-2 c = less (c .before .before .before .before .before .before .before .before) (c .before .before .before .before .before .before .before .if1 .taken)
+
+loop-again-2 : tie.Need-loop-again-2 Inv-loop μ-loop
+loop-again-2 c =
+    let t = c .before .before .before .before .before .before .before .before in
+    let k = c .before .h .given in
+    (moved t (c .before .before .before .before .before .before .before .if1 .taken) (withHeight (now t) (k .0 .0)) (subst (Leads (now t) (code t)) (k .1) (c .before .before .before .led .ensures)), led-derived (now t) (k .0 .0) (derived t))
+
+enum-told : tie.Need-enum-told Inv-loop μ-loop
+enum-told c = search needs
+
 step-requires : tie.Need-step-requires Inv-loop μ-loop
-step-requires c κs = going (c .before .before .before .before) .sound
+step-requires c κs = going (c .before .before .before .before .before .before .before) .sound
 
 enum-known-next : tie.Need-enum-known-next Inv-loop μ-loop
 enum-known-next c = search needs
 
 derived-of-requires-3 : tie.Need-derived-of-requires-3 Inv-loop μ-loop
 derived-of-requires-3 c κs = search needs
-
-add-i-2 : tie.Need-add-i-2 Inv-loop μ-loop
-add-i-2 c = next-i (c .before .before .before .before .before .before .before .before .before) (c .before .before .before .before .before .before .before .before .if1 .taken)
-
-loop-less-2 : tie.Need-loop-less-2 Inv-loop μ-loop
-loop-less-2 c = less (c .before .before .before .before .before .before .before .before .before) (c .before .before .before .before .before .before .before .before .if1 .taken)
-
-loop-again-2 : tie.Need-loop-again-2 Inv-loop μ-loop
-loop-again-2 c =
-    let k = c .before .before .next .given in
-    (moved (c .before .before .before .before .before .before .before .before .before) (c .before .before .before .before .before .before .before .before .if1 .taken) (k .0 .0) (sym (c .before .before .before .before .step .ensures) ∙ k .1), c .derived-of3 .ensures)
-
-enum-known-c : tie.Need-enum-known-c Inv-loop μ-loop
-enum-known-c c = search needs
-
-put-nth-requires : tie.Need-put-nth-requires Inv-loop μ-loop
-put-nth-requires c κs = let k = c .before .before in room (c .before .before .before .before .before .before .before .before .before) (c .before .before .before .before .before .before .before .before .if1 .taken) (k .c .given .0 .0) (flashes k)
-
-add-count : tie.Need-add-count Inv-loop μ-loop
-add-count c = next-count (c .before .before .before .before .before .before .before .before .before .before .before .before) (c .before .before .before .before .before .before .before .before .before .before .before .if1 .taken)
 
 add-i-3 : tie.Need-add-i-3 Inv-loop μ-loop
 add-i-3 c = next-i (c .before .before .before .before .before .before .before .before .before .before .before .before) (c .before .before .before .before .before .before .before .before .before .before .before .if1 .taken)
@@ -160,33 +161,53 @@ loop-less-3 c = less (c .before .before .before .before .before .before .before 
 
 loop-again-3 : tie.Need-loop-again-3 Inv-loop μ-loop
 loop-again-3 c =
+    let k = c .before .before .next .given in
+    (moved (c .before .before .before .before .before .before .before .before .before .before .before .before) (c .before .before .before .before .before .before .before .before .before .before .before .if1 .taken) (k .0 .0) (sym (c .before .before .before .before .step .ensures) ∙ k .1), c .derived-of3 .ensures)
+
+enum-known-c : tie.Need-enum-known-c Inv-loop μ-loop
+enum-known-c c = search needs
+
+put-nth-requires : tie.Need-put-nth-requires Inv-loop μ-loop
+put-nth-requires c κs = let k = c .before .before in room (c .before .before .before .before .before .before .before .before .before .before .before .before) (c .before .before .before .before .before .before .before .before .before .before .before .if1 .taken) (k .c .given .0 .0) (flashes k)
+
+add-count : tie.Need-add-count Inv-loop μ-loop
+add-count c = next-count (c .before .before .before .before .before .before .before .before .before .before .before .before .before .before .before) (c .before .before .before .before .before .before .before .before .before .before .before .before .before .before .if1 .taken)
+
+add-i-4 : tie.Need-add-i-4 Inv-loop μ-loop
+add-i-4 c = next-i (c .before .before .before .before .before .before .before .before .before .before .before .before .before .before .before) (c .before .before .before .before .before .before .before .before .before .before .before .before .before .before .if1 .taken)
+
+loop-less-4 : tie.Need-loop-less-4 Inv-loop μ-loop
+loop-less-4 c = less (c .before .before .before .before .before .before .before .before .before .before .before .before .before .before .before) (c .before .before .before .before .before .before .before .before .before .before .before .before .before .before .if1 .taken)
+
+loop-again-4 : tie.Need-loop-again-4 Inv-loop μ-loop
+loop-again-4 c =
     let k = c .before .before .before .before .before in
-    let t = c .before .before .before .before .before .before .before .before .before .before .before .before in
+    let t = c .before .before .before .before .before .before .before .before .before .before .before .before .before .before .before in
     let p = c .before .before .put-nth in
-    (flashed t (c .before .before .before .before .before .before .before .before .before .before .before .if1 .taken) (k .c .given .0 .0) (flashes k) (p .last .1 .0) (p .kept .1 .0) (p .ensures), derived t)
+    (flashed t (c .before .before .before .before .before .before .before .before .before .before .before .before .before .before .if1 .taken) (k .c .given .0 .0) (flashes k) (p .last .1 .0) (p .kept .1 .0) (p .ensures), derived t)
 
 enum-known-n : tie.Need-enum-known-n Inv-loop μ-loop
 enum-known-n c = search needs
 
-add-t29 : tie.Need-add-t29 Inv-loop μ-loop
-add-t29 c = let t = c .before .before .before .before .before .before .before .before in omega (arith, c .before .before .before .before .before .before .before .if1 .taken, start t .pre .0 .1, start t .good)
+add-t31 : tie.Need-add-t31 Inv-loop μ-loop
+add-t31 c = let t = c .before .before .before .before .before .before .before .before .before .before .before in omega (arith, c .before .before .before .before .before .before .before .before .before .before .if1 .taken, start t .pre .0 .1, start t .good)
 
 same-length : tie.Need-same-length Inv-loop μ-loop
-same-length c = going (c .before .before .before .before .before .before .before .before) .same
+same-length c = going (c .before .before .before .before .before .before .before .before .before .before .before) .same
 
 returns : tie.Need-returns Inv-loop μ-loop
 returns c =
-    let t = c .before .before .before .before .before .before .before .before in
+    let t = c .before .before .before .before .before .before .before .before .before .before .before in
     let s = start t in
     let a = s .args in
-    going-refused (a .first) (a .at) (a .tape .now) (a .out .now) (a .writing) (out t) (now t) (count t) (i t) (going t) (c .before .before .before .before .before .before .before .if1 .taken) (c .before .n .given .0 .0) (s .pre .0 .1)
+    going-refused (a .first) (a .at) (a .tape .now) (a .out .now) (a .writing) (out t) (now t) (count t) (i t) (going t) (c .before .before .before .before .before .before .before .before .before .before .if1 .taken) (c .before .n .given .0 .0) (s .pre .0 .1)
     (sym (c .before .before .before .step .ensures) ∙ c .before .n .given .1)
 
-loop-less-4 : tie.Need-loop-less-4 Inv-loop μ-loop
-loop-less-4 c = omega (arith, c .if1 .left, c .before .before .before .before .before .before .loop-test .taken)
+loop-less-5 : tie.Need-loop-less-5 Inv-loop μ-loop
+loop-less-5 c = omega (arith, c .if1 .left, c .before .before .before .before .before .before .loop-test .taken)
 
-loop-again-4 : tie.Need-loop-again-4 Inv-loop μ-loop
-loop-again-4 c = (going (c .before), derived (c .before))
+loop-again-5 : tie.Need-loop-again-5 Inv-loop μ-loop
+loop-again-5 c = (going (c .before), derived (c .before))
 
 same-length-2 : tie.Need-same-length-2 Inv-loop μ-loop
 same-length-2 c = c .before .loop .inv .0 .same
@@ -215,23 +236,29 @@ pass-spec =
     add-i
     loop-less
     loop-again
-    step-requires
-    enum-known-next
-    derived-of-requires-3
+    led-requires
+    enum-known-h
     add-i-2
     loop-less-2
     loop-again-2
-    enum-known-c
-    put-nth-requires
-    add-count
+    enum-told
+    step-requires
+    enum-known-next
+    derived-of-requires-3
     add-i-3
     loop-less-3
     loop-again-3
-    enum-known-n
-    add-t29
-    same-length
-    returns
+    enum-known-c
+    put-nth-requires
+    add-count
+    add-i-4
     loop-less-4
     loop-again-4
+    enum-known-n
+    add-t31
+    same-length
+    returns
+    loop-less-5
+    loop-again-5
     same-length-2
     returns-2)
