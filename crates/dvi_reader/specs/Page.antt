@@ -1,11 +1,10 @@
 -- The code's page as that of the format. The entries of its stack lie in an array beside it.
+use mathlib.Core.Bool.{Bool, true, false}
 use mathlib.Core.List.{List}
 use mathlib.Core.Option.{Option, none, some}
 use lib.IntN.{ℤ}
 use Rattle.dvi.specs.Page as S
 use Rattle.dvi_reader.specs.Stack.{numbersOf, stackOf}
-use Rattle.dvi_reader.specs.declared.page.Font.{Font}
-use Rattle.dvi_reader.specs.declared.page.Font.the-variants.{Unset, Number}
 use Rattle.dvi_reader.specs.declared.page.Page.{Page}
 use Rattle.dvi_reader.specs.declared.page.Mark.{Mark}
 use Rattle.dvi_reader.specs.declared.page.Mark.the-variants.{Start, Char, Rule}
@@ -14,12 +13,12 @@ use Rattle.dvi_reader.specs.declared.page.Effect.the-variants.{Fault, Mo
 use Rattle.dvi_reader.specs.declared.page.Width.{Width}
 use Rattle.dvi_reader.specs.declared.page.Width.the-variants.{Of, Missing}
 
-abbrev pub fontOf : Font → Option ℤ
-fontOf Unset = none
-fontOf (Number f) = some f
+abbrev pub fontOf : Bool → ℤ → Option ℤ
+fontOf false f = none
+fontOf true f = some f
 
 abbrev pub pageOf : Page → List ℤ → S.Page
-pageOf p l = record { numbers = numbersOf (p .numbers); font = fontOf (p .font); stack = stackOf l (p .depth) }
+pageOf p l = record { numbers = numbersOf (p .numbers); font = fontOf (p .«has_font») (p .font); stack = stackOf l (p .depth) }
 
 abbrev pub markOf : Mark → S.Mark
 markOf (Start n) = S.pageMark n

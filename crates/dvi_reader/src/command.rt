@@ -141,23 +141,20 @@ fn decode_bare(op: u8) -> Decoded
     }
 }
 
-// The characters 0 to 127, FONTNUM, and what is undefined.
+// FONTNUM, and what is undefined.
 fn decode_other(op: u8) -> Decoded
-    requires { ⌜ (128 ≤ op → 154 ≤ op) ⌝ }
+    requires { ⌜ 154 ≤ op ⌝ }
     ensures { λ r. ⌜ ((ps : List ℕ) → decodedOf r ≡ decodeOf op ps) ⌝ }
 {
-    if op < 128 {
-        return Decoded::Whole(Command::SetChar(op), 0);
-    }
     if 218 <= op {
         return Decoded::NoCommand;
     }
     Decoded::Whole(Command::SetFont((op - 154) as i32), 0)
 }
 
-// The command with first byte op, before the bytes from `at`. One match with single keys makes one jump.
-pub fn decode(s: &[u8], at: usize, op: u8) -> Decoded
-    requires { ⌜ at ≤ length (now s) ⌝ }
+// The command with first byte op from 128 on, before the bytes from `at`. One match with single keys makes one jump.
+fn decode_high(s: &[u8], at: usize, op: u8) -> Decoded
+    requires { ⌜ (at ≤ length (now s)) × (128 ≤ op) ⌝ }
     ensures { λ r. ⌜ decodedOf r ≡ decodeOf op (drop at (now (s .entry))) ⌝ }
 {
     match op {
@@ -183,4 +180,15 @@ pub fn decode(s: &[u8], at: usize, op: u8) -> Decoded
         153 => Decoded::Whole(still(3), 0),
         _ => decode_other(op),
     }
+}
+
+// The command with first byte op. Characters come first, being the commonest.
+pub fn decode(s: &[u8], at: usize, op: u8) -> Decoded
+    requires { ⌜ at ≤ length (now s) ⌝ }
+    ensures { λ r. ⌜ decodedOf r ≡ decodeOf op (drop at (now (s .entry))) ⌝ }
+{
+    if op < 128 {
+        return Decoded::Whole(Command::SetChar(op), 0);
+    }
+    decode_high(s, at, op)
 }

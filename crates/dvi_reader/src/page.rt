@@ -20,15 +20,12 @@ pub const FONT_CHARS: usize = 128;
 
 const LAST_CHAR: u32 = 127;
 
-pub enum Font {
-    Unset,
-    Number(i32),
-}
-
-// The stack's entries lie in an array beside the page.
+// The stack's entries lie in an array beside the page. The font counts where has_font says so; the two stand apart, as side by side
+// the compiler would keep them in one word and take it apart at every command.
 pub struct Page {
+    pub has_font: bool,
     pub numbers: Numbers,
-    pub font: Font,
+    pub font: i32,
     pub depth: usize,
 }
 
@@ -75,10 +72,10 @@ pub fn new_page() -> Page
         ya: 0,
         za: 0,
     };
-    let font = Font::Unset;
     Page {
+        has_font: false,
         numbers: numbers,
-        font: font,
+        font: 0,
         depth: 0,
     }
 }
@@ -158,30 +155,29 @@ fn width_of(widths: &[i32], f: i32, c: u8) -> Width
 fn set_char(widths: &[i32], p: Page, c: u8) -> Effect
     ensures { λ r. ⌜ ((l : List ℤ) → effectOf r l ≡ S.effect (now (widths .entry)) (pageOf p l) (commandOf (Command.SetChar c))) ⌝ }
 {
-    let font = p.font;
-    match font {
-        Font::Unset => Effect::Fault(answer::CANNOT_SET),
-        Font::Number(f) => {
-            let w = width_of(widths, f, c);
-            match w {
-                Width::Missing => Effect::Fault(answer::CANNOT_SET),
-                Width::Of(d) => {
-                    let n = p.numbers;
-                    let x = n.x;
-                    let y = n.y;
-                    show_right(
-                        p,
-                        Mark::Char {
-                            x: x,
-                            y: y,
-                            font: f,
-                            ch: c,
-                        },
-                        d,
-                    )
-                }
+    if p.has_font {
+        let f = p.font;
+        let w = width_of(widths, f, c);
+        match w {
+            Width::Missing => Effect::Fault(answer::CANNOT_SET),
+            Width::Of(d) => {
+                let n = p.numbers;
+                let x = n.x;
+                let y = n.y;
+                show_right(
+                    p,
+                    Mark::Char {
+                        x: x,
+                        y: y,
+                        font: f,
+                        ch: c,
+                    },
+                    d,
+                )
             }
         }
+    } else {
+        Effect::Fault(answer::CANNOT_SET)
     }
 }
 
@@ -189,30 +185,29 @@ fn set_char(widths: &[i32], p: Page, c: u8) -> Effect
 fn horz_char(p: Page, c: i32) -> Effect
     ensures { λ r. ⌜ ((ws l : List ℤ) → effectOf r l ≡ S.effect ws (pageOf p l) (commandOf (Command.HorzChar c))) ⌝ }
 {
-    let font = p.font;
-    match font {
-        Font::Unset => Effect::Fault(answer::CANNOT_SET),
-        Font::Number(f) => {
-            if c < 0 {
-                return Effect::Fault(answer::CANNOT_SET);
-            }
-            let code = c as u32;
-            if LAST_CHAR < code {
-                return Effect::Fault(answer::CANNOT_SET);
-            }
-            let n = p.numbers;
-            let x = n.x;
-            let y = n.y;
-            Effect::Marked(
-                p,
-                Mark::Char {
-                    x: x,
-                    y: y,
-                    font: f,
-                    ch: code as u8,
-                },
-            )
+    if p.has_font {
+        let f = p.font;
+        if c < 0 {
+            return Effect::Fault(answer::CANNOT_SET);
         }
+        let code = c as u32;
+        if LAST_CHAR < code {
+            return Effect::Fault(answer::CANNOT_SET);
+        }
+        let n = p.numbers;
+        let x = n.x;
+        let y = n.y;
+        Effect::Marked(
+            p,
+            Mark::Char {
+                x: x,
+                y: y,
+                font: f,
+                ch: code as u8,
+            },
+        )
+    } else {
+        Effect::Fault(answer::CANNOT_SET)
     }
 }
 
@@ -259,10 +254,10 @@ fn set_font(p: Page, f: i32) -> Effect
     ensures { λ r. ⌜ ((ws l : List ℤ) → effectOf r l ≡ S.effect ws (pageOf p l) (commandOf (Command.SetFont f))) ⌝ }
 {
     let n = p.numbers;
-    let font = Font::Number(f);
     Effect::Moved(Page {
+        has_font: true,
         numbers: n,
-        font: font,
+        font: f,
         depth: p.depth,
     })
 }
