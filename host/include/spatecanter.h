@@ -22,7 +22,9 @@
  *   galley  a run of fields: tag (1 byte), length (2), body.
  *           character  tag 1, length 6: x (2, signed, units of 1/432 inch), height (2, quanta of 1/144
  *                      inch), font number (1), character 1 to 108 (1)
- *           End        tag 2, length 4: the number of characters; nothing follows
+ *           cut        tag 6, length 0: the page ends and the next begins
+ *           End        tag 2, length 4: the number of characters, cuts not counted; nothing follows
+ *           At most SP_ITEM_LIMIT characters and cuts together.
  *           A font number is 15 x (font - 1) + size index, 0 to 119; fonts are 1 to 8, and the size
  *           indices 0 to 14 stand for 7 8 10 11 12 14 18 9 6 16 20 22 24 28 36 points. From index 9
  *           on sizes are double, with x from -55 to 3,184; in single sizes x is 0 to 3,239.
@@ -51,13 +53,16 @@ extern "C" {
 #define SP_GALLEY_LIMIT 9437191
 #define SP_DVI_LIMIT    33554432
 
+/* The most characters and cuts, together, that a galley holds. */
+#define SP_ITEM_LIMIT   1048576
+
 /* answer[0]; after the semicolon, what answer[1] then is. "Offset" counts bytes from 0. */
 enum sp_number {
     SP_ACCEPTED          = 0,  /* accepted; 0 */
 
     /* Tapes */
     SP_TAPE_TOO_LONG     = 1,  /* tape over SP_TAPE_LIMIT; 0 */
-    SP_ILLEGAL_CODE      = 2,  /* 4B, 4D, 5F or FF (hexadecimal); the byte's offset */
+    SP_ILLEGAL_CODE      = 2,  /* 4D, 5F or FF (hexadecimal); the byte's offset */
     SP_BEFORE_INITIALIZE = 3,  /* before the first initialize, another code than 00; the byte's offset */
     SP_AFTER_STOP        = 4,  /* after stop, another code than 00; the byte's offset */
     SP_PARKED            = 5,  /* parked: a flash, or an escape not forward 16; the byte's offset */
@@ -66,6 +71,8 @@ enum sp_number {
                                   the byte's offset */
     SP_UPPER_HALF        = 8,  /* a flash above 45 in the upper half; the byte's offset */
     SP_NO_STOP           = 9,  /* the tape ends without stop; the tape's length */
+    SP_AFTER_CUT         = 10, /* after a cut (4B), another code than 00 and initialize; the byte's offset.
+                                  The tape ends after a cut and 00 alone; the tape's length */
     SP_GALLEY_ROOM       = 12, /* galley buffer too short; the bytes needed */
 
     /* DVI files */
@@ -87,7 +94,8 @@ enum sp_number {
     /* Galleys */
     SP_NO_SUCH_CHARACTER = 11, /* reading back: n is not below the number of characters; 0 */
     SP_GALLEY_TOO_LONG   = 40, /* galley over SP_GALLEY_LIMIT; 0 */
-    SP_GALLEY_MALFORMED  = 41, /* a bad field, one cut short included; the first one's offset.
+    SP_GALLEY_MALFORMED  = 41, /* a bad field, one cut short included, or a character or cut past
+                                  SP_ITEM_LIMIT; the first one's offset.
                                   Bytes after End; the first one's offset.
                                   No End; the galley's length */
     SP_DVI_ROOM          = 42  /* DVI buffer too short; the bytes needed */
@@ -95,8 +103,8 @@ enum sp_number {
 
 /*
  * Reads a tape and writes its galley.
- * Refusals: 1; then 2 to 9, of which the earliest place decides, and at one place the smaller number;
- * then 12. A galley has at most 9 bytes for each byte of tape, and 7.
+ * Refusals: 1; then 2 to 10, of which the earliest place decides, and at one place the first of 2, 3, 10, 4,
+ * 5, 6, 7, 8, 9; then 12. A galley has at most 9 bytes for each byte of tape, and 7.
  */
 void sp_read_tape(const uint8_t *tape, size_t tape_len,
                   uint8_t *galley, size_t galley_len,
@@ -110,15 +118,16 @@ void sp_check_galley(const uint8_t *galley, size_t galley_len,
                      size_t answer[3]);
 
 /*
- * Reads back character n of a galley, counted from 0: character[0] is its x, [1] its height, [2] its font
- * number, [3] the character; all four are 0 in a refusal. The length is 0.
+ * Reads back character n of a galley, counted from 0 and without the cuts: character[0] is its x, [1] its
+ * height, [2] its font number, [3] the character; all four are 0 in a refusal. The length is 0.
  * Refusals: 40; then 41; then 11. Each call checks the whole galley.
  */
 void sp_read_back(const uint8_t *galley, size_t galley_len, size_t n,
                   size_t answer[3], int32_t character[4]);
 
 /*
- * Writes a galley as a DVI file of one page.
+ * Writes a galley as a DVI file. Its pages are numbered 1, 2, 3, ...: each cut ends a page and starts the
+ * next, and an empty page is a page.
  * Refusals: 40; then 41; then 42.
  */
 void sp_write_dvi(const uint8_t *galley, size_t galley_len,

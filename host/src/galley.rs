@@ -1,4 +1,12 @@
-//! The characters of a galley.
+//! The characters and cuts of a galley.
+
+/// A field of a galley, End apart.
+#[derive(Clone, Copy, Debug, PartialEq, Eq)]
+pub enum Item {
+    Character(Character),
+    /// The end of a page, and the start of the next.
+    Cut,
+}
 
 /// A character of a galley.
 #[derive(Clone, Copy, Debug, PartialEq, Eq)]
@@ -37,17 +45,40 @@ impl Character {
     }
 }
 
-/// The characters of a galley that the check accepts, in its order.
-pub fn characters(galley: &[u8]) -> impl Iterator<Item = Character> + '_ {
-    galley.chunks_exact(9).take_while(|field| field[0] == 1).map(character)
+/// The characters and cuts of a galley that the check accepts, in its order.
+pub fn items(galley: &[u8]) -> impl Iterator<Item = Item> + '_ {
+    let mut rest = galley;
+    std::iter::from_fn(move || {
+        let (item, after) = split(rest)?;
+        rest = after;
+        Some(item)
+    })
 }
 
-/// The character of a field of nine bytes.
-fn character(field: &[u8]) -> Character {
+/// The characters of a galley that the check accepts, in its order.
+pub fn characters(galley: &[u8]) -> impl Iterator<Item = Character> + '_ {
+    items(galley).filter_map(|item| match item {
+        Item::Character(character) => Some(character),
+        Item::Cut => None,
+    })
+}
+
+/// The first field and what follows it; nothing at End.
+fn split(rest: &[u8]) -> Option<(Item, &[u8])> {
+    let (header, body) = rest.split_first_chunk()?;
+    match header {
+        [1, 0, 6] => body.split_first_chunk().map(|(body, after)| (Item::Character(character(body)), after)),
+        [6, 0, 0] => Some((Item::Cut, body)),
+        _ => None,
+    }
+}
+
+fn character(body: &[u8; 6]) -> Character {
+    let [x1, x2, height1, height2, font_number, code] = *body;
     Character {
-        x: i16::from_be_bytes([field[3], field[4]]).into(),
-        height: u16::from_be_bytes([field[5], field[6]]).into(),
-        font_number: field[7].into(),
-        code: field[8].into(),
+        x: i16::from_be_bytes([x1, x2]).into(),
+        height: u16::from_be_bytes([height1, height2]).into(),
+        font_number: font_number.into(),
+        code: code.into(),
     }
 }

@@ -12,6 +12,6 @@ pub mod sheet;
 
 pub use operations::{
     check_galley, read_back, read_dvi, read_dvi_into, read_tape, read_tape_into, reprint, reprint_into,
-    write_dvi, write_dvi_into, Reprint, DVI_LIMIT, GALLEY_LIMIT, TAPE_LIMIT, WIDTHS_PER_FONT,
+    write_dvi, write_dvi_into, Reprint, DVI_LIMIT, GALLEY_LIMIT, ITEM_LIMIT, TAPE_LIMIT, WIDTHS_PER_FONT,
 };
 pub use refusal::{number, Outcome, Refusal};

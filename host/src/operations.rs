@@ -9,6 +9,9 @@ pub const TAPE_LIMIT: usize = 1_048_576;
 pub const GALLEY_LIMIT: usize = 9_437_191;
 pub const DVI_LIMIT: usize = 33_554_432;
 
+/// The most characters and cuts, together, that a galley holds.
+pub const ITEM_LIMIT: usize = 1_048_576;
+
 /// Widths in each font of a width table.
 pub const WIDTHS_PER_FONT: usize = 128;
 
@@ -55,7 +58,7 @@ pub fn read_back(galley: &[u8], n: usize) -> Result<Character, Refusal> {
     outcome(answer).map(|_| Character { x, height, font_number, code })
 }
 
-/// Writes a galley as a DVI file; the length is the file's.
+/// Writes a galley as a DVI file, with a new page for each cut; the length is the file's.
 pub fn write_dvi_into(galley: &[u8], dvi: &mut [u8]) -> Outcome {
     let mut answer = [0; 3];
     // SAFETY: every pointer comes from a live slice, with its length.
@@ -118,8 +121,9 @@ pub fn reprint_into(galley: &[u8], widths: &[i32], dvi: &mut [u8], sheet: &mut [
 /// The DVI file and the sheet of a galley.
 pub fn reprint(galley: &[u8], widths: &[i32]) -> Result<Reprint, Refusal> {
     let mut dvi = vec![0; room_for_dvi(galley)?];
-    let usual = 14 + 16 * (galley.len().min(GALLEY_LIMIT) / 9);
-    let sheet = filled(usual, number::SHEET_ROOM, |sheet| reprint_into(galley, widths, &mut dvi, sheet))?;
+    // A cut's 3 bytes give 7, a character's 9 give 16, and End's 7 the first page and End, 14.
+    let enough = 7 * (galley.len() / 3);
+    let sheet = filled(enough, number::SHEET_ROOM, |sheet| reprint_into(galley, widths, &mut dvi, sheet))?;
     Ok(Reprint { dvi, sheet })
 }
 

@@ -23,6 +23,7 @@ pub mod number {
     pub const OUT_OF_RANGE: usize = 7;
     pub const UPPER_HALF: usize = 8;
     pub const NO_STOP: usize = 9;
+    pub const AFTER_CUT: usize = 10;
     pub const NO_SUCH_CHARACTER: usize = 11;
     pub const GALLEY_ROOM: usize = 12;
     pub const DVI_TOO_LONG: usize = 20;
@@ -55,6 +56,7 @@ impl Refusal {
             number::OUT_OF_RANGE => "the carriage or the height would leave its range",
             number::UPPER_HALF => "a flash above 45 in the upper half",
             number::NO_STOP => "the tape ends without stop",
+            number::AFTER_CUT => "a code other than initialize after a cut, or the tape ends there",
             number::NO_SUCH_CHARACTER => "the galley has no character of this number",
             number::GALLEY_ROOM => "the buffer for the galley is too short",
             number::DVI_TOO_LONG => "the DVI file is longer than 33,554,432 bytes",

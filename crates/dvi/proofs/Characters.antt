@@ -1,8 +1,8 @@
--- The commands of valid characters show them, one after the other, each at its targets. The pen stands at targets of valid places, so
--- every move between them and every place fits 32 bits.
+-- The commands of a valid character show it at its targets. The pen stands at targets of valid places, so every move between them and
+-- every place fits 32 bits.
 -- Assumes nothing.
 use mathlib.Core.Path.{_≡_, refl}
-use mathlib.Core.List.{List, [], _∷_, map}
+use mathlib.Core.List.{List, [], _∷_}
 use native.Mathlib.Omega.{arith}
 use lib.IntN.{ℤ, pos, negsuc, _-ℤ_}
 use lib.Signed.{_≤ℤ_}
@@ -12,14 +12,10 @@ use Rattle.integers.specs.Parts.{integers}
 use Rattle.measure.specs.Target.{xTarget, yTarget}
 use Rattle.measure.specs.TargetLaws.{target-parts, y-parts, x-move-fits, y-move-fits}
 use Rattle.galley_file.specs.declared.character.Character.{Character}
-use Rattle.galley_file.specs.CharacterLaws.{Valid, valid-parts, x-range, height-range}
-use Rattle.galley_file.specs.Galley.{AllValid}
-use Rattle.galley_file.specs.Galley as galley
-use Rattle.dvi.specs.Page.{newPage}
-use Rattle.dvi.specs.Writer.{xTargetOf, yTargetOf, Pen, newPen, penAt, commandsOf, commands}
-use Rattle.dvi.specs.WriterLaws.{penAfter}
+use Rattle.galley_file.specs.CharacterLaws.{Valid, x-range, height-range}
+use Rattle.dvi.specs.Writer.{xTargetOf, yTargetOf, Pen, newPen, penAt, commandsOf}
 use Rattle.dvi.specs.Demand3.{markOf}
-use Rattle.dvi.proofs.Pieces.{Stands, Leads, leads-nil, leads-append, leads-font, leads-x, leads-y, leads-char, penIn, penX}
+use Rattle.dvi.proofs.Pieces.{Leads, leads-append, leads-font, leads-x, leads-y, leads-char, penIn, penX}
 
 -- where a valid character may be
 record Place (x h : ℤ) : Type 0 where
@@ -41,14 +37,14 @@ y-fits : {x h : ℤ} → Place x h → SFits w32 (yTarget h)
 y-fits {x} {h} p = omega (integers, p .top, p .bottom, y-parts h)
 
 -- the pen stands at the targets of such a place
-record OnPage (pen : Pen) : Type 0 where
+pub record OnPage (pen : Pen) : Type 0 where
   x : ℤ
   h : ℤ
   place : Place x h
   x-is : pen .x ≡ xTarget x
   y-is : pen .y ≡ yTarget h
 
-on-new : OnPage newPen
+pub on-new : OnPage newPen
 unfolding newPen xTarget yTarget
 on-new =
     record {
@@ -59,12 +55,12 @@ on-new =
       y-is = refl;
     }
 
-on-at : (c : Character) → Valid c → OnPage (penAt c)
+pub on-at : (c : Character) → Valid c → OnPage (penAt c)
 unfolding penAt
 on-at c v = record { x = c .x .0; h = c .height .0; place = place-of c v; x-is = refl; y-is = refl }
 
 module _ (ws : List ℤ) (last : ℤ) where
-  leads-character : (pen : Pen) (c : Character) → OnPage pen → Valid c → Leads ws last pen (commandsOf pen c) (markOf c ∷ []) (penAt c)
+  pub leads-character : (pen : Pen) (c : Character) → OnPage pen → Valid c → Leads ws last pen (commandsOf pen c) (markOf c ∷ []) (penAt c)
   unfolding commandsOf markOf penAt
   leads-character pen c o v =
       leads-append ws last (leads-font ws last pen (c .font) (v .font))
@@ -83,17 +79,3 @@ module _ (ws : List ℤ) (last : ℤ) where
 
       move-y : SFits w32 (yTargetOf c -ℤ pen .y)
       move-y = rw (o .y-is) (y-move-fits (c .height .0) (o .h) (to .top) (to .bottom) (from .top) (from .bottom))
-
-  leads-from : (pen : Pen) {cs : List Character} → OnPage pen → AllValid cs → Leads ws last pen (commands pen cs) (map markOf cs) (penAfter pen cs)
-  unfolding commands penAfter
-  leads-from pen o galley.none = leads-nil ws last pen
-  leads-from pen o (galley.more {c = c} v vs) =
-      let p = valid-parts v in
-      leads-append ws last (leads-character pen c o p) (leads-from (penAt c) (on-at c p) vs)
-
-  pub leads-commands : {cs : List Character} → AllValid cs → Leads ws last newPen (commands newPen cs) (map markOf cs) (penAfter newPen cs)
-  leads-commands v = leads-from newPen on-new v
-
-pub stands-new : Stands newPen newPage
-unfolding newPen newPage
-stands-new = record { at-x = refl; at-y = refl; at-font = refl; at-stack = refl }

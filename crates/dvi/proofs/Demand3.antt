@@ -1,12 +1,12 @@
--- Demand 3 over lists of characters: each clause from what the file shows. Targets are nearest to the true place, and different places
+-- Demand 3 over lists of items: each clause from what the file shows. Targets are nearest to the true place, and different places
 -- have different targets.
---     demand3          the file of valid characters shows them, and its sheet
+--     demand3          the file of valid items shows them, and its sheet
 --     compared         two lists side by side
---     shows-only       what shows a character is `markOf` it
+--     shows-only       what shows a character is `markOf` it, and what shows items is `marksOf` them
 --     file-result      the reader's result for the file, whatever the room
 -- Assumes nothing.
 use mathlib.Core.Path.{_≡_, refl, sym, ap, _∙_}
-use mathlib.Core.List.{List, [], _∷_, map}
+use mathlib.Core.List.{List, [], _∷_}
 use mathlib.Core.Option.{some}
 use Prim.Native.Nat.{ℕ, zero, suc, _+_, _*_, _%_, _≤_}
 use native.Mathlib.Omega.{arith}
@@ -18,14 +18,17 @@ use Rattle.octets.specs.Answer.{written, ifRoom, noSheetRoom}
 use Rattle.measure.specs.Target.{xTarget, yTarget}
 use Rattle.measure.specs.TargetLaws.{target-near, target-only, target-injective, y-parts}
 use Rattle.galley_file.specs.declared.character.Character.{Character}
-use Rattle.galley_file.specs.Galley.{AllValid}
+use Rattle.galley_file.specs.declared.item.Item.{Item}
+use Rattle.galley_file.specs.declared.item.Item.the-variants.{Placed, Cut}
+use Rattle.galley_file.specs.Item.{charactersOf, cutsOf}
+use Rattle.galley_file.specs.Galley.{maxItems, AllValid}
 use Rattle.dvi.specs.Page.{fontChars, Mark, pageMark, charMark}
 use Rattle.dvi.specs.File.{shows, readDvi}
 use Rattle.dvi.specs.Sheet.{maxDvi, markField, markFields, sheet, shownResult, sheetResult}
 use Rattle.dvi.specs.SheetLaws.{length-markField, length-sheet}
 use Rattle.dvi.specs.Writer.{dviFile}
 use Rattle.dvi.specs.WriterLaws.{file-fits}
-use Rattle.dvi.specs.Demand3.{ShowsCharacter, ShowsAll, shows-none, shows-next, markOf, Faithful, shownFont, shownPlace, Alike, Compared}
+use Rattle.dvi.specs.Demand3.{ShowsCharacter, ShowsAll, shows-none, shows-next, shows-cut, markOf, marksOf, Faithful, shownFont, shownPlace, Alike, Compared}
 use Rattle.dvi.proofs.Shown.{file-shows}
 
 -- ---- what shows a character
@@ -34,55 +37,63 @@ shows-mark : (c : Character) → ShowsCharacter c (markOf c)
 unfolding markOf yTarget
 shows-mark c = record { shownX = xTarget (c .x .0); mark-is = refl; near-place = target-near (c .x .0) }
 
-shows-marks : (cs : List Character) → ShowsAll cs (map markOf cs)
-shows-marks [] = shows-none
-shows-marks (c ∷ cs) = shows-next (shows-mark c) (shows-marks cs)
+shows-marks : (n : ℕ) (is : List Item) → ShowsAll n is (marksOf n is)
+unfolding marksOf
+shows-marks n [] = shows-none
+shows-marks n (Placed c ∷ is) = shows-next (shows-mark c) (shows-marks n is)
+shows-marks n (Cut ∷ is) = shows-cut (shows-marks (suc n) is)
 
 pub shows-only : {c : Character} {m : Mark} → ShowsCharacter c m → m ≡ markOf c
 unfolding markOf yTarget
 shows-only {c} {m} s =
     s .mark-is ∙ ap (λ (x : ℤ). charMark x (yTarget (c .height .0)) (pos (c .font)) (c .code)) (target-only (c .x .0) (s .shownX) (s .near-place))
 
-pub shows-all-only : {cs : List Character} {ms : List Mark} → ShowsAll cs ms → ms ≡ map markOf cs
+pub shows-all-only : {n : ℕ} {is : List Item} {ms : List Mark} → ShowsAll n is ms → ms ≡ marksOf n is
+unfolding marksOf
 shows-all-only shows-none = refl
 shows-all-only (shows-next s r) = (λ i. shows-only s i ∷ shows-all-only r i)
+shows-all-only (shows-cut {n = n} r) = ap (λ (ms : List Mark). pageMark (pos (suc n)) ∷ ms) (shows-all-only r)
 
 -- ---- the sheet
 
-length-marks : (cs : List Character) → length (markFields (map markOf cs)) ≡ 16 * length cs
-unfolding markFields markOf
-length-marks [] = refl
-length-marks (c ∷ cs) =
+length-marks : (n : ℕ) (is : List Item) → length (markFields (marksOf n is)) ≡ 16 * length (charactersOf is) + 7 * cutsOf is
+unfolding markFields markOf marksOf charactersOf cutsOf
+length-marks n [] = refl
+length-marks n (Placed c ∷ is) =
     let l = length-markField (markOf c) in
-    let r = length-marks cs in
-    length-append (markField (markOf c)) (markFields (map markOf cs)) ∙ (omega arith)
+    let r = length-marks n is in
+    length-append (markField (markOf c)) (markFields (marksOf n is)) ∙ (omega arith)
+length-marks n (Cut ∷ is) =
+    let l = length-markField (pageMark (pos (suc n))) in
+    let r = length-marks (suc n) is in
+    length-append (markField (pageMark (pos (suc n)))) (markFields (marksOf (suc n) is)) ∙ (omega arith)
 
-sheet-size : (cs : List Character) → length (sheet (pageMark (pos 1) ∷ map markOf cs)) ≡ 16 * length cs + 14
+sheet-size : (is : List Item) → length (sheet (pageMark (pos 1) ∷ marksOf 1 is)) ≡ 16 * length (charactersOf is) + 7 * cutsOf is + 14
 unfolding markFields
-sheet-size cs =
+sheet-size is =
     let l = length-markField (pageMark (pos 1)) in
-    let r = length-marks cs in
-    let a = length-append (markField (pageMark (pos 1))) (markFields (map markOf cs)) in
-    length-sheet (pageMark (pos 1) ∷ map markOf cs) ∙ (omega arith)
+    let r = length-marks 1 is in
+    let a = length-append (markField (pageMark (pos 1))) (markFields (marksOf 1 is)) in
+    length-sheet (pageMark (pos 1) ∷ marksOf 1 is) ∙ (omega arith)
 
-pub file-result : (widths : List ℤ) {cs : List Character} → length widths % fontChars ≡ 0 → AllValid cs → length cs ≤ 1048576 → (room : ℕ)
-    → sheetResult (dviFile cs) widths room ≡ ifRoom noSheetRoom room (written (sheet (pageMark (pos 1) ∷ map markOf cs)))
+pub file-result : (widths : List ℤ) {is : List Item} → length widths % fontChars ≡ 0 → AllValid is → length is ≤ maxItems → (room : ℕ)
+    → sheetResult (dviFile is) widths room ≡ ifRoom noSheetRoom room (written (sheet (pageMark (pos 1) ∷ marksOf 1 is)))
 unfolding sheetResult shownResult
-file-result widths {cs} w v h room =
-    rw (le-ltb maxDvi (length (dviFile cs)) (file-fits cs h), eq-eqb (length widths % fontChars) 0 w, file-shows widths v h)
+file-result widths {is} w v h room =
+    rw (le-ltb maxDvi (length (dviFile is)) (file-fits is h), eq-eqb (length widths % fontChars) 0 w, file-shows widths v h)
 
-pub demand3 : (widths : List ℤ) {cs : List Character} → length widths % fontChars ≡ 0 → AllValid cs → length cs ≤ 1048576 → Faithful widths cs
+pub demand3 : (widths : List ℤ) {is : List Item} → length widths % fontChars ≡ 0 → AllValid is → length is ≤ maxItems → Faithful widths is
 unfolding ifRoom
-demand3 widths {cs} w v h =
+demand3 widths {is} w v h =
     record {
-      file-size = file-fits cs h;
-      marks = map markOf cs;
+      file-size = file-fits is h;
+      marks = marksOf 1 is;
       shown = file-shows widths v h;
-      all-shown = shows-marks cs;
-      sheet-size = sheet-size cs;
+      all-shown = shows-marks 1 is;
+      sheet-size = sheet-size is;
       sheet-is = λ room r.
-          let s = sheet-size cs in
-          file-result widths w v h room ∙ rw (le-ltb room (length (sheet (pageMark (pos 1) ∷ map markOf cs))) (omega arith));
+          let s = sheet-size is in
+          file-result widths w v h room ∙ rw (le-ltb room (length (sheet (pageMark (pos 1) ∷ marksOf 1 is))) (omega arith));
     }
 
 -- ---- two lists
@@ -113,31 +124,40 @@ mark-injective c d e =
     let k : c .code ≡ d .code = cc in
     (λ i. record { x = p .0 i; height = p .1 i; font = f i; code = k i })
 
-marks-injective : (cs ds : List Character) → map markOf cs ≡ map markOf ds → cs ≡ ds
-marks-injective [] [] e = refl
-marks-injective [] (d ∷ ds) e = cc
-marks-injective (c ∷ cs) [] e = cc
-marks-injective (c ∷ cs) (d ∷ ds) e =
+marks-injective : (n : ℕ) (is js : List Item) → marksOf n is ≡ marksOf n js → is ≡ js
+unfolding marksOf markOf
+marks-injective n [] [] e = refl
+marks-injective n [] (Placed d ∷ js) e = cc
+marks-injective n [] (Cut ∷ js) e = cc
+marks-injective n (Placed c ∷ is) [] e = cc
+marks-injective n (Placed c ∷ is) (Placed d ∷ js) e =
     let p = mark-injective c d (cc) in
-    let q = marks-injective cs ds (cc) in
-    (λ i. p i ∷ q i)
+    let q = marks-injective n is js (cc) in
+    (λ i. Placed (p i) ∷ q i)
+marks-injective n (Placed c ∷ is) (Cut ∷ js) e = cc
+marks-injective n (Cut ∷ is) [] e = cc
+marks-injective n (Cut ∷ is) (Placed d ∷ js) e = cc
+marks-injective n (Cut ∷ is) (Cut ∷ js) e = ap (λ (l : List Item). Cut ∷ l) (marks-injective (suc n) is js (cc))
 
-pub file-injective : {cs ds : List Character} → AllValid cs → AllValid ds → length cs ≤ 1048576 → length ds ≤ 1048576 → dviFile cs ≡ dviFile ds → cs ≡ ds
-file-injective {cs} {ds} v w h k e =
-    let s : shows (pageMark (pos 1) ∷ map markOf cs) ≡ shows (pageMark (pos 1) ∷ map markOf ds) = sym (file-shows [] v h) ∙ ap (readDvi []) e ∙ file-shows [] w k in
-    marks-injective cs ds (cc)
+pub file-injective : {is js : List Item} → AllValid is → AllValid js → length is ≤ maxItems → length js ≤ maxItems → dviFile is ≡ dviFile js → is ≡ js
+file-injective {is} {js} v w h k e =
+    let s : shows (pageMark (pos 1) ∷ marksOf 1 is) ≡ shows (pageMark (pos 1) ∷ marksOf 1 js) = sym (file-shows [] v h) ∙ ap (readDvi []) e ∙ file-shows [] w k in
+    marks-injective 1 is js (cc)
 
 -- the mark at an index shows the character there
-mark-at : {cs : List Character} {ms : List Mark} → ShowsAll cs ms → (i : ℕ) (c : Character) (m : Mark) → getElem? cs i ≡ some c → getElem? ms i ≡ some m → m ≡ markOf c
+mark-at : {n : ℕ} {is : List Item} {ms : List Mark} → ShowsAll n is ms → (i : ℕ) (c : Character) (m : Mark) → getElem? is i ≡ some (Placed c) → getElem? ms i ≡ some m
+    → m ≡ markOf c
 mark-at shows-none i c m e f = cc
 mark-at (shows-next {c = d} {m = n} s r) zero c m e f =
     let q : n ≡ m = cc in
     let p : d ≡ c = cc in
     sym q ∙ shows-only s ∙ ap markOf p
 mark-at (shows-next s r) (suc i) c m e f = mark-at r i c m e f
+mark-at (shows-cut r) zero c m e f = cc
+mark-at (shows-cut r) (suc i) c m e f = mark-at r i c m e f
 
-pub compared : {cs ds : List Character} {ms ns : List Mark} → AllValid cs → AllValid ds → length cs ≤ 1048576 → length ds ≤ 1048576 → ShowsAll cs ms → ShowsAll ds ns
-    → Compared cs ds ms ns
+pub compared : {is js : List Item} {ms ns : List Mark} → AllValid is → AllValid js → length is ≤ maxItems → length js ≤ maxItems → ShowsAll 1 is ms → ShowsAll 1 js ns
+    → Compared is js ms ns
 compared v w h k s t =
     record {
       same-file = (file-injective v w h k, ap dviFile);

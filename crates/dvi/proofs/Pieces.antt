@@ -93,9 +93,6 @@ byte c h = signedBytes-pos 1 c ∙ ap {B = List ℕ} (λ (n : ℕ). n ∷ []) (o
 -- ---- the pieces, one after another
 
 module _ (ws : List ℤ) (last : ℤ) where
-  pub leads-nil : (pen : Pen) → Leads ws last pen [] [] pen
-  leads-nil pen = record { lead = λ p h. record { page = p; stands = h; goes = λ at. goes-nil ws at (inside last p) } }
-
   pub leads-append : {pen mid to : Pen} {bs cs : List ℕ} {ms ns : List Mark} → Leads ws last pen bs ms mid → Leads ws last mid cs ns to
       → Leads ws last pen (bs ++ cs) (ms ++ ns) to
   leads-append {pen} {mid} {to} {bs} {cs} {ms} {ns} f g = record { lead = λ p h. both (f .lead p h) }

@@ -1,4 +1,4 @@
--- The DVI file of 1980 (002): what it is, what it shows, the sheet that this makes, and the file of a list of characters.
+-- The DVI file of 1980 (002): what it is, what it shows, the sheet that this makes, and the file of a list of items.
 pub mod Command
 pub mod Page
 pub mod PageLaws

@@ -1,9 +1,12 @@
--- The DVI file of a list of characters, to the last byte (document 01, "Our writer makes one page").
+-- The DVI file of a list of items, to the last byte (document 01, "Our writer makes one page"; document 02, "Software cuts").
 --     xTargetOf, yTargetOf     a character's targets
 --     Pen                      what was last set: the font, X and Y
 --     commandsOf               the commands that set a character after this pen
---     commands                 those of a list of characters
---     pageBytes                a page
+--     bopBytes                 the start of a page
+--     Press                    how far the file is made: the pen, the page's number, its offset, and the next byte's
+--     itemBytes                the bytes of an item after this press, and pressAfter the press after them
+--     itemsBytes               those of a list of items, and pressAll the press after them
+--     pagesBytes               all pages
 --     largest                  the largest of some numbers, and at least 0
 --     usedFonts                the fonts that are used, ascending
 --     definition               a font's definition
@@ -21,6 +24,9 @@ use Rattle.octets.specs.Octets.{signedBytes, widthOf}
 use Rattle.measure.specs.Target.{xTarget, yTarget}
 use Rattle.galley_file.specs.Font.{fontOf, pointSize}
 use Rattle.galley_file.specs.declared.character.Character.{Character}
+use Rattle.galley_file.specs.declared.item.Item.{Item}
+use Rattle.galley_file.specs.declared.item.Item.the-variants.{Placed, Cut}
+use Rattle.galley_file.specs.Item.{charactersOf}
 use Rattle.dvi.specs.Command.{BOP, EOP, PST, HORZCHAR, FONT, X4, Y4, FONTNUM}
 
 -- ---- the commands of a character
@@ -67,16 +73,46 @@ commandsOf p c =
     fontChange (p .font) (c .font)
     ++ (move X4 (xTargetOf c -ℤ p .x) ++ (move Y4 (yTargetOf c -ℤ p .y) ++ (HORZCHAR ∷ c .code ∷ [])))
 
-unfoldable pub commands : Pen → List Character → List ℕ
-commands p [] = []
-commands p (c ∷ cs) = commandsOf p c ++ commands (penAt c) cs
+-- ---- the pages
 
--- ---- a page
+-- BOP with the page's number and the offset of the previous BOP
+unfoldable pub bopBytes : ℕ → ℤ → List ℕ
+bopBytes n previous = BOP ∷ signedBytes 4 (pos n) ++ signedBytes 4 previous
 
--- BOP with the page's number and the offset of the previous BOP, the commands, EOP
-unfoldable pub pageBytes : ℕ → ℤ → List Character → List ℕ
-pageBytes n previous cs =
-    BOP ∷ signedBytes 4 (pos n) ++ (signedBytes 4 previous ++ (commands newPen cs ++ (EOP ∷ [])))
+pub record Press : Type 0 where
+  pub pen : Pen
+  -- the page's number
+  pub page : ℕ
+  -- the offset of its BOP
+  pub bop : ℕ
+  -- the offset of the next byte
+  pub at : ℕ
+
+-- after the first BOP: page 1, at offset 0
+unfoldable pub firstPress : Press
+firstPress = record { pen = newPen; page = 1; bop = 0; at = 9 }
+
+-- "each cut ends the page and starts the next, numbered 1, 2, 3": EOP, and BOP with the next number and this page's offset
+unfoldable pub itemBytes : Press → Item → List ℕ
+itemBytes p (Placed c) = commandsOf (p .pen) c
+itemBytes p Cut = EOP ∷ bopBytes (suc (p .page)) (pos (p .bop))
+
+-- a new page has a new pen: "with the font stated anew"; its BOP follows EOP
+unfoldable pub pressAfter : Press → Item → Press
+pressAfter p (Placed c) = record { pen = penAt c; page = p .page; bop = p .bop; at = p .at + length (commandsOf (p .pen) c) }
+pressAfter p Cut = record { pen = newPen; page = suc (p .page); bop = p .at + 1; at = p .at + 10 }
+
+unfoldable pub itemsBytes : Press → List Item → List ℕ
+itemsBytes p [] = []
+itemsBytes p (i ∷ is) = itemBytes p i ++ itemsBytes (pressAfter p i) is
+
+unfoldable pub pressAll : Press → List Item → Press
+pressAll p [] = p
+pressAll p (i ∷ is) = pressAll (pressAfter p i) is
+
+-- the first page's BOP, the items, and the last page's EOP
+unfoldable pub pagesBytes : List Item → List ℕ
+pagesBytes is = bopBytes 1 (negsuc 0) ++ (itemsBytes firstPress is ++ (EOP ∷ []))
 
 -- ---- the postamble
 
@@ -116,10 +152,8 @@ postambleBytes last pst cs =
     ++ (signedBytes 4 (largest (map yTargetOf cs))
     ++ (signedBytes 4 (largest (map xTargetOf cs)) ++ (definitionBytes (usedFonts 120 cs) ++ trailerBytes pst)))
 
--- ---- the file: one page, number 1
+-- ---- the file
 
-unfoldable pub onePage : List Character → List ℕ
-onePage cs = pageBytes 1 (negsuc 0) cs
-
-unfoldable pub dviFile : List Character → List ℕ
-dviFile cs = onePage cs ++ postambleBytes 0 (length (onePage cs)) cs
+-- "Postamble height and width are over all pages", and so are the fonts defined
+unfoldable pub dviFile : List Item → List ℕ
+dviFile is = pagesBytes is ++ postambleBytes (pressAll firstPress is .bop) (length (pagesBytes is)) (charactersOf is)

@@ -1,8 +1,13 @@
--- How long the pieces of the file are, and how it grows by one character.
---     commands-more          the commands of one character more
---     commands-part          the first characters have no more commands than all
+-- How long the pieces of the file are, and how it grows by one item.
+--     itemsBytes-append      the bytes of two runs of items, and itemsBytes-more of one item more
+--     itemsBytes-part        the first items have no more bytes than all
+--     pressAll-more          the press after one item more
+--     press-at               the offset after a run of items
+--     press-page             the most that the page's number is then
+--     Small, press-small     no number of the press is too large for four bytes
 --     largest-more           the largest of one number more
 --     definitions-append     the definitions of two runs of fonts
+--     length-pages           the length of all pages
 --     length-file            the length of the file
 --     file-fits              which a reader takes
 -- Assumes nothing.
@@ -10,18 +15,23 @@ use mathlib.Core.Path.{_≡_, refl, sym, ap, _∙_}
 use mathlib.Core.Bool.{Bool, true, false, cond}
 use mathlib.Core.List.{List, [], _∷_, _++_, append-assoc, append-nil, foldl-append}
 use mathlib.Core.Option.{Option, none, some}
-use Prim.Native.Nat.{ℕ, zero, suc, _+_, _*_, _≤_}
+use Prim.Native.Nat.{ℕ, zero, suc, _+_, _*_, _≤_, _<_}
+use native.Mathlib.Nat.{zero-add, suc-add}
 use native.Mathlib.Omega.{arith}
 use lib.Dec.{ltb, eqb}
-use lib.IntN.{ℤ, pos, negsuc, _-ℤ_}
-use lib.ListN.{length, take, length-append}
+use lib.IntN.{ℤ, pos, _-ℤ_}
+use lib.ListN.{length, length-append}
 use Rattle.integers.specs.Parts.{eqZ, maxZ}
 use Rattle.octets.specs.Octets.{bytes, signedBytes, widthOf}
 use Rattle.octets.specs.OctetsLaws.{by-cond, length-signedBytes, width-range}
 use Rattle.galley_file.specs.declared.character.Character.{Character}
+use Rattle.galley_file.specs.declared.item.Item.{Item}
+use Rattle.galley_file.specs.declared.item.Item.the-variants.{Placed, Cut}
+use Rattle.galley_file.specs.Item.{charactersOf}
+use Rattle.galley_file.specs.Galley.{maxItems}
 use Rattle.dvi.specs.Command.{EOP, X4, Y4}
 use Rattle.dvi.specs.Sheet.{maxDvi}
-use Rattle.dvi.specs.Writer.{xTargetOf, yTargetOf, Pen, newPen, penAt, fontCommand, fontChange, shortest, move, commandsOf, commands, pageBytes, largest, uses, usedFonts, nameOf, definition, definitionBytes, trailerBytes, postambleBytes, onePage, dviFile}
+use Rattle.dvi.specs.Writer.{xTargetOf, yTargetOf, Pen, fontCommand, fontChange, shortest, move, commandsOf, bopBytes, Press, firstPress, itemBytes, pressAfter, itemsBytes, pressAll, pagesBytes, largest, uses, usedFonts, nameOf, definition, definitionBytes, trailerBytes, postambleBytes, dviFile}
 
 -- ---- the commands of a character
 
@@ -58,47 +68,96 @@ commandsOf-most p c =
     simp length-append
     (omega (arith, fontChange-most (p .font) (c .font), move-most X4 (xTargetOf c -ℤ p .x), move-most Y4 (yTargetOf c -ℤ p .y)))
 
--- ---- the commands of a list of characters
+-- ---- the bytes of items
 
-pub commands-most : (p : Pen) (cs : List Character) → length (commands p cs) ≤ 17 * length cs
-unfolding commands
-commands-most p [] = omega arith
-commands-most p (c ∷ cs) = rw length-append (omega (arith, commandsOf-most p c, commands-most (penAt c) cs))
+pub itemBytes-most : (p : Press) (i : Item) → length (itemBytes p i) ≤ 17
+unfolding itemBytes bopBytes signedBytes bytes
+itemBytes-most p (Placed c) = commandsOf-most (p .pen) c
+itemBytes-most p Cut = omega arith
 
--- the pen after some characters
-unfoldable pub penAfter : Pen → List Character → Pen
-penAfter p [] = p
-penAfter p (c ∷ cs) = penAfter (penAt c) cs
+pub itemsBytes-most : (p : Press) (is : List Item) → length (itemsBytes p is) ≤ 17 * length is
+unfolding itemsBytes
+itemsBytes-most p [] = omega arith
+itemsBytes-most p (i ∷ is) = rw length-append (omega (arith, itemBytes-most p i, itemsBytes-most (pressAfter p i) is))
 
-pub penAfter-more : (p : Pen) (cs : List Character) (c : Character) → penAfter p (cs ++ (c ∷ [])) ≡ penAt c
-unfolding penAfter
-penAfter-more p [] c = refl
-penAfter-more p (d ∷ cs) c = penAfter-more (penAt d) cs c
+pub itemsBytes-append : (p : Press) (is js : List Item) → itemsBytes p (is ++ js) ≡ itemsBytes p is ++ itemsBytes (pressAll p is) js
+unfolding itemsBytes pressAll
+itemsBytes-append p [] js = refl
+itemsBytes-append p (i ∷ is) js =
+    ap (λ (l : List ℕ). itemBytes p i ++ l) (itemsBytes-append (pressAfter p i) is js)
+    ∙ sym (append-assoc (itemBytes p i) (itemsBytes (pressAfter p i) is) (itemsBytes (pressAll (pressAfter p i) is) js))
 
-pub commands-more : (p : Pen) (cs : List Character) (c : Character) → commands p (cs ++ (c ∷ [])) ≡ commands p cs ++ commandsOf (penAfter p cs) c
-unfolding commands penAfter
-commands-more p [] c = append-nil (commandsOf p c)
-commands-more p (d ∷ cs) c =
-    ap (λ (l : List ℕ). commandsOf p d ++ l) (commands-more (penAt d) cs c)
-    ∙ sym (append-assoc (commandsOf p d) (commands (penAt d) cs) (commandsOf (penAfter (penAt d) cs) c))
+pub itemsBytes-more : (p : Press) (is : List Item) (i : Item) → itemsBytes p (is ++ (i ∷ [])) ≡ itemsBytes p is ++ itemBytes (pressAll p is) i
+unfolding itemsBytes
+itemsBytes-more p is i =
+    itemsBytes-append p is (i ∷ []) ∙ ap (λ (l : List ℕ). itemsBytes p is ++ l) (append-nil (itemBytes (pressAll p is) i))
 
-pub commands-part : (p : Pen) (n : ℕ) (cs : List Character) → length (commands p (take n cs)) ≤ length (commands p cs)
-unfolding commands
-commands-part p zero cs = omega arith
-commands-part p (suc n) [] = omega arith
-commands-part p (suc n) (c ∷ cs) =
-    rw (length-append (commandsOf p c) (commands (penAt c) (take n cs)), length-append (commandsOf p c) (commands (penAt c) cs))
-    (omega (arith, commands-part (penAt c) n cs))
+pub itemsBytes-part : (p : Press) (is js : List Item) → length (itemsBytes p is) ≤ length (itemsBytes p (is ++ js))
+itemsBytes-part p is js = rw (itemsBytes-append p is js, length-append) (omega arith)
 
--- ---- a page
+-- ---- the press after them
 
-pub length-page : (n : ℕ) (previous : ℤ) (cs : List Character) → length (pageBytes n previous cs) ≡ 10 + length (commands newPen cs)
-unfolding pageBytes bytes signedBytes
-length-page n previous cs = rw (length-append (commands newPen cs) (EOP ∷ [])) (omega arith)
+pub pressAll-more : (p : Press) (is : List Item) (i : Item) → pressAll p (is ++ (i ∷ [])) ≡ pressAfter (pressAll p is) i
+unfolding pressAll
+pressAll-more p [] i = refl
+pressAll-more p (j ∷ is) i = pressAll-more (pressAfter p j) is i
 
-pub length-onePage : (cs : List Character) → length (onePage cs) ≡ 10 + length (commands newPen cs)
-unfolding onePage
-length-onePage cs = length-page 1 (negsuc 0) cs
+pub press-next : (p : Press) (i : Item) → pressAfter p i .at ≡ p .at + length (itemBytes p i)
+unfolding pressAfter itemBytes bopBytes signedBytes bytes
+press-next p (Placed c) = refl
+press-next p Cut = refl
+
+pub press-at : (p : Press) (is : List Item) → pressAll p is .at ≡ p .at + length (itemsBytes p is)
+unfolding pressAll itemsBytes
+press-at p [] = omega arith
+press-at p (i ∷ is) = rw length-append (omega (arith, press-next p i, press-at (pressAfter p i) is))
+
+page-next : (p : Press) (i : Item) → pressAfter p i .page ≤ suc (p .page)
+unfolding pressAfter
+page-next p (Placed c) = omega arith
+page-next p Cut = omega arith
+
+pub press-page : (p : Press) (is : List Item) → pressAll p is .page ≤ p .page + length is
+unfolding pressAll
+press-page p [] = omega arith
+press-page p (i ∷ is) = omega (arith, page-next p i, press-page (pressAfter p i) is)
+
+-- the numbers of the press fit four bytes, after n items more too
+pub record Small (p : Press) (n : ℕ) : Type 0 where
+  pub bop-before : p .bop ≤ p .at
+  pub at-small : p .at + 17 * n < 2147483648
+  pub page-small : p .page + n < 2147483648
+
+bop-next : (p : Press) (i : Item) → p .bop ≤ p .at → pressAfter p i .bop ≤ pressAfter p i .at
+unfolding pressAfter
+bop-next p (Placed c) h = omega arith
+bop-next p Cut h = omega arith
+
+pub small-next : (p : Press) (i : Item) (n : ℕ) → Small p (suc n) → Small (pressAfter p i) n
+small-next p i n s =
+    record {
+      bop-before = bop-next p i (s .bop-before);
+      at-small = omega (arith, s .at-small, press-next p i, itemBytes-most p i);
+      page-small = omega (arith, s .page-small, page-next p i);
+    }
+
+small-all : (p : Press) (is : List Item) (n : ℕ) → Small p (length is + n) → Small (pressAll p is) n
+unfolding pressAll
+small-all p [] n s = rw zero-add at s
+small-all p (i ∷ is) n s = small-all (pressAfter p i) is n (small-next p i (length is + n) (rw suc-add at s))
+
+pub small-first : (n : ℕ) → n ≤ maxItems → Small firstPress n
+unfolding firstPress
+small-first n h = record { bop-before = omega arith; at-small = omega arith; page-small = omega arith }
+
+pub press-small : (is : List Item) (n : ℕ) → length is + n ≤ maxItems → Small (pressAll firstPress is) n
+press-small is n h = small-all firstPress is n (small-first (length is + n) h)
+
+-- ---- all pages
+
+pub length-pages : (is : List Item) → length (pagesBytes is) ≡ 10 + length (itemsBytes firstPress is)
+unfolding pagesBytes bopBytes bytes signedBytes
+length-pages is = rw (length-append (itemsBytes firstPress is) (EOP ∷ [])) (omega arith)
 
 -- ---- the postamble
 
@@ -135,9 +194,9 @@ length-postamble last pst cs =
 
 -- ---- the file
 
-pub length-file : (cs : List Character) → length (dviFile cs) ≡ 36 + length (commands newPen cs) + 14 * length (usedFonts 120 cs)
+pub length-file : (is : List Item) → length (dviFile is) ≡ 36 + length (itemsBytes firstPress is) + 14 * length (usedFonts 120 (charactersOf is))
 unfolding dviFile
-length-file cs = rw length-append (omega (arith, length-postamble 0 (length (onePage cs)) cs, length-onePage cs))
+length-file is = rw (length-append, length-postamble, length-pages is) (omega arith)
 
-pub file-fits : (cs : List Character) → length cs ≤ 1048576 → length (dviFile cs) ≤ maxDvi
-file-fits cs h = rw length-file (omega (arith, commands-most newPen cs, usedFonts-most 120 cs))
+pub file-fits : (is : List Item) → length is ≤ maxItems → length (dviFile is) ≤ maxDvi
+file-fits is h = rw length-file (omega (arith, itemsBytes-most firstPress is, usedFonts-most 120 (charactersOf is)))

@@ -1,5 +1,5 @@
 // Directed cases of reading and of writing DVI files, run and compared. Each dot is a case that came out right; expected answers are
-// worked out by hand from source 002 and document 01.
+// worked out by hand from source 002 and documents 01 and 02.
 mod cases;
 mod readings;
 mod writings;
@@ -55,6 +55,8 @@ fn run_writings() {
     writings::with_fonts();
     line(b"not written");
     writings::not_written();
+    line(b"cuts");
+    writings::cuts();
 }
 
 fn main() {

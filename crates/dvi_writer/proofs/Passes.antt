@@ -1,81 +1,219 @@
--- One turn of each pass over a checked galley: what was found, or written, of the first i characters, with one more.
+-- One turn of each pass over a checked galley: what was found, or written, of the items behind, with one more.
 -- Assumes nothing.
-use mathlib.Core.Path.{_≡_, sym, ap, _∙_}
+use mathlib.Core.Path.{_≡_, refl, sym, ap, subst, _∙_}
 use mathlib.Core.Bool.{true}
-use mathlib.Core.List.{List, [], _∷_, _++_, map, map-append}
+use mathlib.Core.List.{List, [], _∷_, _++_, map, map-append, append-nil}
 use Prim.Native.Nat.{ℕ, _+_, _*_, _≤_, _<_}
 use native.Mathlib.Omega.{arith}
 use lib.IntN.{ℤ, pos}
-use lib.ListN.{length, take, length-append}
+use lib.ListN.{length, length-append}
 use Rattle.integers.specs.Parts.{maxZ}
 use Rattle.octets.specs.Answer.{accepted}
-use Rattle.octets.specs.Write.{Wrote, then, named}
+use Rattle.octets.specs.Octets.{bytes, signedBytes}
+use Rattle.octets.specs.Write.{Wrote, wrote-none, then, named}
 use Rattle.galley_file.specs.declared.character.Character.{Character}
-use Rattle.galley_file.specs.Character.{valid, characterAt}
+use Rattle.galley_file.specs.declared.item.Item.{Item}
+use Rattle.galley_file.specs.declared.item.Item.the-variants.{Placed, Cut}
+use Rattle.galley_file.specs.Item.{validItem, itemSize, itemAt, charactersOf}
+use Rattle.galley_file.specs.Galley.{maxItems}
+use Rattle.galley_file.specs.ItemLaws.{characters-append}
+use Rattle.galley_file.specs.Walk.{Midway, Onward, midway-inside, midway-end, midway-next, midway-room}
 use Rattle.galley_file.specs.Outcome.{checkOutcome}
-use Rattle.dvi.specs.Writer.{xTargetOf, yTargetOf, newPen, commandsOf, commands, largest}
-use Rattle.dvi.specs.WriterLaws.{commands-most, commands-more, commands-part, largest-more}
+use Rattle.dvi.specs.Writer.{xTargetOf, yTargetOf, newPen, commandsOf, bopBytes, Press, firstPress, itemBytes, pressAfter, itemsBytes, pressAll, largest}
+use Rattle.dvi.specs.WriterLaws.{itemsBytes-most, itemsBytes-append, itemsBytes-more, itemsBytes-part, pressAll-more, press-small, largest-more}
 use Rattle.dvi.specs.FontMarks.{FontsAre}
 use Rattle.dvi.specs.FontMarksLaws.{fonts-more}
 use Rattle.dvi_writer.specs.declared.pen.Pen.{Pen}
+use Rattle.dvi_writer.specs.declared.press.Press.{Press as CodePress}
 use Rattle.dvi_writer.specs.declared.extents.Extents.{Extents}
-use Rattle.dvi_writer.specs.Result.{charactersOf}
-use Rattle.dvi_writer.specs.Pen.{penOf, PenAt, PenAfter}
+use Rattle.dvi_writer.specs.Result.{itemsOf}
+use Rattle.dvi_writer.specs.Pen.{penOf, OnPage, PenIs, penPast}
+use Rattle.dvi_writer.specs.Press.{pressOf, PressIs}
 use Rattle.dvi_writer.specs.Extents.{Extended, ExtentsAre}
-use Rattle.dvi_writer.proofs.Pens.{font-valid, pen-more}
-use Rattle.dvi_writer.proofs.Galleys.{counted, few, valid-at, one-more}
+use Rattle.dvi_writer.proofs.Galleys.{few, within, begun}
 
 pub extents-none : (e : Extents) → e .length ≡ 0 → e .x .0 ≡ pos 0 → e .y .0 ≡ pos 0 → FontsAre (e .fonts .low) (e .fonts .high) [] → ExtentsAre e []
-unfolding commands largest
+unfolding itemsBytes charactersOf largest
 extents-none e l x y f = record { length-is = l; x-is = x; y-is = y; fonts-are = f }
 
 -- the largest target of one character more
 largest-map : (target : Character → ℤ) (cs : List Character) (c : Character) → largest (map target (cs ++ (c ∷ []))) ≡ maxZ (largest (map target cs)) (target c)
 largest-map target cs c = ap largest (map-append target cs (c ∷ [])) ∙ largest-more (map target cs) (target c)
 
-module _ (last : Pen) (cs : List Character) (c : Character) (l : PenAfter last cs) where
-  more : commands newPen (cs ++ (c ∷ [])) ≡ commands newPen cs ++ commandsOf (penOf last) c
-  more = commands-more newPen cs c ∙ ap (λ p. commands newPen cs ++ commandsOf p c) (sym (l .pen-is))
+pub length-cut : (p : Press) → length (itemBytes p Cut) ≡ 10
+unfolding itemBytes bopBytes signedBytes bytes
+length-cut p = refl
 
-  extents-more : (e r : Extents) → c .font < 120 → ExtentsAre e cs → Extended e (penOf last) c r → ExtentsAre r (cs ++ (c ∷ []))
-  extents-more e r h a x = record {
-    length-is =
-        x .length-is
-        ∙ ap (λ (k : ℕ). k + length (commandsOf (penOf last) c)) (a .length-is)
-        ∙ sym (length-append (commands newPen cs) (commandsOf (penOf last) c))
-        ∙ ap length (sym more);
-    x-is = x .x-is ∙ ap (λ (z : ℤ). maxZ z (xTargetOf c)) (a .x-is) ∙ sym (largest-map xTargetOf cs c);
-    y-is = x .y-is ∙ ap (λ (z : ℤ). maxZ z (yTargetOf c)) (a .y-is) ∙ sym (largest-map yTargetOf cs c);
-    fonts-are = rw (x .low-is, x .high-is) (fonts-more (e .fonts .low) (e .fonts .high) cs c (a .fonts-are) h);
-  }
+-- ---- extents with one item more
 
-module _ (g : List ℕ) (count : ℕ) (a : accepted count ≡ checkOutcome g) where
-  -- the commands of the first i characters are not long
-  pub short : (i : ℕ) → length (commands newPen (take i (charactersOf g))) ≤ 17825792
-  short i =
-      omega (arith, commands-part newPen i (charactersOf g), commands-most newPen (charactersOf g), counted g count a, few g count a)
+module _ (is : List Item) (e r : Extents) (a : ExtentsAre e is) where
+  longer : (i : Item) (n : ℕ) → r .length ≡ e .length + n → n ≡ length (itemBytes (pressAll firstPress is) i) → r .length ≡ length (itemsBytes firstPress (is ++ (i ∷ [])))
+  longer i n l k =
+      let m = ap length (itemsBytes-more firstPress is i) in
+      omega (arith, l, k, a .length-is, m, length-append (itemsBytes firstPress is) (itemBytes (pressAll firstPress is) i))
 
-  module _ (i : ℕ) (h : i < count) (c : Character) (e : c ≡ characterAt g (i * 9)) where
-    pub valid-next : valid c ≡ true
-    valid-next = rw e (valid-at g count a i h)
+  pub extents-character : (last : Pen) (c : Character) → c .font < 120 → pressAll firstPress is .pen ≡ penOf last → Extended e (penOf last) c r → ExtentsAre r (is ++ (Placed c ∷ []))
+  unfolding charactersOf itemBytes
+  extents-character last c h q x =
+      let cs = charactersOf is in
+      let all : charactersOf (is ++ (Placed c ∷ [])) ≡ cs ++ (c ∷ []) = characters-append is (Placed c ∷ []) in
+      record {
+        length-is = longer (Placed c) _ (x .length-is) (ap (λ p. length (commandsOf p c)) (sym q));
+        x-is = x .x-is ∙ ap (λ (z : ℤ). maxZ z (xTargetOf c)) (a .x-is) ∙ sym (largest-map xTargetOf cs c) ∙ ap (λ (l : List Character). largest (map xTargetOf l)) (sym all);
+        y-is = x .y-is ∙ ap (λ (z : ℤ). maxZ z (yTargetOf c)) (a .y-is) ∙ sym (largest-map yTargetOf cs c) ∙ ap (λ (l : List Character). largest (map yTargetOf l)) (sym all);
+        fonts-are = rw (all, x .low-is, x .high-is) (fonts-more (e .fonts .low) (e .fonts .high) cs c (a .fonts-are) h);
+      }
 
-    next : take (i + 1) (charactersOf g) ≡ take i (charactersOf g) ++ (c ∷ [])
-    next = one-more g count a i h ∙ ap (λ (d : Character). take i (charactersOf g) ++ (d ∷ [])) (sym e)
+  pub extents-cut : r .length ≡ e .length + 10 → r .x .0 ≡ e .x .0 → r .y .0 ≡ e .y .0 → r .fonts .low ≡ e .fonts .low → r .fonts .high ≡ e .fonts .high → ExtentsAre r (is ++ (Cut ∷ []))
+  unfolding charactersOf
+  extents-cut l x y low high =
+      let all : charactersOf (is ++ (Cut ∷ [])) ≡ charactersOf is = characters-append is (Cut ∷ []) ∙ append-nil (charactersOf is) in
+      record {
+        length-is = longer Cut 10 l (sym (length-cut (pressAll firstPress is)));
+        x-is = x ∙ a .x-is ∙ ap (λ (l : List Character). largest (map xTargetOf l)) (sym all);
+        y-is = y ∙ a .y-is ∙ ap (λ (l : List Character). largest (map yTargetOf l)) (sym all);
+        fonts-are = rw (all, low, high) (a .fonts-are);
+      }
 
-    pub pen-step : (p : Pen) → PenAt p c → PenAfter p (take (i + 1) (charactersOf g))
-    pen-step p n = rw next (pen-more p c n (take i (charactersOf g)))
+-- ---- the press
 
-    module _ (last : Pen) (l : PenAfter last (take i (charactersOf g))) where
-      pub extents-step : (x r : Extents) → ExtentsAre x (take i (charactersOf g)) → Extended x (penOf last) c r → ExtentsAre r (take (i + 1) (charactersOf g))
-      extents-step x r b d = rw next (extents-more last (take i (charactersOf g)) c l x r (font-valid c valid-next) b d)
+pub past-item : (p : Press) (i : Item) → pressAfter p i .pen ≡ penPast i
+unfolding pressAfter
+past-item p (Placed c) = refl
+past-item p Cut = refl
 
-      commands-next : commands newPen (take (i + 1) (charactersOf g)) ≡ commands newPen (take i (charactersOf g)) ++ commandsOf (penOf last) c
-      commands-next = ap (commands newPen) next ∙ more last (take i (charactersOf g)) c l
+-- the same of an item that is another
+pub extents-kind : (r : Extents) (is : List Item) {i j : Item} → i ≡ j → ExtentsAre r (is ++ (i ∷ [])) → ExtentsAre r (is ++ (j ∷ []))
+extents-kind r is e a = subst (λ (k : Item). ExtentsAre r (is ++ (k ∷ []))) e a
 
-      -- there is room for one more
-      pub room-step : length (commands newPen (take i (charactersOf g))) + length (commandsOf (penOf last) c) ≤ length (commands newPen (charactersOf g))
-      room-step =
-          omega (arith, commands-part newPen (i + 1) (charactersOf g), ap length commands-next, length-append (commands newPen (take i (charactersOf g))) (commandsOf (penOf last) c))
+pub wrote-kind : (o : List ℕ) (p : CodePress) (o′ : List ℕ) (r : CodePress) {i j : Item} → i ≡ j
+    → (Wrote o (p .at) (itemBytes (pressOf p) i) o′ (r .at)) × PressIs r (pressAfter (pressOf p) i)
+    → (Wrote o (p .at) (itemBytes (pressOf p) j) o′ (r .at)) × PressIs r (pressAfter (pressOf p) j)
+wrote-kind o p o′ r e w = subst (λ (k : Item). (Wrote o (p .at) (itemBytes (pressOf p) k) o′ (r .at)) × PressIs r (pressAfter (pressOf p) k)) e w
 
-      pub commands-step : {o₀ o₁ o₂ : List ℕ} {at to to′ : ℕ} → Wrote o₀ at (commands newPen (take i (charactersOf g))) o₁ to → Wrote o₁ to (commandsOf (penOf last) c) o₂ to′ → Wrote o₀ at (commands newPen (take (i + 1) (charactersOf g))) o₂ to′
-      commands-step w v = named (sym commands-next) (then w v)
+-- ---- the first pass
+
+-- the galley g up to `at`: the extents of the items behind, and the pen after them
+pub record Measured (g : List ℕ) (at : ℕ) (e : Extents) (last : Pen) : Type 0 where
+  pub done : List Item
+  pub midway : Midway g (itemsOf g) done at
+  pub extents : ExtentsAre e done
+  pub pen : PenIs last (pressAll firstPress done .pen)
+
+pub measured-start : (g : List ℕ) (count : ℕ) → accepted count ≡ checkOutcome g → (e : Extents) (p : Pen) → ExtentsAre e [] → PenIs p newPen → Measured g 0 e p
+unfolding pressAll firstPress
+measured-start g count a e p x n = record { done = []; midway = begun g count a; extents = x; pen = n }
+
+module _ (g : List ℕ) (at : ℕ) (e : Extents) (last : Pen) (m : Measured g at e last) where
+  pub measured-room : at + 7 < length g → at + 9 ≤ length g
+  measured-room h = midway-room g (itemsOf g) (m .done) at (m .midway) h
+
+  pub measured-inside : at ≤ length g
+  measured-inside = midway-inside g (itemsOf g) (m .done) at (m .midway)
+
+  pub measured-valid : at + 7 < length g → validItem (itemAt g at) ≡ true
+  measured-valid h = midway-next g (itemsOf g) (m .done) at (m .midway) h .is-valid
+
+  pub measured-size : at + 7 < length g → at + itemSize (itemAt g at) + 7 ≤ length g
+  measured-size h = midway-next g (itemsOf g) (m .done) at (m .midway) h .room
+
+  pub measured-short : length (itemsOf g) ≤ maxItems → e .length ≤ 17825792
+  measured-short f =
+      let all = m .midway .all in
+      omega (arith, f, m .extents .length-is, itemsBytes-most firstPress (m .done), ap length all, length-append (m .done) (m .midway .rest))
+
+  pub measured-next : at + 7 < length g → (i : Item) → i ≡ itemAt g at → (r : Extents) (next : Pen)
+      → ((is : List Item) → ExtentsAre e is → pressAll firstPress is .pen ≡ penOf last → ExtentsAre r (is ++ (i ∷ []))) → PenIs next (penPast i)
+      → Measured g (at + itemSize i) r next
+  measured-next h i q r next x n =
+      let d = m .done in
+      record {
+        done = d ++ (i ∷ []);
+        midway = subst (Onward g (itemsOf g) d at) (sym q) (midway-next g (itemsOf g) d at (m .midway) h) .next;
+        extents = x d (m .extents) (sym (m .pen .pen-is));
+        pen = record {
+          on-page = n .on-page;
+          pen-is = n .pen-is ∙ sym (past-item (pressAll firstPress d) i) ∙ ap (λ (p : Press). p .pen) (sym (pressAll-more firstPress d i));
+        };
+      }
+
+  pub measured-end : length g ≤ at + 7 → ExtentsAre e (itemsOf g)
+  measured-end h = subst (ExtentsAre e) (sym (midway-end g (itemsOf g) (m .done) at (m .midway) h)) (m .extents)
+
+-- ---- the second pass
+
+-- the galley g up to `at`: the items behind are written, and the press is that after them
+pub record Printed (g : List ℕ) (at : ℕ) (first out : List ℕ) (p : CodePress) : Type 0 where
+  pub done : List Item
+  pub midway : Midway g (itemsOf g) done at
+  pub same : length out ≡ length first
+  pub wrote : Wrote first 9 (itemsBytes firstPress done) out (p .at)
+  pub press : PressIs p (pressAll firstPress done)
+
+pub printed-start : (g : List ℕ) (count : ℕ) → accepted count ≡ checkOutcome g → (first : List ℕ) (p : CodePress) → PressIs p firstPress → Printed g 0 first first p
+unfolding pressAll itemsBytes pressOf firstPress
+printed-start g count a first p n =
+    let e : p .at ≡ 9 = ap (λ (q : Press). q .at) (n .press-is) in
+    record { done = []; midway = begun g count a; same = refl; wrote = rw e (wrote-none first 9); press = n }
+
+module _ (g : List ℕ) (at : ℕ) (first out : List ℕ) (p : CodePress) (m : Printed g at first out p) where
+  pub printed-room : at + 7 < length g → at + 9 ≤ length g
+  printed-room h = midway-room g (itemsOf g) (m .done) at (m .midway) h
+
+  pub printed-inside : at ≤ length g
+  printed-inside = midway-inside g (itemsOf g) (m .done) at (m .midway)
+
+  pub printed-size : at + 7 < length g → at + itemSize (itemAt g at) + 7 ≤ length g
+  printed-size h = midway-next g (itemsOf g) (m .done) at (m .midway) h .room
+
+  -- what writing one item more asks
+  pub printed-asks : at + 7 < length g → length (itemsOf g) ≤ maxItems → 9 + length (itemsBytes firstPress (itemsOf g)) ≤ length first → (i : Item) → i ≡ itemAt g at
+      → ((p .at + length (itemBytes (pressOf p) i) ≤ length out) × ((p .at < 2147483648) × (p .bop < 2147483648))) × ((p .page < 4294967295) × (OnPage (penOf (p .pen)) × (validItem i ≡ true)))
+  unfolding pressOf
+  printed-asks h f room i q =
+      let d = m .done in
+      let n = subst (Onward g (itemsOf g) d at) (sym q) (midway-next g (itemsOf g) d at (m .midway) h) in
+      let all = n .next .all in
+      let more = itemsBytes-part firstPress (d ++ (i ∷ [])) (n .next .rest) in
+      let one = ap length (itemsBytes-more firstPress d i) in
+      let same : length (itemBytes (pressOf p) i) ≡ length (itemBytes (pressAll firstPress d) i) = ap (λ (x : Press). length (itemBytes x i)) (m .press .press-is) in
+      let small = press-small d 1 (omega (arith, f, ap length all, length-append (d ++ (i ∷ [])) (n .next .rest), length-append d (i ∷ []))) in
+      let place : p .at ≡ pressAll firstPress d .at = ap (λ (x : Press). x .at) (m .press .press-is) in
+      let bop : p .bop ≡ pressAll firstPress d .bop = ap (λ (x : Press). x .bop) (m .press .press-is) in
+      let page : p .page ≡ pressAll firstPress d .page = ap (λ (x : Press). x .page) (m .press .press-is) in (
+        (
+          omega (
+            arith,
+            room,
+            m .same,
+            m .wrote .next-is,
+            same,
+            one,
+            more,
+            ap (λ (l : List Item). length (itemsBytes firstPress l)) all,
+            length-append (itemsBytes firstPress d) (itemBytes (pressAll firstPress d) i),
+          ),
+          (omega (arith, place, small .at-small), omega (arith, bop, place, small .bop-before, small .at-small)),
+        ),
+        (omega (arith, page, small .page-small), (m .press .on-page, n .is-valid)),
+      )
+
+  pub printed-next : at + 7 < length g → (i : Item) → i ≡ itemAt g at → (later : List ℕ) (r : CodePress) → length later ≡ length out
+      → Wrote out (p .at) (itemBytes (pressOf p) i) later (r .at) → PressIs r (pressAfter (pressOf p) i) → Printed g (at + itemSize i) first later r
+  printed-next h i q later r l w n =
+      let d = m .done in
+      record {
+        done = d ++ (i ∷ []);
+        midway = subst (Onward g (itemsOf g) d at) (sym q) (midway-next g (itemsOf g) d at (m .midway) h) .next;
+        same = l ∙ m .same;
+        wrote = named (ap (λ (x : Press). itemsBytes firstPress d ++ itemBytes x i) (m .press .press-is) ∙ sym (itemsBytes-more firstPress d i)) (then (m .wrote) w);
+        press = record {
+          on-page = n .on-page;
+          press-is = n .press-is ∙ ap (λ (x : Press). pressAfter x i) (m .press .press-is) ∙ sym (pressAll-more firstPress d i);
+        };
+      }
+
+  pub printed-end : length g ≤ at + 7 → (Wrote first 9 (itemsBytes firstPress (itemsOf g)) out (p .at)) × PressIs p (pressAll firstPress (itemsOf g))
+  printed-end h =
+      let e = sym (midway-end g (itemsOf g) (m .done) at (m .midway) h) in
+      subst (λ (is : List Item). (Wrote first 9 (itemsBytes firstPress is) out (p .at)) × PressIs p (pressAll firstPress is)) e (m .wrote, m .press)

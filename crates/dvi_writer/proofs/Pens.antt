@@ -1,8 +1,8 @@
--- The pen, from the start of a page and from character to character.
+-- The pen, from the start of a page and from item to item.
 -- Assumes nothing.
-use mathlib.Core.Path.{_≡_, refl, sym, ap, _∙_}
+use mathlib.Core.Path.{_≡_, refl, sym, ap, subst, _∙_}
 use mathlib.Core.Bool.{Bool, true, false, cond}
-use mathlib.Core.List.{List, [], _∷_, _++_}
+use mathlib.Core.List.{[]}
 use mathlib.Core.Option.{none, some}
 use Prim.Native.Nat.{ℕ, _<_}
 use native.Mathlib.Omega.{arith}
@@ -15,12 +15,12 @@ use mir.Val.{SFits}
 use Rattle.integers.specs.Parts.{integers, dif-parts}
 use Rattle.measure.specs.TargetLaws.{target-least, target-greatest, y-parts}
 use Rattle.galley_file.specs.declared.character.Character.{Character}
+use Rattle.galley_file.specs.declared.item.Item.{Item}
 use Rattle.galley_file.specs.Character.{valid}
 use Rattle.galley_file.specs.CharacterLaws.{valid-parts, x-range, height-range}
 use Rattle.dvi.specs.Writer as W
-use Rattle.dvi.specs.WriterLaws.{penAfter, penAfter-more}
 use Rattle.dvi_writer.specs.declared.pen.Pen.{Pen}
-use Rattle.dvi_writer.specs.Pen.{fontIn, penOf, OnPage, PenAt, PenAfter}
+use Rattle.dvi_writer.specs.Pen.{fontIn, penOf, OnPage, PenIs, penPast, PenAt}
 
 -- ---- the font, and whether it changes
 
@@ -42,8 +42,8 @@ other-font last f ne = go (eqb last 255)
 
 -- ---- at the start of a page, and at a character
 
-pub pen-start : (p : Pen) → p .font ≡ 255 → p .x .0 ≡ pos 0 → p .y .0 ≡ pos 0 → PenAfter p []
-unfolding penOf fontIn penAfter W.newPen
+pub pen-start : (p : Pen) → p .font ≡ 255 → p .x .0 ≡ pos 0 → p .y .0 ≡ pos 0 → PenIs p W.newPen
+unfolding penOf fontIn W.newPen
 pen-start p f x y = record {
   on-page = record { left = rw x (omega integers); right = rw x (omega integers); top = rw y (omega integers); bottom = rw y (omega integers) };
   pen-is = rw (f, x, y);
@@ -90,8 +90,8 @@ module _ (p : Pen) (c : Character) (h : PenAt p c) where
   on-page-at : OnPage (penOf p)
   on-page-at = rw (h .pen-is) (page-at c (h .is-valid))
 
-  pub pen-more : (cs : List Character) → PenAfter p (cs ++ (c ∷ []))
-  pen-more cs = record { on-page = on-page-at; pen-is = h .pen-is ∙ sym (penAfter-more W.newPen cs c) }
+  pub pen-set : PenIs p (W.penAt c)
+  pen-set = record { on-page = on-page-at; pen-is = h .pen-is }
 
   -- the moves from another pen to this one are signed 32-bit numbers
   module _ (q : Pen) (o : OnPage (penOf q)) where
@@ -111,3 +111,7 @@ module _ (p : Pen) (c : Character) (h : PenAt p c) where
     pub y-move : p .y .0 -ℤ q .y .0 ≡ W.yTargetOf c -ℤ penOf q .y
     unfolding penOf
     y-move = ap (λ (z : ℤ). z -ℤ q .y .0) y-at
+
+-- the same of an item that is another
+pub pen-kind : (p : Pen) {i j : Item} → i ≡ j → PenIs p (penPast i) → PenIs p (penPast j)
+pen-kind p e n = subst (λ (k : Item). PenIs p (penPast k)) e n

@@ -9,7 +9,8 @@ use native.Mathlib.Omega.{arith}
 use lib.IntN.{ℤ}
 use lib.ListN.{length, length-append}
 use Rattle.octets.specs.Octets.{bytes, signedBytes}
-use Rattle.galley_file.specs.declared.character.Character.{Character}
+use Rattle.galley_file.specs.declared.item.Item.{Item}
+use Rattle.galley_file.specs.Item.{charactersOf}
 use Rattle.dvi.specs.FontMarks.{markedFonts}
 use Rattle.dvi.specs.FontMarksLaws.{fonts-marked}
 use Rattle.dvi.specs.Writer.{definitionBytes, trailerBytes, postambleBytes}
@@ -46,8 +47,8 @@ unfolding postambleOf headBytes trailerBytes signedBytes bytes
 length-post last pst e =
     rw (length-append (definitionBytes (markedFonts 120 (e .fonts .low) (e .fonts .high))) (trailerBytes pst)) (omega arith)
 
--- the postamble of the extents of cs is that of cs
-pub post-is : (last pst : ℕ) (e : Extents) (cs : List Character) → ExtentsAre e cs → postambleOf last pst e ≡ postambleBytes last pst cs
+-- the postamble of the extents of items is that of their characters
+pub post-is : (last pst : ℕ) (e : Extents) (is : List Item) → ExtentsAre e is → postambleOf last pst e ≡ postambleBytes last pst (charactersOf is)
 unfolding postambleOf headBytes postambleBytes signedBytes bytes
-post-is last pst e cs a =
-    rw (a .x-is, a .y-is, fonts-marked (e .fonts .low) (e .fonts .high) cs (a .fonts-are) 120 (omega arith))
+post-is last pst e is a =
+    rw (a .x-is, a .y-is, fonts-marked (e .fonts .low) (e .fonts .high) (charactersOf is) (a .fonts-are) 120 (omega arith))

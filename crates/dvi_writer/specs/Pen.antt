@@ -2,20 +2,21 @@
 --     fontIn       the font that a font number of the code stands for
 --     penOf        the pen that a pen of the code stands for
 --     OnPage       a pen is at a place that a character can have, or at the page's start
+--     PenIs        a pen of the code is this one, and on the page
+--     penPast      the pen after an item
 --     PenAt        a pen of the code is that after a valid character
---     PenAfter     a pen of the code is that after some characters
 use mathlib.Core.Path.{_≡_}
 use mathlib.Core.Bool.{true, cond}
-use mathlib.Core.List.{List}
 use mathlib.Core.Option.{Option, none, some}
 use Prim.Native.Nat.{ℕ}
 use lib.Dec.{eqb}
 use lib.IntN.{pos, negsuc}
 use lib.Signed.{_≤ℤ_}
 use Rattle.galley_file.specs.declared.character.Character.{Character}
+use Rattle.galley_file.specs.declared.item.Item.{Item}
+use Rattle.galley_file.specs.declared.item.Item.the-variants.{Placed, Cut}
 use Rattle.galley_file.specs.Character.{valid}
 use Rattle.dvi.specs.Writer as W
-use Rattle.dvi.specs.WriterLaws.{penAfter}
 use Rattle.dvi_writer.specs.declared.pen.Pen.{Pen}
 
 -- 255 stands for none
@@ -32,10 +33,15 @@ pub record OnPage (p : W.Pen) : Type 0 where
   pub top : pos 0 ≤ℤ p .y
   pub bottom : p .y ≤ℤ pos 2147450880
 
+pub record PenIs (p : Pen) (q : W.Pen) : Type 0 where
+  pub on-page : OnPage (penOf p)
+  pub pen-is : penOf p ≡ q
+
+-- a cut starts a page
+abbrev pub penPast : Item → W.Pen
+penPast (Placed c) = W.penAt c
+penPast Cut = W.newPen
+
 pub record PenAt (p : Pen) (c : Character) : Type 0 where
   pub is-valid : valid c ≡ true
   pub pen-is : penOf p ≡ W.penAt c
-
-pub record PenAfter (p : Pen) (cs : List Character) : Type 0 where
-  pub on-page : OnPage (penOf p)
-  pub pen-is : penOf p ≡ penAfter W.newPen cs

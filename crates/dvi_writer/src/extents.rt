@@ -1,26 +1,31 @@
-// What a file needs to know of its characters before the first of them is written.
+// What a file needs to know of its items before the first of them is written.
 use crate::fonts;
 use crate::fonts::Fonts;
 use crate::page;
 use crate::pen;
 use crate::pen::Pen;
-use galley_file::character;
 use galley_file::character::Character;
+use galley_file::item;
+use galley_file::item::Item;
 use measure::Rsu;
+use octets::field;
 use octets::number;
 ghost use mathlib.Core.Path.{_≡_};
-ghost use mathlib.Core.List.{[]};
+ghost use mathlib.Core.Bool.{true};
+ghost use mathlib.Core.List.{List, [], _∷_, _++_};
 ghost use Prim.Native.Nat.{_≤_, _<_};
 ghost use lib.ListN.{length};
 ghost use Rattle.octets.specs.Answer.{accepted};
+ghost use Rattle.galley_file.specs.declared.item.Item.{Item as ItemOf};
+ghost use Rattle.galley_file.specs.Item.{validItem};
 ghost use Rattle.galley_file.specs.Outcome.{checkOutcome};
-ghost use Rattle.dvi.specs.Writer.{fontChange, move, commandsOf};
-ghost use Rattle.dvi_writer.specs.Result.{charactersOf};
-ghost use Rattle.dvi_writer.specs.Pen.{fontIn, penOf, OnPage, PenAt};
+ghost use Rattle.dvi.specs.Writer.{fontChange, move, commandsOf, firstPress, pressAll};
+ghost use Rattle.dvi_writer.specs.Result.{itemsOf};
+ghost use Rattle.dvi_writer.specs.Pen.{fontIn, penOf, OnPage, PenIs, penPast, PenAt};
 ghost use Rattle.dvi_writer.specs.Extents.{Extended, ExtentsAre};
 
 pub struct Extents {
-    // The bytes of the characters' commands.
+    // The bytes of the items.
     pub length: usize,
     // The largest X and Y, and at least 0.
     pub x: Rsu,
@@ -31,7 +36,7 @@ pub struct Extents {
 // HORZCHAR and its parameter.
 const HORZCHAR_LENGTH: usize = 2;
 
-// The extents of no character.
+// The extents of no item.
 fn none() -> Extents
     ensures { λ r. ⌜ ExtentsAre r [] ⌝ }
 {
@@ -80,7 +85,7 @@ fn commands_length(last: Pen, next: Pen, c: Character) -> usize
 }
 
 // The extents with one character more.
-fn extended(e: Extents, last: Pen, next: Pen, c: Character) -> Extents
+fn with_character(e: Extents, last: Pen, next: Pen, c: Character) -> Extents
     requires { ⌜ (e .length ≤ 33554432) × (OnPage (penOf last) × PenAt next c) ⌝ }
     ensures { λ r. ⌜ Extended e (penOf last) c r ⌝ }
 {
@@ -96,20 +101,35 @@ fn extended(e: Extents, last: Pen, next: Pen, c: Character) -> Extents
     }
 }
 
-// The extents of the characters of a checked galley.
+// The extents with one item more: a cut has only its length.
+fn with_item(e: Extents, last: Pen, next: Pen, i: Item) -> Extents
+    requires { ⌜ ((e .length ≤ 33554432) × (validItem i ≡ true)) × (OnPage (penOf last) × PenIs next (penPast i)) ⌝ }
+    ensures { λ r. ⌜ ((is : List ItemOf) → ExtentsAre e is → pressAll firstPress is .pen ≡ penOf last → ExtentsAre r (is ++ (i ∷ []))) ⌝ }
+{
+    match i {
+        Item::Placed(c) => with_character(e, last, next, c),
+        Item::Cut => {
+            let mut r = e;
+            r.length = e.length + page::CUT_LENGTH;
+            r
+        }
+    }
+}
+
+// The extents of the items of a checked galley.
 pub fn extents_of(g: &[u8], count: usize) -> Extents
     requires { ⌜ accepted count ≡ checkOutcome (now g) ⌝ }
-    ensures { λ r. ⌜ ExtentsAre r (charactersOf (now (g .entry))) ⌝ }
+    ensures { λ r. ⌜ ExtentsAre r (itemsOf (now (g .entry))) ⌝ }
 {
     let mut e = none();
     let mut last = pen::new_pen();
-    let mut i = 0;
-    while i < count {
-        let c = character::character_at(g, i * character::FIELD);
-        let next = pen::pen_at(c);
-        e = extended(e, last, next, c);
+    let mut at: usize = 0;
+    while at + field::END_FIELD < g.len() {
+        let i = item::item_at(g, at);
+        let next = pen::pen_after(i);
+        e = with_item(e, last, next, i);
         last = next;
-        i += 1;
+        at += item::item_size(i);
     }
     e
 }

@@ -1,9 +1,10 @@
-// The writer of DVI files (document 01, "DVI (002)"): a galley's characters become one page and a postamble.
+// The writer of DVI files (document 01, "DVI (002)"): a galley's characters become pages, one more than there are cuts, and a postamble.
 mod extents;
 mod fonts;
 mod page;
 mod pen;
 mod postamble;
+mod press;
 
 use extents::Extents;
 use octets::answer;
@@ -15,19 +16,19 @@ ghost use lib.Seq.{sets};
 ghost use Rattle.octets.specs.Answer.{accepted, outcomeOf, outcome, after};
 ghost use Rattle.galley_file.specs.Outcome.{checkOutcome};
 ghost use Rattle.dvi.specs.Writer.{dviFile};
-ghost use Rattle.dvi_writer.specs.Result.{charactersOf, checkedResult, dviResult};
+ghost use Rattle.dvi_writer.specs.Result.{itemsOf, checkedResult, dviResult};
 ghost use Rattle.dvi_writer.specs.Extents.{ExtentsAre};
 
-// The bytes of a file without commands of characters and without definitions.
+// The bytes of a file without items and without definitions.
 const FRAME: usize = page::FRAME + postamble::FRAME;
 
-// Writes the file of a checked galley, for which there is room: page 1, with no page before it, and the postamble.
+// Writes the file of a checked galley, for which there is room: the pages and the postamble.
 fn put_file(g: &[u8], count: usize, e: Extents, out: &mut [u8])
-    requires { ⌜ (accepted count ≡ checkOutcome (now g)) × (ExtentsAre e (charactersOf (now g)) × (length (dviFile (charactersOf (now g))) ≤ length (now out))) ⌝ }
-    ensures { λ _. ⌜ now (out .exit) ≡ sets (now (out .entry)) 0 (dviFile (charactersOf (now (g .entry)))) ⌝ }
+    requires { ⌜ (accepted count ≡ checkOutcome (now g)) × (ExtentsAre e (itemsOf (now g)) × (length (dviFile (itemsOf (now g))) ≤ length (now out))) ⌝ }
+    ensures { λ _. ⌜ now (out .exit) ≡ sets (now (out .entry)) 0 (dviFile (itemsOf (now (g .entry)))) ⌝ }
 {
-    let pst = page::put_page(g, count, out, 0, 1, -1);
-    postamble::put_postamble(out, pst, 0, e);
+    let p = page::put_pages(g, count, out);
+    postamble::put_postamble(out, p.at, p.bop, e);
 }
 
 // Writes the file of a checked galley, if there is room.

@@ -1,23 +1,33 @@
-// A page: BOP, the commands of its characters, EOP.
+// The pages: BOP, the commands of characters, EOP.
 use crate::pen;
 use crate::pen::Pen;
-use galley_file::character;
+use crate::press;
+use crate::press::Press;
 use galley_file::character::Character;
+use galley_file::item;
+use galley_file::item::Item;
 use measure::Rsu;
+use octets::field;
 use octets::number;
 ghost use mathlib.Core.Path.{_≡_};
+ghost use mathlib.Core.Bool.{true};
 ghost use Prim.Native.Nat.{_+_, _≤_, _<_};
 ghost use lib.ListN.{length};
 ghost use Rattle.octets.specs.Answer.{accepted};
 ghost use Rattle.octets.specs.Write.{Wrote};
+ghost use Rattle.galley_file.specs.declared.item.Item.the-variants.{Placed, Cut};
+ghost use Rattle.galley_file.specs.Item.{validItem};
 ghost use Rattle.galley_file.specs.Outcome.{checkOutcome};
-ghost use Rattle.dvi.specs.Writer.{newPen, fontChange, move, commandsOf, commands, pageBytes};
-ghost use Rattle.dvi_writer.specs.Result.{charactersOf};
-ghost use Rattle.dvi_writer.specs.Pen.{fontIn, penOf, OnPage, PenAt};
-ghost use Rattle.dvi_writer.specs.Page.{bopBytes};
+ghost use Rattle.dvi.specs.Writer.{newPen, fontChange, move, commandsOf, bopBytes, firstPress, itemBytes, pressAfter, itemsBytes, pressAll, pagesBytes};
+ghost use Rattle.dvi_writer.specs.Result.{itemsOf};
+ghost use Rattle.dvi_writer.specs.Pen.{fontIn, penOf, OnPage, PenIs, PenAt};
+ghost use Rattle.dvi_writer.specs.Press.{pressOf, PressIs};
 
-// The bytes of a page without characters.
+// The bytes of the first BOP and of the last EOP.
 pub const FRAME: usize = 10;
+
+// The bytes of a cut: an EOP and a BOP.
+pub const CUT_LENGTH: usize = 10;
 
 const BOP: u8 = 129;
 
@@ -97,37 +107,70 @@ fn put_commands(out: &mut [u8], at: usize, last: Pen, next: Pen, c: Character) -
     number::put_byte(out, to, c.code)
 }
 
-// Writes the commands of the characters of a checked galley.
-fn put_characters(g: &[u8], count: usize, out: &mut [u8], at: usize) -> usize
-    requires { ⌜ (accepted count ≡ checkOutcome (now g)) × (at + length (commands newPen (charactersOf (now g))) ≤ length (now out)) ⌝ }
-    ensures { λ r. ⌜ Wrote (now (out .entry)) at (commands newPen (charactersOf (now (g .entry)))) (now (out .exit)) r ⌝ }
+// Writes the commands of c.
+fn put_character(out: &mut [u8], p: Press, next: Pen, c: Character) -> Press
+    requires { ⌜ (p .at + length (commandsOf (penOf (p .pen)) c) ≤ length (now out)) × (OnPage (penOf (p .pen)) × PenAt next c) ⌝ }
+    ensures { λ r. ⌜ (Wrote (now (out .entry)) (p .at) (itemBytes (pressOf p) (Placed c)) (now (out .exit)) (r .at)) × PressIs r (pressAfter (pressOf p) (Placed c)) ⌝ }
 {
-    let mut to = at;
-    let mut last = pen::new_pen();
-    let mut i = 0;
-    while i < count {
-        let c = character::character_at(g, i * character::FIELD);
-        let next = pen::pen_at(c);
-        to = put_commands(out, to, last, next, c);
-        last = next;
-        i += 1;
+    let to = put_commands(out, p.at, p.pen, next, c);
+    Press {
+        pen: next,
+        page: p.page,
+        bop: p.bop,
+        at: to,
     }
-    to
 }
 
-// Writes the page of a checked galley: its number, and the offset of the page before it.
-pub fn put_page(
-    g: &[u8],
-    count: usize,
-    out: &mut [u8],
-    at: usize,
-    page: u32,
-    previous: i32,
-) -> usize
-    requires { ⌜ (accepted count ≡ checkOutcome (now g)) × (at + length (pageBytes page previous (charactersOf (now g))) ≤ length (now out)) ⌝ }
-    ensures { λ r. ⌜ Wrote (now (out .entry)) at (pageBytes page previous (charactersOf (now (g .entry)))) (now (out .exit)) r ⌝ }
+// Writes a cut: ends the page, and starts the next.
+fn put_cut(out: &mut [u8], p: Press, next: Pen) -> Press
+    requires { ⌜ ((p .at + 10 ≤ length (now out)) × ((p .at < 2147483648) × (p .bop < 2147483648))) × ((p .page < 4294967295) × PenIs next newPen) ⌝ }
+    ensures { λ r. ⌜ (Wrote (now (out .entry)) (p .at) (itemBytes (pressOf p) Cut) (now (out .exit)) (r .at)) × PressIs r (pressAfter (pressOf p) Cut) ⌝ }
 {
-    let mut to = put_bop(out, at, page, previous);
-    to = put_characters(g, count, out, to);
-    number::put_byte(out, to, EOP)
+    let bop = number::put_byte(out, p.at, EOP);
+    let page = p.page + 1;
+    let to = put_bop(out, bop, page, p.bop as i32);
+    Press {
+        pen: next,
+        page: page,
+        bop: bop as u32,
+        at: to,
+    }
+}
+
+// Writes an item.
+fn put_item(out: &mut [u8], p: Press, i: Item) -> Press
+    requires { ⌜ ((p .at + length (itemBytes (pressOf p) i) ≤ length (now out)) × ((p .at < 2147483648) × (p .bop < 2147483648))) × ((p .page < 4294967295) × (OnPage (penOf (p .pen)) × (validItem i ≡ true))) ⌝ }
+    ensures { λ r. ⌜ (Wrote (now (out .entry)) (p .at) (itemBytes (pressOf p) i) (now (out .exit)) (r .at)) × PressIs r (pressAfter (pressOf p) i) ⌝ }
+{
+    let next = pen::pen_after(i);
+    match i {
+        Item::Placed(c) => put_character(out, p, next, c),
+        Item::Cut => put_cut(out, p, next),
+    }
+}
+
+// Writes the items of a checked galley after the first BOP.
+fn put_items(g: &[u8], count: usize, out: &mut [u8]) -> Press
+    requires { ⌜ (accepted count ≡ checkOutcome (now g)) × (9 + length (itemsBytes firstPress (itemsOf (now g))) ≤ length (now out)) ⌝ }
+    ensures { λ r. ⌜ (Wrote (now (out .entry)) 9 (itemsBytes firstPress (itemsOf (now (g .entry)))) (now (out .exit)) (r .at)) × PressIs r (pressAll firstPress (itemsOf (now (g .entry)))) ⌝ }
+{
+    let mut p = press::first_press();
+    let mut at: usize = 0;
+    while at + field::END_FIELD < g.len() {
+        let i = item::item_at(g, at);
+        p = put_item(out, p, i);
+        at += item::item_size(i);
+    }
+    p
+}
+
+// Writes the pages of a checked galley; gives the press after the last EOP.
+pub fn put_pages(g: &[u8], count: usize, out: &mut [u8]) -> Press
+    requires { ⌜ (accepted count ≡ checkOutcome (now g)) × (length (pagesBytes (itemsOf (now g))) ≤ length (now out)) ⌝ }
+    ensures { λ r. ⌜ (Wrote (now (out .entry)) 0 (pagesBytes (itemsOf (now (g .entry)))) (now (out .exit)) (r .at)) × (r .bop ≡ pressAll firstPress (itemsOf (now (g .entry))) .bop) ⌝ }
+{
+    put_bop(out, 0, 1, -1);
+    let mut p = put_items(g, count, out);
+    p.at = number::put_byte(out, p.at, EOP);
+    p
 }

@@ -1,11 +1,13 @@
 // The pen: the font, X and Y that were last set on a page.
 use galley_file::character::Character;
+use galley_file::item::Item;
 use measure::Rsu;
 ghost use mathlib.Core.Path.{_≡_};
 ghost use mathlib.Core.Bool.{true};
-ghost use mathlib.Core.List.{[]};
 ghost use Rattle.galley_file.specs.Character.{valid};
-ghost use Rattle.dvi_writer.specs.Pen.{PenAt, PenAfter};
+ghost use Rattle.galley_file.specs.Item.{validItem};
+ghost use Rattle.dvi.specs.Writer.{newPen};
+ghost use Rattle.dvi_writer.specs.Pen.{PenIs, penPast, PenAt};
 
 pub struct Pen {
     // The font number, or NO_FONT.
@@ -19,7 +21,7 @@ pub const NO_FONT: u8 = 255;
 
 // The pen at the start of a page.
 pub fn new_pen() -> Pen
-    ensures { λ r. ⌜ PenAfter r [] ⌝ }
+    ensures { λ r. ⌜ PenIs r newPen ⌝ }
 {
     Pen {
         font: NO_FONT,
@@ -29,7 +31,7 @@ pub fn new_pen() -> Pen
 }
 
 // The pen after c: its font and its targets.
-pub fn pen_at(c: Character) -> Pen
+fn pen_at(c: Character) -> Pen
     requires { ⌜ valid c ≡ true ⌝ }
     ensures { λ r. ⌜ PenAt r c ⌝ }
 {
@@ -39,5 +41,16 @@ pub fn pen_at(c: Character) -> Pen
         font: c.font,
         x: x,
         y: y,
+    }
+}
+
+// The pen after an item: a cut starts a page.
+pub fn pen_after(i: Item) -> Pen
+    requires { ⌜ validItem i ≡ true ⌝ }
+    ensures { λ r. ⌜ PenIs r (penPast i) ⌝ }
+{
+    match i {
+        Item::Placed(c) => pen_at(c),
+        Item::Cut => new_pen(),
     }
 }

@@ -2,6 +2,8 @@
 use galley_file::character;
 use galley_file::character::Character;
 use galley_file::font;
+use galley_file::item;
+use galley_file::item::Item;
 use libc::STDIN_FILENO;
 use libc::STDOUT_FILENO;
 use octets::answer::Answer;
@@ -41,15 +43,31 @@ fn write_character(c: Character) {
     io::write_all(STDOUT_FILENO, b"\n");
 }
 
-// The characters of an accepted galley: after each comes another, or End.
+// A line for a character, or `cut`; how many characters it is.
+fn write_item(i: Item) -> u64
+    ensures { λ r. ⌜ r ≤ 1 ⌝ }
+{
+    match i {
+        Item::Placed(c) => {
+            write_character(c);
+            1
+        }
+        Item::Cut => {
+            io::write_all(STDOUT_FILENO, b"cut\n");
+            0
+        }
+    }
+}
+
+// The items of an accepted galley: after each comes another, or End.
 fn write_galley(g: &[u8]) {
     io::write_all(STDOUT_FILENO, b"x y font size char\n");
     let mut at: usize = 0;
     let mut count: u64 = 0;
     while character::FIELD < g.len() - at {
-        write_character(character::character_at(g, at));
-        at += character::FIELD;
-        count += 1;
+        let i = item::item_at(g, at);
+        count += write_item(i);
+        at += item::item_size(i);
     }
     io::print_decimal(STDOUT_FILENO, count);
     io::write_all(STDOUT_FILENO, b" glyphs\n");

@@ -1,46 +1,159 @@
--- Reading back: the character that a check has counted stands where its number says.
+-- Reading back: the characters of a checked galley, one after the other.
 -- Assumes nothing.
-use mathlib.Core.Path.{_≡_, sym, ap}
+use mathlib.Core.Path.{_≡_, refl, sym, ap, subst, _∙_}
 use mathlib.Core.Bool.{Bool, true, false, cond}
-use mathlib.Core.List.{List}
-use Prim.Native.Nat.{ℕ, _+_, _*_, _<_, _≤_}
+use mathlib.Core.List.{List, [], _∷_, _++_, append-assoc}
+use Prim.Native.Nat.{ℕ, zero, suc, _+_, _-_, _*_, _<_, _≤_}
 use native.Mathlib.Omega.{arith}
 use borrow.Author.Tests.{lt-ltb, le-ltb}
-use lib.Dec.{ltb}
-use lib.ListN.{length}
+use lib.Dec.{ltb, eqb}
+use lib.ListN.{length, getD, length-append}
 use Rattle.octets.specs.Answer.{accepted, refused, noCharacter, galleyTooLong}
+use Rattle.galley_file.specs.declared.character.Character.{Character}
+use Rattle.galley_file.specs.declared.item.Item.{Item}
+use Rattle.galley_file.specs.declared.item.Item.the-variants.{Placed, Cut}
 use Rattle.galley_file.specs.Character.{characterAt}
-use Rattle.galley_file.specs.Galley.{maxGalley, Reading, whole, malformed, readGalley}
-use Rattle.galley_file.specs.GalleyLaws.{nth, checked}
-use Rattle.galley_file.specs.Outcome.{countOutcome, checkOutcome, FoundOutcome, found, notFound, pickFound, readBackOutcome}
+use Rattle.galley_file.specs.Item.{itemAt, itemSize, tally, charactersOf, cutsOf}
+use Rattle.galley_file.specs.ItemLaws.{characters-append, count-item}
+use Rattle.galley_file.specs.Galley.{maxGalley, maxItems, Reading, whole, malformed, readGalley}
+use Rattle.galley_file.specs.GalleyLaws.{Checked, checked, reading-length, length-fields}
+use Rattle.galley_file.specs.Walk.{Walk, walk-start, walk-step, Midway, midway-start, midway-end, Onward, midway-next, midway-room}
+use Rattle.galley_file.specs.Outcome.{countOutcome, checkOutcome, FoundOutcome, found, notFound, pickFound, readBackOutcome, zeros}
 
-module _ (g : List ℕ) (n : ℕ) where
-  pub back-refused : (number place : ℕ) → refused number place ≡ checkOutcome g → notFound number place ≡ readBackOutcome g n
-  unfolding checkOutcome readBackOutcome
-  back-refused number place e = go (ltb maxGalley (length g)) (readGalley g) e
-    where
-      go : (t : Bool) (r : Reading) → refused number place ≡ cond t (refused galleyTooLong 0) (countOutcome 0 r) → notFound number place ≡ cond t (notFound galleyTooLong 0) (pickFound n r)
-      go true r h = cc
-      go false (whole cs) h = let z : _≡_ {A = ℕ} 0 1 = cc in absurd (omega arith)
-      go false (malformed p) h = cc
+-- where the check refuses, so does reading back
+pub back-refused : (g : List ℕ) (n number place : ℕ) → refused number place ≡ checkOutcome g → notFound number place ≡ readBackOutcome g n
+unfolding checkOutcome readBackOutcome
+back-refused g n number place e = go (ltb maxGalley (length g)) (readGalley g) e
+  where
+    go : (t : Bool) (r : Reading) → refused number place ≡ cond t (refused galleyTooLong 0) (countOutcome 0 r) → notFound number place ≡ cond t (notFound galleyTooLong 0) (pickFound n r)
+    go true r h = cc
+    go false (whole is) h = let z : _≡_ {A = ℕ} 0 1 = cc in absurd (omega arith)
+    go false (malformed p) h = cc
 
-  module _ (count : ℕ) (e : accepted count ≡ checkOutcome g) where
-    pub back-room : n < count → n * 9 + 9 ≤ length g
-    unfolding readGalley
-    back-room h = let c = checked g count e in let k = c .counted in nth n g 0 0 (c .characters) (c .read) (omega arith) .1
+-- and where it accepts, the characters decide
+module _ (g : List ℕ) (n : ℕ) (is : List Item) (fits : length g ≤ maxGalley) (read : readGalley g ≡ whole is) where
+  picked : n < length (charactersOf is) → found (getD (charactersOf is) n zeros) ≡ readBackOutcome g n
+  unfolding readBackOutcome
+  picked h = rw (le-ltb _ _ fits, read, lt-ltb _ _ h)
 
-    pub back-found : n < count → found (characterAt g (n * 9)) ≡ readBackOutcome g n
-    unfolding readGalley readBackOutcome
-    back-found h =
-        let c = checked g count e in
-        let k = c .counted in
-        let l : n < length (c .characters) = omega arith in
-        rw (le-ltb _ _ (c .fits), c .read, lt-ltb _ _ l) (ap found (sym (nth n g 0 0 (c .characters) (c .read) l .0)))
+  missing : length (charactersOf is) ≤ n → notFound noCharacter 0 ≡ readBackOutcome g n
+  unfolding readBackOutcome
+  missing h = rw (le-ltb _ _ fits, read, le-ltb _ _ h)
 
-    pub back-none : count ≤ n → notFound noCharacter 0 ≡ readBackOutcome g n
-    unfolding readBackOutcome
-    back-none h =
-        let c = checked g count e in
-        let k = c .counted in
-        let l : length (c .characters) ≤ n = omega arith in
-        rw (le-ltb _ _ (c .fits), c .read, le-ltb _ _ l)
+pub back-none : (g : List ℕ) (n count : ℕ) → accepted count ≡ checkOutcome g → count ≤ n → notFound noCharacter 0 ≡ readBackOutcome g n
+back-none g n count e h = let c = checked g count e in missing g n (c .items) (c .fits) (c .read) (omega (arith, c .counted))
+
+-- a galley within the limit has few characters
+pub back-few : (g : List ℕ) (count : ℕ) → accepted count ≡ checkOutcome g → 9 * count + 7 ≤ maxGalley
+unfolding readGalley
+back-few g count e =
+    let c = checked g count e in
+    omega (arith, reading-length (c .items) maxItems g 0 0 (c .read), length-fields (c .items), c .counted, c .fits)
+
+-- some items are passed, `left` characters before character n, and the next field starts at `at`
+pub record Passing (g : List ℕ) (n left at : ℕ) : Type 0 where
+  pub items : List Item
+  pub done : List Item
+  pub fits : length g ≤ maxGalley
+  pub read : readGalley g ≡ whole items
+  pub midway : Midway g items done at
+  pub passed : length (charactersOf done) + left ≡ n
+
+pub passing-start : (g : List ℕ) (n count : ℕ) → accepted count ≡ checkOutcome g → Passing g n n 0
+unfolding charactersOf
+passing-start g n count e =
+    let c = checked g count e in
+    record { items = c .items; done = []; fits = c .fits; read = c .read; midway = midway-start g (c .items) (c .read); passed = omega arith }
+
+-- the element after a list
+getD-at : (cs : List Character) (c : Character) (ds : List Character) (n : ℕ) → length cs ≡ n → getD (cs ++ (c ∷ ds)) n zeros ≡ c
+getD-at [] c ds zero e = refl
+getD-at [] c ds (suc n) e = absurd (omega arith)
+getD-at (d ∷ cs) c ds zero e = absurd (omega arith)
+getD-at (d ∷ cs) c ds (suc n) e = getD-at cs c ds n (omega arith)
+
+module _ (g : List ℕ) (n left at : ℕ) (p : Passing g n left at) where
+  pub passing-room : at + 7 < length g → at + 9 ≤ length g
+  passing-room h = midway-room g (p .items) (p .done) at (p .midway) h
+
+  -- there is no character n
+  pub passing-none : length g ≤ at + 7 → notFound noCharacter 0 ≡ readBackOutcome g n
+  passing-none h =
+      let e = midway-end g (p .items) (p .done) at (p .midway) h in
+      missing g n (p .items) (p .fits) (p .read) (omega (arith, p .passed, ap (λ (l : List Item). length (charactersOf l)) e))
+
+  -- the item i is there
+  module _ (h : at + 7 < length g) (i : Item) (e : itemAt g at ≡ i) where
+    there : Midway g (p .items) (p .done ++ (i ∷ [])) (at + itemSize i)
+    there = subst (Onward g (p .items) (p .done) at) e (midway-next g (p .items) (p .done) at (p .midway) h) .next
+
+    pub passing-next : (later : ℕ) → later + tally i ≡ left → Passing g n later (at + itemSize i)
+    unfolding charactersOf
+    passing-next later l =
+        let d = p .done in
+        record {
+          items = p .items;
+          done = d ++ (i ∷ []);
+          fits = p .fits;
+          read = p .read;
+          midway = there;
+          passed = omega (arith, p .passed, ap length (characters-append d (i ∷ [])), length-append (charactersOf d) (charactersOf (i ∷ [])), count-item i []);
+        }
+
+  -- character n is there
+  pub passing-found : at + 7 < length g → (c : Character) → itemAt g at ≡ Placed c → left ≡ 0 → found c ≡ readBackOutcome g n
+  unfolding charactersOf
+  passing-found h c e l =
+      let m = there h (Placed c) e in
+      let d = p .done in
+      let cs = charactersOf d in
+      let r = charactersOf (m .rest) in
+      let all : charactersOf (p .items) ≡ cs ++ (c ∷ r) =
+      ap charactersOf (m .all ∙ append-assoc d (Placed c ∷ []) (m .rest)) ∙ characters-append d (Placed c ∷ m .rest) in
+      let k : length cs ≡ n = omega (arith, p .passed) in
+      let is-there : getD (charactersOf (p .items)) n zeros ≡ c = ap (λ (l : List Character). getD l n zeros) all ∙ getD-at cs c r n k in
+      let room : n < length (charactersOf (p .items)) = omega (arith, k, ap length all, length-append cs (c ∷ r)) in
+      ap found (sym is-there) ∙ picked g n (p .items) (p .fits) (p .read) room
+
+-- ---- a galley without cuts: character n stands at byte 9 n
+
+uncut : (g : List ℕ) (done rest : List Item) (at n : ℕ) → Walk g done rest at → cutsOf rest ≡ 0 → n < length (charactersOf rest)
+    → (itemAt g (at + 9 * n) ≡ Placed (getD (charactersOf rest) n zeros)) × (at + 9 * n + 9 ≤ length g)
+unfolding charactersOf cutsOf
+uncut g done [] at n w z h = absurd (omega arith)
+uncut g done (Cut ∷ rest) at n w z h = absurd (omega arith)
+uncut g done (Placed c ∷ rest) at zero w z h =
+    let s = walk-step g done (Placed c) rest at w in
+    let y : at + 9 * 0 ≡ at = omega arith in
+    (ap (itemAt g) y ∙ s .here, omega (arith, s .room))
+uncut g done (Placed c ∷ rest) at (suc n) w z h =
+    let s = walk-step g done (Placed c) rest at w in
+    let r = uncut g (done ++ (Placed c ∷ [])) rest (at + 9) n (s .walk) z (omega arith) in
+    let y : at + 9 + 9 * n ≡ at + 9 * suc n = omega arith in
+    (ap (itemAt g) (sym y) ∙ r .0, omega (arith, r .1))
+
+by-tag : (s : List ℕ) (i : ℕ) (c : Character) → itemAt s i ≡ Placed c → characterAt s i ≡ c
+unfolding itemAt
+by-tag s i c = go (eqb (getD s i 0) 6)
+  where
+    go : (t : Bool) → cond t Cut (Placed (characterAt s i)) ≡ Placed c → characterAt s i ≡ c
+    go true e = let z : _≡_ {A = ℕ} 0 1 = cc in absurd (omega arith)
+    go false e = cc
+
+module _ (g : List ℕ) (n count : ℕ) (e : accepted count ≡ checkOutcome g) (short : length g ≡ 9 * count + 7) (h : n < count) where
+  at-nine : (itemAt g (0 + 9 * n) ≡ Placed (getD (charactersOf (checked g count e .items)) n zeros)) × (0 + 9 * n + 9 ≤ length g)
+  unfolding readGalley
+  at-nine =
+      let c = checked g count e in
+      let l = reading-length (c .items) maxItems g 0 0 (c .read) in
+      uncut g [] (c .items) 0 n (walk-start g (c .items) (c .read)) (omega (arith, l, length-fields (c .items), c .counted)) (omega (arith, c .counted))
+
+  pub back-room : n * 9 + 9 ≤ length g
+  back-room = omega (arith, at-nine .1)
+
+  pub back-found : found (characterAt g (n * 9)) ≡ readBackOutcome g n
+  back-found =
+      let c = checked g count e in
+      let z : 0 + 9 * n ≡ n * 9 = omega arith in
+      ap found (by-tag g (n * 9) (getD (charactersOf (c .items)) n zeros) (ap (itemAt g) (sym z) ∙ at-nine .0))
+      ∙ picked g n (c .items) (c .fits) (c .read) (omega (arith, c .counted))

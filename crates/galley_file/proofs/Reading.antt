@@ -2,25 +2,30 @@
 -- Assumes nothing.
 use mathlib.Core.Path.{_≡_, refl, sym, ap, _∙_}
 use mathlib.Core.Bool.{Bool, true, false, cond}
-use mathlib.Core.List.{List, [], _∷_}
+use mathlib.Core.List.{List, [], _∷_, _++_}
+use mathlib.Core.Option.{Option, none, some}
 use Prim.Native.Nat.{ℕ, zero, suc, _+_, _-_, _*_, _<_, _≤_}
 use native.Mathlib.Omega.{arith}
 use borrow.Author.Tests.{eq-eqb, ne-eqb}
-use lib.ListN.{length, take, drop, length-drop}
+use lib.ListN.{length, take, drop, length-drop, length-append}
 use lib.Seq.{take-all, drop-drop}
 use Rattle.octets.specs.Answer.{Outcome, accepted, refused, galleyMalformed}
 use Rattle.octets.specs.Field.{startsEnd}
-use Rattle.galley_file.specs.declared.character.Character.{Character}
+use Rattle.galley_file.specs.declared.item.Item.{Item}
+use Rattle.galley_file.specs.declared.item.Item.the-variants.{Placed, Cut}
+use Rattle.galley_file.specs.declared.Span.{Span}
 use Rattle.galley_file.specs.Character.{characterAt, isCharacter}
-use Rattle.galley_file.specs.CharacterLaws.{read-character}
-use Rattle.galley_file.specs.Galley.{Reading, whole, malformed, after, readEnd, reading, leading}
-use Rattle.galley_file.specs.GalleyLaws.{reading-character, reading-end}
+use Rattle.galley_file.specs.Item.{itemField, itemSize, isCut, nextItem, tally, charactersOf, cutsOf}
+use Rattle.galley_file.specs.ItemLaws.{length-itemField, next-is, count-item, all-counted, characters-append, cuts-append}
+use Rattle.galley_file.specs.Galley.{Reading, whole, malformed, after, fields, readEnd, reading, leading}
+use Rattle.galley_file.specs.Span.{SpanOf, Block}
+use Rattle.galley_file.specs.GalleyLaws.{reading-next, reading-end, length-fields}
 use Rattle.galley_file.specs.Outcome.{countOutcome}
 
--- a character more before a run is one more in its count
-pub count-after : (n : ℕ) (c : Character) (r : Reading) → countOutcome n (after c r) ≡ countOutcome (n + 1) r
-count-after n c (whole cs) = ap accepted (omega arith)
-count-after n c (malformed p) = refl
+-- an item more before a run, and its count
+pub count-after : (n : ℕ) (i : Item) (r : Reading) → countOutcome n (after i r) ≡ countOutcome (n + tally i) r
+count-after n i (whole is) = ap accepted (omega (arith, count-item i is))
+count-after n i (malformed p) = refl
 
 -- the part of a slice from k on
 pub part : (k : ℕ) (s : List ℕ) → take (length s - k) (drop k s) ≡ drop k s
@@ -30,7 +35,7 @@ part k s = take-all (length s - k) (drop k s) (simp length-drop (omega arith))
 
 module _ (s : List ℕ) (at n : ℕ) where
   pub ended : startsEnd n s ≡ true → length s ≡ 7 → accepted n ≡ countOutcome n (readEnd s at n)
-  unfolding readEnd
+  unfolding readEnd charactersOf
   ended f l = rw (f, eq-eqb _ _ l) (ap accepted (omega arith))
 
   pub trailing : startsEnd n s ≡ true → (length s ≡ 7 → ⊥) → refused galleyMalformed (at + 7) ≡ countOutcome n (readEnd s at n)
@@ -41,109 +46,225 @@ module _ (s : List ℕ) (at n : ℕ) where
   unfolding readEnd
   faulty f = rw f
 
--- ---- the character fields at the start
+-- ---- the items at the start
 
-pub leading-none : (s : List ℕ) → leading 0 s ≡ 0
+pub next-character : (s : List ℕ) → isCharacter s ≡ true → nextItem s ≡ some (Placed (characterAt s 0))
+unfolding nextItem
+next-character s e = rw e
+
+pub next-cut : (s : List ℕ) → isCharacter s ≡ false → isCut s ≡ true → nextItem s ≡ some Cut
+unfolding nextItem
+next-cut s e f = rw (e, f)
+
+pub next-no : (s : List ℕ) → isCharacter s ≡ false → isCut s ≡ false → nextItem s ≡ none
+unfolding nextItem
+next-no s e f = rw (e, f)
+
+pub leading-none : (s : List ℕ) → leading 0 s ≡ []
 unfolding leading
 leading-none s = refl
 
-pub leading-more : (m : ℕ) (s : List ℕ) → (m ≡ 0 → ⊥) → isCharacter s ≡ true → leading m s ≡ leading (m - 1) (drop 9 s) + 1
+pub leading-more : (m : ℕ) (s : List ℕ) (i : Item) → (m ≡ 0 → ⊥) → nextItem s ≡ some i → leading m s ≡ i ∷ leading (m - 1) (drop (itemSize i) s)
 unfolding leading
-leading-more zero s h e = absurd (h refl)
-leading-more (suc m) s h e = let z : suc m - 1 ≡ m = omega arith in rw (e, z)
+leading-more zero s i h e = absurd (h refl)
+leading-more (suc m) s i h e = let z : suc m - 1 ≡ m = omega arith in rw (e, leading, z)
 
-pub leading-stop : (m : ℕ) (s : List ℕ) → isCharacter s ≡ false → leading m s ≡ 0
+pub leading-stop : (m : ℕ) (s : List ℕ) → nextItem s ≡ none → leading m s ≡ []
 unfolding leading
 leading-stop zero s e = refl
-leading-stop (suc m) s e = rw e
+leading-stop (suc m) s e = rw (e, leading)
 
 -- a fact of `leading m s` from its three cases
-module _ (P : ℕ → List ℕ → ℕ → Type 0) (none : (s : List ℕ) → P 0 s 0) (stop : (m : ℕ) (s : List ℕ) → isCharacter s ≡ false → P (suc m) s 0)
-    (more : (m k : ℕ) (s : List ℕ) → isCharacter s ≡ true → P m (drop 9 s) k → P (suc m) s (k + 1)) where
+module _ (P : ℕ → List ℕ → List Item → Type 0) (nothing : (s : List ℕ) → P 0 s []) (stop : (m : ℕ) (s : List ℕ) → nextItem s ≡ none → P (suc m) s [])
+    (more : (m : ℕ) (is : List Item) (s : List ℕ) (i : Item) → nextItem s ≡ some i → P m (drop (itemSize i) s) is → P (suc m) s (i ∷ is)) where
   pub leading-ind : (m : ℕ) (s : List ℕ) → P m s (leading m s)
   unfolding leading
-  leading-ind zero s = none s
-  leading-ind (suc m) s = go (isCharacter s) refl (leading-ind m (drop 9 s))
+  leading-ind zero s = nothing s
+  leading-ind (suc m) s = go (nextItem s) refl (λ i. leading-ind m (drop (itemSize i) s))
     where
-      go : (t : Bool) → isCharacter s ≡ t → P m (drop 9 s) (leading m (drop 9 s)) → P (suc m) s (cond t (leading m (drop 9 s) + 1) 0)
-      go true e r = more m (leading m (drop 9 s)) s e r
-      go false e r = stop m s e
+      go : (o : Option Item) → nextItem s ≡ o → ((i : Item) → P m (drop (itemSize i) s) (leading m (drop (itemSize i) s)))
+          → P (suc m) s (elim o [ none ↦ [] | some i ↦ i ∷ leading m (drop (itemSize i) s) ])
+      go none e r = stop m s e
+      go (some i) e r = more m (leading m (drop (itemSize i) s)) s i e (r i)
 
-pub leading-room : (m : ℕ) (s : List ℕ) → leading m s ≤ m
-leading-room = leading-ind (λ m s k. k ≤ m) (λ s. omega arith) (λ m s e. omega arith) (λ m k s e r. omega arith)
+pub leading-room : (m : ℕ) (s : List ℕ) → length (leading m s) ≤ m
+leading-room = leading-ind (λ m s is. length is ≤ m) (λ s. omega arith) (λ m s e. omega arith) (λ m is s i e r. omega arith)
 
-pub leading-fits : (m : ℕ) (s : List ℕ) → 9 * leading m s ≤ length s
+size-more : (i : Item) (is : List Item) → length (fields (i ∷ is)) ≡ itemSize i + length (fields is)
+unfolding fields
+size-more i is = length-append (itemField i) (fields is) ∙ omega (arith, length-itemField i)
+
+pub leading-fits : (m : ℕ) (s : List ℕ) → length (fields (leading m s)) ≤ length s
+unfolding fields
 leading-fits =
-    leading-ind (λ m s k. 9 * k ≤ length s) (λ s. omega arith) (λ m s e. omega arith)
-    (λ m k s e r. let l = read-character s e .long in let d = length-drop 9 s in omega arith)
+    leading-ind (λ m s is. length (fields is) ≤ length s) (λ s. omega arith) (λ m s e. omega arith)
+    (λ m is s i e r. omega (arith, size-more i is, next-is s i e .long, length-drop (itemSize i) s))
 
--- after n of them, the count goes on in what follows
-leading-split : (n : ℕ) (s : List ℕ) → leading n s ≡ n → (r : ℕ) → leading (n + r) s ≡ n + leading r (drop (9 * n) s)
+-- ---- what `leading_items` counts
+
+module _ (m : ℕ) (s : List ℕ) where
+  abbrev none-span : Span
+  none-span = record { characters = 0; cuts = 0 }
+
+  nothing : leading m s ≡ [] → SpanOf none-span (leading m s)
+  unfolding charactersOf cutsOf
+  nothing e = rw e (record { characters-are = refl; cuts-are = refl })
+
+  pub span-none : m ≡ 0 → SpanOf none-span (leading m s)
+  span-none e = nothing (ap (λ (k : ℕ). leading k s) e ∙ leading-none s)
+
+  pub span-stop : isCharacter s ≡ false → isCut s ≡ false → SpanOf none-span (leading m s)
+  span-stop e f = nothing (leading-stop m s (next-no s e f))
+
+  pub span-character : (r : Span) → (m ≡ 0 → ⊥) → isCharacter s ≡ true → SpanOf r (leading (m - 1) (take (length s - 9) (drop 9 s)))
+      → SpanOf (record { characters = r .characters + 1; cuts = r .cuts }) (leading m s)
+  unfolding charactersOf cutsOf
+  span-character r h e q =
+      let p = part 9 s in
+      let w : SpanOf r (leading (m - 1) (drop 9 s)) = rw (← p) q in
+      rw (leading-more m s (Placed (characterAt s 0)) h (next-character s e))
+      (record { characters-are = omega (arith, w .characters-are); cuts-are = w .cuts-are })
+
+  pub span-cut : (r : Span) → (m ≡ 0 → ⊥) → isCharacter s ≡ false → isCut s ≡ true → SpanOf r (leading (m - 1) (take (length s - 3) (drop 3 s)))
+      → SpanOf (record { characters = r .characters; cuts = r .cuts + 1 }) (leading m s)
+  unfolding charactersOf cutsOf
+  span-cut r h e f q =
+      let p = part 3 s in
+      let w : SpanOf r (leading (m - 1) (drop 3 s)) = rw (← p) q in
+      rw (leading-more m s Cut h (next-cut s e f)) (record { characters-are = w .characters-are; cuts-are = ap (λ (k : ℕ). k + 1) (w .cuts-are) })
+
+-- no more than the room
+pub span-few : (m : ℕ) (s : List ℕ) (r : Span) → SpanOf r (leading m s) → r .characters + r .cuts ≤ m
+span-few m s r e = omega (arith, all-counted (leading m s), e .characters-are, e .cuts-are, leading-room m s)
+
+-- ---- blocks of characters
+
+-- after n items, what follows goes on
+leading-split : (n : ℕ) (s : List ℕ) (r : ℕ) → length (leading n s) ≡ n → leading (n + r) s ≡ leading n s ++ leading r (drop (length (fields (leading n s))) s)
+unfolding fields
 leading-split =
-    leading-ind (λ n s k. k ≡ n → (r : ℕ) → leading (n + r) s ≡ n + leading r (drop (9 * n) s))
-    (λ s h r. let x : 0 + r ≡ r = omega arith in let y : 0 + leading r s ≡ leading r s = omega arith in rw (x, y))
-    (λ n s e h r. absurd (omega arith))
-    (λ n k s e split h r.
+    leading-ind (λ n s is. (r : ℕ) → length is ≡ n → leading (n + r) s ≡ is ++ leading r (drop (length (fields is)) s))
+    (λ s r h. let z : 0 + r ≡ r = omega arith in rw z)
+    (λ n s e r h. absurd (omega arith))
+    (λ n is s i e split r h.
     let x : suc n + r - 1 ≡ n + r = omega arith in
-    let y : 9 * suc n ≡ 9 + 9 * n = omega arith in
-    let i = split (omega arith) r in
-    leading-more (suc n + r) s (λ q. omega arith) e
-    ∙ rw (x, y, ← drop-drop (9 * n) 9 s) (omega (arith, i)))
+    let y = size-more i is in
+    leading-more (suc n + r) s i (λ q. omega arith) e
+    ∙ rw (x, y, ← drop-drop (length (fields is)) (itemSize i) s) (ap (λ (l : List Item). i ∷ l) (split r (omega arith))))
 
-module _ (n : ℕ) (s : List ℕ) (h : leading n s ≡ n) where
-  leading-after : (m : ℕ) → n ≤ m → leading m s ≡ n + leading (m - n) (drop (9 * n) s)
-  leading-after m l = let x : m ≡ n + (m - n) = omega arith in ap (λ (k : ℕ). leading k s) x ∙ leading-split n s h (m - n)
+module _ (n : ℕ) (s : List ℕ) (b : Block n s) where
+  block-items : length (leading n s) ≡ n
+  block-items = omega (arith, all-counted (leading n s), b .characters-are, b .cuts-are)
+
+  block-bytes : length (fields (leading n s)) ≡ 9 * n
+  block-bytes = omega (arith, length-fields (leading n s), b .characters-are, b .cuts-are)
+
+  pub block-fits : 9 * n ≤ length s
+  block-fits = omega (arith, block-bytes, leading-fits n s)
+
+  go-on : (r : ℕ) → leading (n + r) s ≡ leading n s ++ leading r (drop (9 * n) s)
+  go-on r = leading-split n s r block-items ∙ ap (λ (k : ℕ). leading n s ++ leading r (drop k s)) block-bytes
+
+  -- the items of a block and those after it
+  pub block-span : (m : ℕ) (r : Span) → n ≤ m → SpanOf r (leading (m - n) (take (length s - 9 * n) (drop (9 * n) s))) → SpanOf (record { characters = n + r .characters; cuts = r .cuts }) (leading m s)
+  block-span m r h q =
+      let p = part (9 * n) s in
+      let w : SpanOf r (leading (m - n) (drop (9 * n) s)) = rw (← p) q in
+      let z : n + (m - n) ≡ m = omega arith in
+      let all : leading m s ≡ leading n s ++ leading (m - n) (drop (9 * n) s) = ap (λ (k : ℕ). leading k s) (sym z) ∙ go-on (m - n) in
+      let rest = leading (m - n) (drop (9 * n) s) in
+      record {
+        characters-are = omega (arith, ap (λ (l : List Item). length (charactersOf l)) all, ap length (characters-append (leading n s) rest), length-append (charactersOf (leading n s)) (charactersOf rest), b .characters-are, w .characters-are);
+        cuts-are = omega (arith, ap cutsOf all, cuts-append (leading n s) rest, b .cuts-are, w .cuts-are);
+      }
 
   -- one more
-  pub leading-next : isCharacter (drop (9 * n) s) ≡ true → leading (n + 1) s ≡ n + 1
-  leading-next e =
-      let x = leading-more 1 (drop (9 * n) s) (λ q. omega arith) e in
-      let y = leading-none (drop 9 (drop (9 * n) s)) in
-      leading-split n s h 1 ∙ omega (arith, x, y)
+  pub block-next : isCharacter (take (length s - 9 * n) (drop (9 * n) s)) ≡ true → Block (n + 1) s
+  block-next e =
+      let t = take (length s - 9 * n) (drop (9 * n) s) in
+      let x : n + 1 - n ≡ 1 = omega arith in
+      block-span (n + 1) (record { characters = 1; cuts = 0 }) (omega arith)
+      (rw x (span-character 1 t (record { characters = 0; cuts = 0 }) (λ q. omega arith) e (span-none 0 (take (length t - 9) (drop 9 t)) refl)))
 
-  -- no more
-  pub leading-last : (m : ℕ) → n ≤ m → isCharacter (drop (9 * n) s) ≡ false → leading m s ≡ n
-  leading-last m l e = let x = leading-stop (m - n) (drop (9 * n) s) e in leading-after m l ∙ omega (arith, x)
+-- ---- past a run
 
-  -- and those of the slice's part after them
-  pub leading-part : (m : ℕ) → n ≤ m → leading (m - n) (take (length s - 9 * n) (drop (9 * n) s)) + n ≡ leading m s
-  leading-part m l = rw (part (9 * n) s, leading-after m l) (omega arith)
+-- where a run goes on or ends, after the items `is`
+abbrev On : (List ℕ → ℕ → ℕ → Reading) → List ℕ → List Item → ℕ → ℕ → Outcome
+On f s is at n = countOutcome (n + length (charactersOf is)) (f (drop (length (fields is)) s) (at + length (fields is)) (n + length (charactersOf is)))
 
-same-place : (s : List ℕ) (at n : ℕ) → countOutcome n (reading s at n) ≡ countOutcome (n + 0) (reading (drop (9 * 0) s) (at + 9 * 0) (n + 0))
-same-place s at n = let y : at + 9 * 0 ≡ at = omega arith in let z : n + 0 ≡ n = omega arith in rw (y, z)
+on-none : (f : List ℕ → ℕ → ℕ → Reading) (s : List ℕ) (at n : ℕ) → On f s [] at n ≡ countOutcome n (f s at n)
+unfolding fields charactersOf
+on-none f s at n = let y : at + 0 ≡ at = omega arith in let z : n + 0 ≡ n = omega arith in rw (y, z)
 
--- past the leading characters, the rest of the run decides
-skip : (m : ℕ) (s : List ℕ) (at n : ℕ)
-    → countOutcome n (reading s at n) ≡ countOutcome (n + leading m s) (reading (drop (9 * leading m s) s) (at + 9 * leading m s) (n + leading m s))
-skip =
-    leading-ind (λ m s k. (at n : ℕ) → countOutcome n (reading s at n) ≡ countOutcome (n + k) (reading (drop (9 * k) s) (at + 9 * k) (n + k)))
-    same-place (λ m s e. same-place s)
-    (λ m k s e r at n.
-    let x : n + (k + 1) ≡ n + 1 + k = omega arith in
-    let y : at + 9 * (k + 1) ≡ at + 9 + 9 * k = omega arith in
-    let z : 9 * (k + 1) ≡ 9 + 9 * k = omega arith in
-    rw (reading-character s at n e, count-after n (characterAt s 0) (reading (drop 9 s) (at + 9) (n + 1)), x, y, z, ← drop-drop (9 * k) 9 s)
-    (r (at + 9) (n + 1)))
+on-more : (f : List ℕ → ℕ → ℕ → Reading) (s : List ℕ) (i : Item) (is : List Item) (at n : ℕ) → On f s (i ∷ is) at n ≡ On f (drop (itemSize i) s) is (at + itemSize i) (n + tally i)
+on-more f s i is at n =
+    let x : n + length (charactersOf (i ∷ is)) ≡ n + tally i + length (charactersOf is) = omega (arith, count-item i is) in
+    let y : at + length (fields (i ∷ is)) ≡ at + itemSize i + length (fields is) = omega (arith, size-more i is) in
+    let z : drop (length (fields (i ∷ is))) s ≡ drop (length (fields is)) (drop (itemSize i) s) = ap (λ (k : ℕ). drop k s) (size-more i is) ∙ sym (drop-drop (length (fields is)) (itemSize i) s) in
+    rw (x, y, z)
 
--- fewer than m of them: what follows is no character field
-stops : (m : ℕ) (s : List ℕ) → (leading m s ≡ m → ⊥) → isCharacter (drop (9 * leading m s) s) ≡ false
-stops =
-    leading-ind (λ m s k. (k ≡ m → ⊥) → isCharacter (drop (9 * k) s) ≡ false) (λ s h. absurd (h refl)) (λ m s e h. e)
-    (λ m k s e r h.
-    let z : 9 * (k + 1) ≡ 9 + 9 * k = omega arith in
-    rw (z, ← drop-drop (9 * k) 9 s) (r (λ q. h (omega arith))))
+-- past a full run of m items, the rest decides
+full : (m : ℕ) (s : List ℕ) (k at n : ℕ) → length (leading m s) ≡ m → countOutcome n (reading (m + k) s at n) ≡ On (reading k) s (leading m s) at n
+full =
+    leading-ind (λ m s is. (k at n : ℕ) → length is ≡ m → countOutcome n (reading (m + k) s at n) ≡ On (reading k) s is at n)
+    (λ s k at n l. let z : 0 + k ≡ k = omega arith in rw z (sym (on-none (reading k) s at n)))
+    (λ m s e k at n l. absurd (omega arith))
+    (λ m is s i e r k at n l.
+    let z : suc m + k ≡ suc (m + k) = omega arith in
+    ap (λ (t : ℕ). countOutcome n (reading t s at n)) z
+    ∙ ap (countOutcome n) (reading-next (m + k) s at n i e)
+    ∙ count-after n i (reading (m + k) (drop (itemSize i) s) (at + itemSize i) (n + tally i))
+    ∙ r k (at + itemSize i) (n + tally i) (omega arith)
+    ∙ sym (on-more (reading k) s i is at n))
 
--- ---- the answers of `check_fields`, which has read n of the characters
+-- past fewer, no item comes next
+short : (m : ℕ) (s : List ℕ) (k at n : ℕ) → (length (leading m s) ≡ m → ⊥) → countOutcome n (reading (m + k) s at n) ≡ On readEnd s (leading m s) at n
+short =
+    leading-ind (λ m s is. (k at n : ℕ) → (length is ≡ m → ⊥) → countOutcome n (reading (m + k) s at n) ≡ On readEnd s is at n)
+    (λ s k at n l. absurd (l refl))
+    (λ m s e k at n l. ap (countOutcome n) (reading-end (suc m + k) s at n e) ∙ sym (on-none readEnd s at n))
+    (λ m is s i e r k at n l.
+    let z : suc m + k ≡ suc (m + k) = omega arith in
+    ap (λ (t : ℕ). countOutcome n (reading t s at n)) z
+    ∙ ap (countOutcome n) (reading-next (m + k) s at n i e)
+    ∙ count-after n i (reading (m + k) (drop (itemSize i) s) (at + itemSize i) (n + tally i))
+    ∙ r k (at + itemSize i) (n + tally i) (λ q. l (omega arith))
+    ∙ sym (on-more readEnd s i is at n))
 
-module _ (m n : ℕ) (s : List ℕ) (e : n ≡ leading m s) where
-  pub run-fits : 9 * n ≤ length s
-  run-fits = rw e (leading-fits m s)
+-- ---- the answers of `check_fields`, which has read a run of items
 
-  module _ (at c : ℕ) where
-    pub run-goes-on : countOutcome (c + n) (reading (take (length s - 9 * n) (drop (9 * n) s)) (at + 9 * n) (c + n)) ≡ countOutcome c (reading s at c)
-    run-goes-on = rw (part (9 * n) s, e) (sym (skip m s at c))
+module _ (r : Span) (m : ℕ) (s : List ℕ) (e : SpanOf r (leading m s)) where
+  abbrev start : ℕ
+  start = 9 * r .characters + 3 * r .cuts
 
-    pub run-ends : (n ≡ m → ⊥) → countOutcome (c + n) (readEnd (take (length s - 9 * n) (drop (9 * n) s)) (at + 9 * n) (c + n)) ≡ countOutcome c (reading s at c)
-    run-ends h =
-        let f : isCharacter (drop (9 * n) s) ≡ false = rw e (stops m s (λ q. h (e ∙ q))) in
-        rw (part (9 * n) s, ← reading-end (drop (9 * n) s) (at + 9 * n) (c + n) f, e) (sym (skip m s at c))
+  run-start : start ≡ length (fields (leading m s))
+  run-start = omega (arith, length-fields (leading m s), e .characters-are, e .cuts-are)
+
+  run-items : r .characters + r .cuts ≡ length (leading m s)
+  run-items = omega (arith, all-counted (leading m s), e .characters-are, e .cuts-are)
+
+  pub run-fits : start ≤ length s
+  run-fits = omega (arith, run-start, leading-fits m s)
+
+  module _ (k at n : ℕ) where
+    there : (f : List ℕ → ℕ → ℕ → Reading)
+        → countOutcome (n + r .characters) (f (take (length s - start) (drop start s)) (at + start) (n + r .characters)) ≡ On f s (leading m s) at n
+    there f = rw (part start s, run-start, e .characters-are)
+
+    pub run-goes-on : r .characters + r .cuts ≡ m
+        → countOutcome (n + r .characters) (reading k (take (length s - start) (drop start s)) (at + start) (n + r .characters)) ≡ countOutcome n (reading (m + k) s at n)
+    run-goes-on h = there (reading k) ∙ sym (full m s k at n (sym run-items ∙ h))
+
+    pub run-ends : (r .characters + r .cuts ≡ m → ⊥)
+        → countOutcome (n + r .characters) (readEnd (take (length s - start) (drop start s)) (at + start) (n + r .characters)) ≡ countOutcome n (reading (m + k) s at n)
+    run-ends h = there readEnd ∙ sym (short m s k at n (λ q. h (run-items ∙ q)))
+
+-- ---- runs of 1,024
+
+pub no-runs : (s : List ℕ) (at n runs : ℕ) → runs ≡ 0 → countOutcome n (readEnd s at n) ≡ countOutcome n (reading (1024 * runs) s at n)
+unfolding reading
+no-runs s at n runs e = let z : 1024 * runs ≡ 0 = omega (arith, e) in rw z
+
+-- one run, and those after it
+pub one-run : (s : List ℕ) (at n runs : ℕ) → (runs ≡ 0 → ⊥) → countOutcome n (reading (1024 + 1024 * (runs - 1)) s at n) ≡ countOutcome n (reading (1024 * runs) s at n)
+one-run s at n runs h = let z : 1024 + 1024 * (runs - 1) ≡ 1024 * runs = omega (arith, h) in rw z

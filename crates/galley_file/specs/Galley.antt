@@ -1,62 +1,71 @@
--- A whole galley, and what a run of bytes holds when it is read as one (document 01, "Galley").
---     galley         the bytes of a list of characters
---     AllValid       each character of a list is valid
---     Reading        the characters that a run of bytes holds, or the place of its first fault
---     reading        what a run holds that starts at a place and follows so many characters
+-- A whole galley, and what a run of bytes holds when it is read as one (document 01, "Galley"; document 02, "Software cuts").
+--     galley         the bytes of a list of items
+--     AllValid       each item of a list is valid
+--     Reading        the items that a run of bytes holds, or the place of its first fault
+--     reading        what a run holds that starts at a place, follows so many characters, and may have so many items
 --     readGalley     what a whole galley holds
+--     leading        the items that a run of bytes starts with
 use Prim.Native.Nat.{ℕ, zero, suc, _+_}
 use mathlib.Core.Bool.{Bool, true, cond}
 use mathlib.Core.List.{List, [], _∷_, _++_}
+use mathlib.Core.Option.{Option, none, some}
 use mathlib.Core.Path.{_≡_}
 use lib.Dec.{eqb}
 use lib.ListN.{length, drop}
 use Rattle.octets.specs.Field.{endField, startsEnd}
-use Rattle.galley_file.specs.declared.character.Character.{Character}
-use Rattle.galley_file.specs.Character.{valid, characterField, characterAt, isCharacter}
+use Rattle.galley_file.specs.declared.item.Item.{Item}
+use Rattle.galley_file.specs.Item.{validItem, itemField, itemSize, nextItem, tally, charactersOf}
 
 -- the longest galley: 1,048,576 characters
 abbrev pub maxGalley : ℕ
 maxGalley = 9437191
 
-pub data AllValid : List Character → Type 0 where
-  none : AllValid []
-  more : {c : Character} {cs : List Character} → valid c ≡ true → AllValid cs → AllValid (c ∷ cs)
+-- the most characters and cuts together
+abbrev pub maxItems : ℕ
+maxItems = 1048576
 
-unfoldable pub fields : List Character → List ℕ
+pub data AllValid : List Item → Type 0 where
+  nil : AllValid []
+  more : {i : Item} {is : List Item} → validItem i ≡ true → AllValid is → AllValid (i ∷ is)
+
+unfoldable pub fields : List Item → List ℕ
 fields [] = []
-fields (c ∷ cs) = characterField c ++ fields cs
+fields (i ∷ is) = itemField i ++ fields is
 
--- the characters' fields, and End with their number
-unfoldable pub galley : List Character → List ℕ
-galley cs = fields cs ++ endField (length cs)
+-- the items' fields, and End with the number of the characters only
+unfoldable pub galley : List Item → List ℕ
+galley is = fields is ++ endField (length (charactersOf is))
 
 pub data Reading : Type 0 where
-  whole : List Character → Reading
+  whole : List Item → Reading
   malformed : ℕ → Reading
 
-abbrev pub after : Character → Reading → Reading
-after c (whole cs) = whole (c ∷ cs)
-after c (malformed p) = malformed p
+abbrev pub after : Item → Reading → Reading
+after i (whole is) = whole (i ∷ is)
+after i (malformed p) = malformed p
 
--- what s holds where no character comes next: End with nothing after it, or a fault
+-- what s holds where no item comes next: End with nothing after it, or a fault
 unfoldable pub readEnd : List ℕ → ℕ → ℕ → Reading
 readEnd s at n = cond (startsEnd n s) (cond (eqb (length s) 7) (whole []) (malformed (at + 7))) (malformed at)
 
 -- What s holds, where it starts at the place `at` of a galley and follows n characters: after a field comes again a run of
--- fields, by the same rules. The first number bounds the fields.
-unfoldable pub readFields : ℕ → List ℕ → ℕ → ℕ → Reading
-readFields zero s at n = malformed at
-readFields (suc k) s at n =
-    cond (isCharacter s) (after (characterAt s 0) (readFields k (drop 9 s) (at + 9) (n + 1))) (readEnd s at n)
-
--- no run has more fields than bytes
-unfoldable pub reading : List ℕ → ℕ → ℕ → Reading
-reading s at n = readFields (suc (length s)) s at n
+-- fields, by the same rules. The first number is that of the characters and cuts that may come: the first field past it is bad.
+unfoldable pub reading : ℕ → List ℕ → ℕ → ℕ → Reading
+reading zero s at n = readEnd s at n
+reading (suc k) s at n =
+    elim (nextItem s) [
+      | none ↦ readEnd s at n
+      | some i ↦ after i (reading k (drop (itemSize i) s) (at + itemSize i) (n + tally i))
+    ]
 
 unfoldable pub readGalley : List ℕ → Reading
-readGalley g = reading g 0 0
+readGalley g = reading maxItems g 0 0
 
--- how many character fields s starts with, at most m
-unfoldable pub leading : ℕ → List ℕ → ℕ
-leading zero s = 0
-leading (suc m) s = cond (isCharacter s) (leading m (drop 9 s) + 1) 0
+-- the items that s starts with, at most m
+unfoldable pub leading : ℕ → List ℕ → List Item
+leading zero s = []
+leading (suc m) s =
+    elim (nextItem s) [
+      | none ↦ []
+      | some i ↦ i ∷ leading m (drop (itemSize i) s)
+    ]

@@ -1,15 +1,16 @@
 -- The laws of the format.
---     accepts             the bytes of valid characters, at most 1,048,576 of them, are read as those characters
---     accepts-check       and the check accepts them with their number
---     accepted-is         bytes that the check accepts are the bytes of the characters that are read from them, which are valid
---     accepted-exactly    the check accepts exactly the galleys of at most 1,048,576 valid characters
---     same-bytes          two accepted galleys from which the same characters are read are the same bytes
---     galley-bytes        a galley of valid characters is bytes
+--     accepts             the bytes of valid items, at most 1,048,576 of them, are read as those items
+--     accepts-check       and the check accepts them with the number of their characters
+--     accepted-is         bytes that the check accepts are the bytes of the items that are read from them, which are valid
+--     accepted-exactly    the check accepts exactly the galleys of at most 1,048,576 valid items
+--     same-bytes          two accepted galleys from which the same items are read are the same bytes
+--     galley-bytes        a galley of valid items is bytes
 -- Assumes nothing.
 use mathlib.Core.Path.{_≡_, refl, sym, ap, subst, _∙_}
 use mathlib.Core.Bool.{Bool, true, false, cond}
 use mathlib.Core.List.{List, [], _∷_, _++_, append-assoc, append-nil}
 use mathlib.Core.Logic.{_↔_}
+use mathlib.Core.Option.{Option, none, some}
 use Prim.Native.Nat.{ℕ, zero, suc, _+_, _*_, _/_, _%_, _^_, _<_, _≤_}
 use native.Mathlib.Nat.{add-assoc, mod-lt}
 use native.Mathlib.Omega.{arith}
@@ -23,102 +24,92 @@ use Rattle.octets.specs.Field.{field, endField, startsField, startsEnd}
 use Rattle.octets.specs.FieldLaws.{length-end, end-starts, starts-end}
 use Rattle.octets.specs.Answer.{Outcome, accepted, refused, galleyTooLong}
 use Rattle.galley_file.specs.declared.character.Character.{Character}
-use Rattle.galley_file.specs.Character.{valid, characterBody, characterField, characterAt, isCharacter}
-use Rattle.galley_file.specs.CharacterLaws.{Valid, valid-parts, length-characterField, characterAt-field, field-isCharacter, drop-field, read-character, isCharacter-field}
-use Rattle.galley_file.specs.Galley.{maxGalley, AllValid, none, more, fields, galley, Reading, whole, malformed, after, readEnd, readFields, reading, readGalley}
-use Rattle.galley_file.specs.Outcome.{countOutcome, checkOutcome, zeros}
+use Rattle.galley_file.specs.declared.item.Item.{Item}
+use Rattle.galley_file.specs.declared.item.Item.the-variants.{Placed, Cut}
+use Rattle.galley_file.specs.Character.{valid, characterBody, characterField}
+use Rattle.galley_file.specs.CharacterLaws.{valid-parts}
+use Rattle.galley_file.specs.Item.{cutField, validItem, itemField, itemSize, nextItem, itemAt, tally, charactersOf, cutsOf}
+use Rattle.galley_file.specs.ItemLaws.{length-itemField, drop-itemField, next-none, next-field, Next, next-is, field-next, next-itemAt, count-item, all-counted}
+use Rattle.galley_file.specs.Galley.{maxGalley, maxItems, AllValid, nil, more, fields, galley, Reading, whole, malformed, after, readEnd, reading, readGalley}
+use Rattle.galley_file.specs.Outcome.{countOutcome, checkOutcome}
 
 -- ---- how a run of fields is read, field by field
 
-shorter : (s : List ℕ) → isCharacter s ≡ true → length (drop 9 s) < length s
-shorter s e = let h = read-character s e .long in simp length-drop (omega arith)
+pub reading-next : (k : ℕ) (s : List ℕ) (at n : ℕ) (i : Item) → nextItem s ≡ some i
+    → reading (suc k) s at n ≡ after i (reading k (drop (itemSize i) s) (at + itemSize i) (n + tally i))
+unfolding reading
+reading-next k s at n i e = rw (e, reading)
 
--- any number of steps above the length reads the same
-enough : (k m : ℕ) (s : List ℕ) (at n : ℕ) → length s < k → length s < m → readFields k s at n ≡ readFields m s at n
-unfolding readFields
-enough zero m s at n hk hm = absurd (omega arith)
-enough (suc k) zero s at n hk hm = absurd (omega arith)
-enough (suc k) (suc m) s at n hk hm = go (isCharacter s) refl (enough k m (drop 9 s) (at + 9) (n + 1))
-  where
-    go : (t : Bool) → isCharacter s ≡ t
-        → (length (drop 9 s) < k → length (drop 9 s) < m → readFields k (drop 9 s) (at + 9) (n + 1) ≡ readFields m (drop 9 s) (at + 9) (n + 1))
-        → cond t (after (characterAt s 0) (readFields k (drop 9 s) (at + 9) (n + 1))) (readEnd s at n)
-        ≡ cond t (after (characterAt s 0) (readFields m (drop 9 s) (at + 9) (n + 1))) (readEnd s at n)
-    go true e rec = let l = shorter s e in ap (after (characterAt s 0)) (rec (omega arith) (omega arith))
-    go false e rec = refl
+pub reading-end : (k : ℕ) (s : List ℕ) (at n : ℕ) → nextItem s ≡ none → reading k s at n ≡ readEnd s at n
+unfolding reading
+reading-end zero s at n e = refl
+reading-end (suc k) s at n e = rw (e, reading)
 
-pub reading-character : (s : List ℕ) (at n : ℕ) → isCharacter s ≡ true → reading s at n ≡ after (characterAt s 0) (reading (drop 9 s) (at + 9) (n + 1))
-unfolding reading readFields
-reading-character s at n e =
-    let l = shorter s e in
-    rw e (ap (after (characterAt s 0)) (enough (length s) (suc (length (drop 9 s))) (drop 9 s) (at + 9) (n + 1) l (omega arith)))
-
-pub reading-end : (s : List ℕ) (at n : ℕ) → isCharacter s ≡ false → reading s at n ≡ readEnd s at n
-unfolding reading readFields
-reading-end s at n e = rw e
-
-no-end : (s : List ℕ) (at n : ℕ) (c : Character) (cs : List Character) → readEnd s at n ≡ whole (c ∷ cs) → ⊥
+no-end : (s : List ℕ) (at n : ℕ) (i : Item) (is : List Item) → readEnd s at n ≡ whole (i ∷ is) → ⊥
 unfolding readEnd
-no-end s at n c cs = go (startsEnd n s) (eqb (length s) 7)
+no-end s at n i is = go (startsEnd n s) (eqb (length s) 7)
   where
-    go : (t u : Bool) → cond t (cond u (whole []) (malformed (at + 7))) (malformed at) ≡ whole (c ∷ cs) → ⊥
+    go : (t u : Bool) → cond t (cond u (whole []) (malformed (at + 7))) (malformed at) ≡ whole (i ∷ is) → ⊥
     go true true e = let z : _≡_ {A = ℕ} 0 1 = cc in omega arith
     go true false e = let z : _≡_ {A = ℕ} 0 1 = cc in omega arith
     go false u e = let z : _≡_ {A = ℕ} 0 1 = cc in omega arith
 
-pub record First (s : List ℕ) (at n : ℕ) (c : Character) (cs : List Character) : Type 0 where
-  pub field : isCharacter s ≡ true
-  pub head : characterAt s 0 ≡ c
-  pub rest : reading (drop 9 s) (at + 9) (n + 1) ≡ whole cs
+pub record First (k : ℕ) (s : List ℕ) (at n : ℕ) (i : Item) (is : List Item) : Type 0 where
+  pub left : ℕ
+  pub room : k ≡ suc left
+  pub next : nextItem s ≡ some i
+  pub rest : reading left (drop (itemSize i) s) (at + itemSize i) (n + tally i) ≡ whole is
 
--- a run that holds a character starts with its field
-pub first : (s : List ℕ) (at n : ℕ) (c : Character) (cs : List Character) → reading s at n ≡ whole (c ∷ cs) → First s at n c cs
-first s at n c cs e = go (isCharacter s) refl (reading (drop 9 s) (at + 9) (n + 1)) refl
+-- a run that holds an item starts with its field
+pub first : (k : ℕ) (s : List ℕ) (at n : ℕ) (i : Item) (is : List Item) → reading k s at n ≡ whole (i ∷ is) → First k s at n i is
+unfolding reading
+first zero s at n i is e = absurd (no-end s at n i is e)
+first (suc k) s at n i is e = go (nextItem s) refl
   where
-    go : (t : Bool) → isCharacter s ≡ t → (r : Reading) → reading (drop 9 s) (at + 9) (n + 1) ≡ r → First s at n c cs
-    go true f (whole ds) q =
-        let h : whole (characterAt s 0 ∷ ds) ≡ whole (c ∷ cs) = sym (reading-character s at n f ∙ ap (after (characterAt s 0)) q) ∙ e in
-        record { field = f; head = (cc); rest = cc }
-    go true f (malformed p) q =
-        let h : malformed p ≡ whole (c ∷ cs) = sym (reading-character s at n f ∙ ap (after (characterAt s 0)) q) ∙ e in
+    later : (j : Item) → nextItem s ≡ some j → (r : Reading) → reading k (drop (itemSize j) s) (at + itemSize j) (n + tally j) ≡ r → First (suc k) s at n i is
+    later j q (whole js) w =
+        let h : whole (j ∷ js) ≡ whole (i ∷ is) = sym (reading-next k s at n j q ∙ ap (after j) w) ∙ e in
+        let a : j ≡ i = cc in
+        let b : js ≡ is = cc in
+        record {
+          left = k;
+          room = refl;
+          next = q ∙ ap some a;
+          rest = ap (λ (x : Item). reading k (drop (itemSize x) s) (at + itemSize x) (n + tally x)) (sym a) ∙ w ∙ ap whole b;
+        }
+    later j q (malformed p) w =
+        let h : malformed p ≡ whole (i ∷ is) = sym (reading-next k s at n j q ∙ ap (after j) w) ∙ e in
         let z : _≡_ {A = ℕ} 0 1 = cc in
         absurd (omega arith)
-    go false f r q = absurd (no-end s at n c cs (sym (reading-end s at n f) ∙ e))
 
-shift : (s : List ℕ) (i : ℕ) → characterAt (drop 9 s) i ≡ characterAt s (9 + i)
-unfolding characterAt
-shift s i = simp (drop-drop, getD-drop, add-assoc)
+    go : (o : Option Item) → nextItem s ≡ o → First (suc k) s at n i is
+    go none q = absurd (no-end s at n i is (sym (reading-end (suc k) s at n q) ∙ e))
+    go (some j) q = later j q (reading k (drop (itemSize j) s) (at + itemSize j) (n + tally j)) refl
 
--- character n stands at byte 9 n
-pub nth : (n : ℕ) (s : List ℕ) (at m : ℕ) (cs : List Character) → reading s at m ≡ whole cs → n < length cs
-    → (getD cs n zeros ≡ characterAt s (n * 9)) × (n * 9 + 9 ≤ length s)
-nth zero s at m [] e h = absurd (omega arith)
-nth zero s at m (c ∷ cs) e h = let f = first s at m c cs e in (sym (f .head), read-character s (f .field) .long)
-nth (suc n) s at m [] e h = absurd (omega arith)
-nth (suc n) s at m (c ∷ cs) e h =
-    let f = first s at m c cs e in
-    let l = read-character s (f .field) .long in
-    let r = nth n (drop 9 s) (at + 9) (m + 1) cs (f .rest) (omega arith) in
-    let d = length-drop 9 s in
-    let k : 9 + n * 9 ≡ suc n * 9 = omega arith in
-    (r .0 ∙ shift s (n * 9) ∙ ap (characterAt s) k, omega arith)
+-- a run has no more items than it may
+pub reading-few : (is : List Item) (k : ℕ) (s : List ℕ) (at n : ℕ) → reading k s at n ≡ whole is → length is ≤ k
+reading-few [] k s at n e = omega arith
+reading-few (i ∷ is) k s at n e =
+    let f = first k s at n i is e in
+    omega (arith, f .room, reading-few is (f .left) (drop (itemSize i) s) (at + itemSize i) (n + tally i) (f .rest))
 
 -- what an accepted check tells
 pub record Checked (g : List ℕ) (count : ℕ) : Type 0 where
-  pub characters : List Character
-  pub read : readGalley g ≡ whole characters
-  pub counted : length characters ≡ count
+  pub items : List Item
+  pub read : readGalley g ≡ whole items
+  pub counted : length (charactersOf items) ≡ count
+  pub few : length items ≤ maxItems
   pub fits : length g ≤ maxGalley
 
 pub checked : (g : List ℕ) (count : ℕ) → accepted count ≡ checkOutcome g → Checked g count
-unfolding checkOutcome
+unfolding checkOutcome readGalley
 checked g count e = go (ltb maxGalley (length g)) refl (readGalley g) refl e
   where
     go : (t : Bool) → ltb maxGalley (length g) ≡ t → (r : Reading) → readGalley g ≡ r → accepted count ≡ cond t (refused galleyTooLong 0) (countOutcome 0 r) → Checked g count
     go true l r q h = let z : _≡_ {A = ℕ} 0 1 = cc in absurd (omega arith)
-    go false l (whole cs) q h =
-        let k : count ≡ 0 + length cs = cc in
-        record { characters = cs; read = q; counted = omega arith; fits = ltb-false _ _ l }
+    go false l (whole is) q h =
+        let k : count ≡ 0 + length (charactersOf is) = cc in
+        record { items = is; read = q; counted = omega arith; few = reading-few is maxItems g 0 0 q; fits = ltb-false _ _ l }
     go false l (malformed p) q h = let z : _≡_ {A = ℕ} 0 1 = cc in absurd (omega arith)
 
 -- ---- runs of fields
@@ -128,133 +119,170 @@ end-written s n b l e =
     starts-end n s b e .1
     ∙ ap (λ (m : List ℕ). endField n ++ m) (drop-of-length-le s {i = 7} (omega arith)) ∙ append-nil (endField n)
 
-end-alone : (n at : ℕ) → n < 4294967296 → reading (endField n) at n ≡ whole []
-unfolding endField field bytes startsField isCharacter readEnd
-end-alone n at h =
+end-none : (n : ℕ) → nextItem (endField n) ≡ none
+unfolding endField field
+end-none n = next-none (endField n) (λ e. omega arith) (λ e. omega arith)
+
+end-alone : (k n at : ℕ) → n < 4294967296 → reading k (endField n) at n ≡ whole []
+unfolding endField field bytes readEnd
+end-alone k n at h =
     let e : startsEnd n (endField n) ≡ true = ap (startsEnd n) (sym (append-nil (endField n))) ∙ end-starts n [] h in
-    reading-end (endField n) at n refl ∙ rw e
+    reading-end k (endField n) at n (end-none n) ∙ rw e
 
--- a run of fields and its End are read as their characters
-pub accept : (cs : List Character) (at n : ℕ) → AllValid cs → n + length cs < 4294967296 → reading (fields cs ++ endField (n + length cs)) at n ≡ whole cs
-unfolding fields
-accept [] at n none h = let z : n + 0 ≡ n = omega arith in rw z (end-alone n at (omega arith))
-accept (c ∷ cs) at n (more v vs) h =
-    let z : n + suc (length cs) ≡ n + 1 + length cs = omega arith in
-    let rest = fields cs ++ endField (n + 1 + length cs) in
-    rw (z, append-assoc (characterField c) (fields cs) (endField (n + 1 + length cs)))
-    (reading-character (characterField c ++ rest) at n (field-isCharacter c v rest)
-    ∙ rw (characterAt-field c v rest, drop-field c v rest) (ap (after c) (accept cs (at + 9) (n + 1) vs (omega arith))))
+-- a run of fields and its End are read as their items
+pub accept : (is : List Item) (k at n m : ℕ) → AllValid is → length is ≤ k → m ≡ n + length (charactersOf is) → m < 4294967296
+    → reading k (fields is ++ endField m) at n ≡ whole is
+unfolding fields charactersOf
+accept [] k at n m nil l e h = let z : m ≡ n = omega arith in rw z (end-alone k n at (omega arith))
+accept (i ∷ is) zero at n m v l e h = absurd (omega arith)
+accept (i ∷ is) (suc k) at n m (more v vs) l e h =
+    let rest = fields is ++ endField m in
+    rw (append-assoc (itemField i) (fields is) (endField m))
+    (reading-next k (itemField i ++ rest) at n i (next-field i v rest)
+    ∙ ap (λ (t : List ℕ). after i (reading k t (at + itemSize i) (n + tally i))) (drop-itemField i v rest)
+    ∙ ap (after i) (accept is k (at + itemSize i) (n + tally i) m vs (omega arith) (omega (arith, count-item i is, e)) h))
 
-no-more : (c : Character) (r : Reading) → after c r ≡ whole [] → ⊥
-no-more c (whole cs) e = let z : _≡_ {A = ℕ} 0 1 = cc in omega arith
-no-more c (malformed p) e = let z : _≡_ {A = ℕ} 0 1 = cc in omega arith
+no-more : (i : Item) (r : Reading) → after i r ≡ whole [] → ⊥
+no-more i (whole is) e = let z : _≡_ {A = ℕ} 0 1 = cc in omega arith
+no-more i (malformed p) e = let z : _≡_ {A = ℕ} 0 1 = cc in omega arith
 
-at-end : (s : List ℕ) (at n : ℕ) → Bytes s → readEnd s at n ≡ whole [] → s ≡ endField n
+-- a run without items is an End
+pub record Ended (s : List ℕ) (n : ℕ) : Type 0 where
+  pub starts : startsEnd n s ≡ true
+  pub long : length s ≡ 7
+
+at-end : (s : List ℕ) (at n : ℕ) → readEnd s at n ≡ whole [] → Ended s n
 unfolding readEnd
-at-end s at n b e = go (startsEnd n s) refl (eqb (length s) 7) refl e
+at-end s at n e = go (startsEnd n s) refl (eqb (length s) 7) refl e
   where
-    go : (t : Bool) → startsEnd n s ≡ t → (u : Bool) → eqb (length s) 7 ≡ u → cond t (cond u (whole []) (malformed (at + 7))) (malformed at) ≡ whole [] → s ≡ endField n
-    go true p true q h = end-written s n b (eqb-true _ _ q) p
+    go : (t : Bool) → startsEnd n s ≡ t → (u : Bool) → eqb (length s) 7 ≡ u → cond t (cond u (whole []) (malformed (at + 7))) (malformed at) ≡ whole [] → Ended s n
+    go true p true q h = record { starts = p; long = eqb-true _ _ q }
     go true p false q h = let z : _≡_ {A = ℕ} 0 1 = cc in absurd (omega arith)
     go false p u q h = let z : _≡_ {A = ℕ} 0 1 = cc in absurd (omega arith)
 
--- bytes that are read as characters are their fields and their End
-pub decoded : (cs : List Character) (s : List ℕ) (at n : ℕ) → Bytes s → reading s at n ≡ whole cs → (s ≡ fields cs ++ endField (n + length cs)) × AllValid cs
-unfolding fields
-decoded [] s at n b e = go (isCharacter s) refl
+pub last : (k : ℕ) (s : List ℕ) (at n : ℕ) → reading k s at n ≡ whole [] → Ended s n
+unfolding reading
+last zero s at n e = at-end s at n e
+last (suc k) s at n e = go (nextItem s) refl
   where
-    go : (t : Bool) → isCharacter s ≡ t → (s ≡ endField (n + 0)) × AllValid []
-    go true f = absurd (no-more (characterAt s 0) (reading (drop 9 s) (at + 9) (n + 1)) (sym (reading-character s at n f) ∙ e))
-    go false f =
-        let z : n + 0 ≡ n = omega arith in
-        (rw z (at-end s at n b (sym (reading-end s at n f) ∙ e)), none)
-decoded (c ∷ cs) s at n b e =
-    let f = first s at n c cs e in
-    let r = decoded cs (drop 9 s) (at + 9) (n + 1) (bytes-drop 9 s b) (f .rest) in
-    let z : n + 1 + length cs ≡ n + suc (length cs) = omega arith in (
-      isCharacter-field s b (f .field)
-          ∙ ap (λ (d : Character). characterField d ++ drop 9 s) (f .head)
-          ∙ ap (λ (l : List ℕ). characterField c ++ l) (r .0)
-          ∙ rw (append-assoc (characterField c) (fields cs) (endField (n + suc (length cs))), z),
-      more (ap valid (sym (f .head)) ∙ read-character s (f .field) .is-valid) (r .1),
+    go : (o : Option Item) → nextItem s ≡ o → Ended s n
+    go none q = at-end s at n (sym (reading-end (suc k) s at n q) ∙ e)
+    go (some j) q = absurd (no-more j (reading k (drop (itemSize j) s) (at + itemSize j) (n + tally j)) (sym (reading-next k s at n j q) ∙ e))
+
+-- bytes that are read as items are their fields and their End
+pub record Decoded (s : List ℕ) (n : ℕ) (is : List Item) : Type 0 where
+  pub bytes : s ≡ fields is ++ endField (n + length (charactersOf is))
+  pub valid : AllValid is
+
+pub decoded : (is : List Item) (k : ℕ) (s : List ℕ) (at n : ℕ) → Bytes s → reading k s at n ≡ whole is → Decoded s n is
+unfolding fields charactersOf
+decoded [] k s at n b e =
+    let z : n + 0 ≡ n = omega arith in
+    let f = last k s at n e in
+    record { bytes = rw z (end-written s n b (f .long) (f .starts)); valid = nil }
+decoded (i ∷ is) k s at n b e =
+    let f = first k s at n i is e in
+    let r = decoded is (f .left) (drop (itemSize i) s) (at + itemSize i) (n + tally i) (bytes-drop (itemSize i) s b) (f .rest) in
+    let z : n + tally i + length (charactersOf is) ≡ n + length (charactersOf (i ∷ is)) = omega (arith, count-item i is) in
+    record {
+      bytes = field-next s i b (f .next)
+          ∙ ap (λ (l : List ℕ). itemField i ++ l) (r .bytes ∙ ap (λ (t : ℕ). fields is ++ endField t) z)
+          ∙ sym (append-assoc (itemField i) (fields is) (endField (n + length (charactersOf (i ∷ is)))));
+      valid = more (next-is s i (f .next) .is-valid) (r .valid);
+    }
+
+-- a run is as long as its items' fields and End
+pub reading-length : (is : List Item) (k : ℕ) (s : List ℕ) (at n : ℕ) → reading k s at n ≡ whole is → length s ≡ length (fields is) + 7
+unfolding fields
+reading-length [] k s at n e = last k s at n e .long
+reading-length (i ∷ is) k s at n e =
+    let f = first k s at n i is e in
+    omega (
+      arith,
+      reading-length is (f .left) (drop (itemSize i) s) (at + itemSize i) (n + tally i) (f .rest),
+      length-drop (itemSize i) s,
+      next-is s i (f .next) .long,
+      length-append (itemField i) (fields is),
+      length-itemField i,
     )
 
 -- ---- whole galleys
 
-pub length-fields : (cs : List Character) → length (fields cs) ≡ 9 * length cs
-unfolding fields
+-- nine bytes for a character and three for a cut
+pub length-fields : (is : List Item) → length (fields is) ≡ 9 * length (charactersOf is) + 3 * cutsOf is
+unfolding fields charactersOf cutsOf
 length-fields [] = refl
-length-fields (c ∷ cs) =
-    let h = length-fields cs in
-    let l = length-characterField c in
-    length-append (characterField c) (fields cs) ∙ (omega arith)
+length-fields (Placed c ∷ is) = length-append (characterField c) (fields is) ∙ omega (arith, length-fields is, length-itemField (Placed c))
+length-fields (Cut ∷ is) = length-append cutField (fields is) ∙ omega (arith, length-fields is, length-itemField Cut)
 
-pub fields-append : (cs ds : List Character) → fields (cs ++ ds) ≡ fields cs ++ fields ds
+pub fields-append : (is js : List Item) → fields (is ++ js) ≡ fields is ++ fields js
 unfolding fields
-fields-append [] ds = refl
-fields-append (c ∷ cs) ds =
-    ap (λ (l : List ℕ). characterField c ++ l) (fields-append cs ds) ∙ sym (append-assoc (characterField c) (fields cs) (fields ds))
+fields-append [] js = refl
+fields-append (i ∷ is) js =
+    ap (λ (l : List ℕ). itemField i ++ l) (fields-append is js) ∙ sym (append-assoc (itemField i) (fields is) (fields js))
 
-pub fields-one : (c : Character) → fields (c ∷ []) ≡ characterField c
+pub fields-one : (i : Item) → fields (i ∷ []) ≡ itemField i
 unfolding fields
-fields-one c = append-nil (characterField c)
+fields-one i = append-nil (itemField i)
 
-pub length-galley : (cs : List Character) → length (galley cs) ≡ 9 * length cs + 7
+pub length-galley : (is : List Item) → length (galley is) ≡ length (fields is) + 7
 unfolding galley
-length-galley cs =
-    let h = length-fields cs in
-    let l = length-end (length cs) in
-    length-append (fields cs) (endField (length cs)) ∙ (omega arith)
+length-galley is = let l = length-end (length (charactersOf is)) in length-append (fields is) (endField (length (charactersOf is))) ∙ (omega arith)
 
--- decode (encode cs) = cs
-pub accepts : (cs : List Character) → AllValid cs → length cs ≤ 1048576 → readGalley (galley cs) ≡ whole cs
+-- at most nine bytes for each item
+pub fields-few : (is : List Item) → length (fields is) ≤ 9 * length is
+fields-few is = omega (arith, length-fields is, all-counted is)
+
+-- decode (encode is) = is
+pub accepts : (is : List Item) → AllValid is → length is ≤ maxItems → readGalley (galley is) ≡ whole is
 unfolding readGalley galley
-accepts cs v h =
-    let z : 0 + length cs ≡ length cs = omega arith in
-    ap (λ (n : ℕ). reading (fields cs ++ endField n) 0 0) (sym z) ∙ accept cs 0 0 v (omega arith)
+accepts is v h =
+    let n = length (charactersOf is) in
+    accept is maxItems 0 0 n v h (omega arith) (omega (arith, all-counted is))
 
--- the check accepts the galley of valid characters, and counts them
-pub accepts-check : (cs : List Character) → AllValid cs → length cs ≤ 1048576 → checkOutcome (galley cs) ≡ accepted (length cs)
+-- the check accepts the galley of valid items, and counts their characters
+pub accepts-check : (is : List Item) → AllValid is → length is ≤ maxItems → checkOutcome (galley is) ≡ accepted (length (charactersOf is))
 unfolding checkOutcome
-accepts-check cs v h =
-    let l = length-galley cs in
-    let k : length (galley cs) ≤ maxGalley = omega arith in
-    rw (le-ltb _ _ k, accepts cs v h) (ap accepted (omega arith))
+accepts-check is v h =
+    let k : length (galley is) ≤ maxGalley = omega (arith, length-galley is, fields-few is) in
+    rw (le-ltb _ _ k, accepts is v h) (ap accepted (omega arith))
 
 -- what an accepted galley is
 pub record Accepted (g : List ℕ) (count : ℕ) : Type 0 where
-  pub characters : List Character
-  pub read : readGalley g ≡ whole characters
-  pub bytes : g ≡ galley characters
-  pub valid : AllValid characters
-  pub counted : length characters ≡ count
-  pub few : count ≤ 1048576
+  pub items : List Item
+  pub read : readGalley g ≡ whole items
+  pub bytes : g ≡ galley items
+  pub valid : AllValid items
+  pub counted : length (charactersOf items) ≡ count
+  pub few : length items ≤ maxItems
 
 -- encode (decode g) = g
 pub accepted-is : (g : List ℕ) (count : ℕ) → Bytes g → checkOutcome g ≡ accepted count → Accepted g count
 unfolding readGalley galley
 accepted-is g count b e =
     let c = checked g count (sym e) in
-    let d = decoded (c .characters) g 0 0 b (c .read) in
-    let z : 0 + length (c .characters) ≡ length (c .characters) = omega arith in
-    let w : g ≡ galley (c .characters) = d .0 ∙ ap (λ (n : ℕ). fields (c .characters) ++ endField n) z in
-    let l = length-galley (c .characters) in
-    let m : length g ≡ length (galley (c .characters)) = ap length w in
-    let k = c .counted in
-    let f = c .fits in
-    record { characters = c .characters; read = c .read; bytes = w; valid = d .1; counted = k; few = omega arith }
+    let d = decoded (c .items) maxItems g 0 0 b (c .read) in
+    let z : 0 + length (charactersOf (c .items)) ≡ length (charactersOf (c .items)) = omega arith in
+    record {
+      items = c .items;
+      read = c .read;
+      bytes = d .bytes ∙ ap (λ (n : ℕ). fields (c .items) ++ endField n) z;
+      valid = d .valid;
+      counted = c .counted;
+      few = c .few;
+    }
 
--- two accepted galleys with the same characters are the same bytes
-pub same-bytes : (g h : List ℕ) (cs : List Character) → Bytes g → Bytes h → readGalley g ≡ whole cs → readGalley h ≡ whole cs → g ≡ h
+-- two accepted galleys with the same items are the same bytes
+pub same-bytes : (g h : List ℕ) (is : List Item) → Bytes g → Bytes h → readGalley g ≡ whole is → readGalley h ≡ whole is → g ≡ h
 unfolding readGalley
-same-bytes g h cs b d e f = decoded cs g 0 0 b e .0 ∙ sym (decoded cs h 0 0 d f .0)
+same-bytes g h is b d e f = decoded is maxItems g 0 0 b e .bytes ∙ sym (decoded is maxItems h 0 0 d f .bytes)
 
--- the check accepts exactly the galleys of lists of valid characters
+-- the check accepts exactly the galleys of lists of valid items
 pub accepted-exactly : (g : List ℕ) → Bytes g
-    → ((count : ℕ) × (checkOutcome g ≡ accepted count)) ↔ ((cs : List Character) × AllValid cs × (length cs ≤ 1048576) × (g ≡ galley cs))
+    → ((count : ℕ) × (checkOutcome g ≡ accepted count)) ↔ ((is : List Item) × AllValid is × (length is ≤ maxItems) × (g ≡ galley is))
 accepted-exactly g b = (
-  λ p. let r = accepted-is g (p .0) b (p .1) in let k = r .counted in let f = r .few in (r .characters, r .valid, omega arith, r .bytes),
-  λ p. (length (p .0), ap checkOutcome (p .3) ∙ accepts-check (p .0) (p .1) (p .2)),
+  λ p. let r = accepted-is g (p .0) b (p .1) in (r .items, r .valid, r .few, r .bytes),
+  λ p. (length (charactersOf (p .0)), ap checkOutcome (p .3) ∙ accepts-check (p .0) (p .1) (p .2)),
 )
 
 -- ---- a galley is bytes
@@ -289,11 +317,18 @@ each-character c v =
     let k : c .code < 256 = omega (arith, p .last) in
     each-field 1 (characterBody c) (lit< tt) (join (each-bytes 2 (residue 65536 (c .x .0))) (join (each-bytes 2 (residue 65536 (c .height .0))) (byte f (byte k stop))))
 
-each-fields : {cs : List Character} → AllValid cs → Each (fields cs)
-unfolding fields
-each-fields none = stop
-each-fields (more {c = c} v vs) = join (each-character c v) (each-fields vs)
+each-item : (i : Item) → validItem i ≡ true → Each (itemField i)
+unfolding cutField
+each-item (Placed c) v = each-character c v
+each-item Cut v = each-field 6 [] (lit< tt) stop
 
-pub galley-bytes : (cs : List Character) → AllValid cs → Bytes (galley cs)
+each-fields : {is : List Item} → AllValid is → Each (fields is)
+unfolding fields
+each-fields nil = stop
+each-fields (more {i = i} v vs) = join (each-item i v) (each-fields vs)
+
+pub galley-bytes : (is : List Item) → AllValid is → Bytes (galley is)
 unfolding galley endField
-galley-bytes cs v = each (join (each-fields v) (each-field 2 (bytes 4 (length cs)) (lit< tt) (each-bytes 4 (length cs))))
+galley-bytes is v =
+    let n = length (charactersOf is) in
+    each (join (each-fields v) (each-field 2 (bytes 4 n) (lit< tt) (each-bytes 4 n)))

@@ -2,7 +2,11 @@
 pub mod Font
 pub mod Character
 pub mod CharacterLaws
+pub mod Item
+pub mod ItemLaws
 pub mod Galley
+pub mod Span
 pub mod Outcome
 pub mod GalleyLaws
+pub mod Walk
 pub mod Faults

@@ -8,11 +8,12 @@ use lib.ListN.{length, getD}
 use Rattle.octets.specs.Answer.{Outcome, accepted, refused, noCharacter, galleyTooLong, galleyMalformed}
 use Rattle.galley_file.specs.declared.character.Character.{Character}
 use Rattle.galley_file.specs.declared.Found.{Found}
+use Rattle.galley_file.specs.Item.{charactersOf}
 use Rattle.galley_file.specs.Galley.{maxGalley, Reading, whole, malformed, readGalley}
 
 -- a run read after n characters: accepted with the number of all characters, or 41
 abbrev pub countOutcome : ℕ → Reading → Outcome
-countOutcome n (whole cs) = accepted (n + length cs)
+countOutcome n (whole is) = accepted (n + length (charactersOf is))
 countOutcome n (malformed p) = refused galleyMalformed p
 
 -- the check: 40, then 41
@@ -42,9 +43,9 @@ abbrev pub foundOf : Found → FoundOutcome
 foundOf (Found.Placed c) = found c
 foundOf (Found.Refused number place) = notFound number place
 
--- character n of a galley that was read: 41, then 11
+-- character n of a galley that was read, cuts not counted: 41, then 11
 abbrev pub pickFound : ℕ → Reading → FoundOutcome
-pickFound n (whole cs) = cond (ltb n (length cs)) (found (getD cs n zeros)) (notFound noCharacter 0)
+pickFound n (whole is) = cond (ltb n (length (charactersOf is))) (found (getD (charactersOf is) n zeros)) (notFound noCharacter 0)
 pickFound n (malformed p) = notFound galleyMalformed p
 
 -- reading back: 40, 41, 11

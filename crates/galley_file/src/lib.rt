@@ -1,17 +1,20 @@
 // Galleys (document 01, "Galley"): the check, and reading a character back.
 pub mod character;
 pub mod font;
+pub mod item;
 
 use character::Character;
+use item::Item;
 use octets::answer;
 use octets::answer::Answer;
 use octets::field;
 ghost use mathlib.Core.Path.{_≡_};
-ghost use Prim.Native.Nat.{_+_, _≤_};
-ghost use lib.Dec.{eqb};
+ghost use mathlib.Core.Bool.{true};
+ghost use Prim.Native.Nat.{_+_, _*_, _≤_};
 ghost use lib.ListN.{length};
-ghost use Rattle.octets.specs.Answer.{outcomeOf};
+ghost use Rattle.octets.specs.Answer.{accepted, outcomeOf};
 ghost use Rattle.galley_file.specs.Galley.{maxGalley, reading, readEnd, leading};
+ghost use Rattle.galley_file.specs.Span.{SpanOf, Block};
 ghost use Rattle.galley_file.specs.Outcome.{countOutcome, checkOutcome, foundOf, readBackOutcome};
 
 // What reading back answers: the character, or a refusal's number and place.
@@ -23,8 +26,10 @@ pub enum Found {
 // The longest galley: 1,048,576 characters.
 pub const MAX_GALLEY: usize = 9_437_191;
 
-// A galley has at most 1,024 runs of 1,024 characters.
-const MAX_DEPTH: usize = 1_024;
+// A galley has at most 1,024 runs of 1,024 items.
+const RUN: usize = 1_024;
+
+const RUNS: usize = 1_024;
 
 // The characters of a block.
 const BLOCK: usize = 64;
@@ -32,23 +37,45 @@ const BLOCK: usize = 64;
 // The bytes of their fields.
 const BLOCK_BYTES: usize = 576;
 
-// The number of character fields that s starts with, at most `room`. The part after a field goes to this function again.
-fn leading_characters(s: &[u8], room: usize) -> usize
-    ensures { λ r. ⌜ r ≡ leading room (now (s .entry)) ⌝ }
+// The characters and the cuts of some fields.
+pub struct Span {
+    pub characters: usize,
+    pub cuts: usize,
+}
+
+// The items that s starts with, at most `room`. The part after a field goes to this function again.
+fn leading_items(s: &[u8], room: usize) -> Span
+    ensures { λ r. ⌜ SpanOf r (leading room (now (s .entry))) ⌝ }
 {
     if room == 0 {
-        return 0;
+        return Span {
+            characters: 0,
+            cuts: 0,
+        };
     }
     if character::is_character(s) {
-        leading_characters(&s[character::FIELD..], room - 1) + 1
-    } else {
-        0
+        let rest = leading_items(&s[character::FIELD..], room - 1);
+        return Span {
+            characters: rest.characters + 1,
+            cuts: rest.cuts,
+        };
+    }
+    if item::is_cut(s) {
+        let rest = leading_items(&s[item::CUT_FIELD..], room - 1);
+        return Span {
+            characters: rest.characters,
+            cuts: rest.cuts + 1,
+        };
+    }
+    Span {
+        characters: 0,
+        cuts: 0,
     }
 }
 
 // Whether s starts with a block: BLOCK character fields.
 fn starts_block(s: &[u8]) -> bool
-    ensures { λ r. ⌜ r ≡ eqb (leading 64 (now (s .entry))) 64 ⌝ }
+    ensures { λ r. ⌜ (r ≡ true → Block 64 (now (s .entry))) ⌝ }
 {
     let mut i = 0;
     while i < BLOCK {
@@ -61,21 +88,24 @@ fn starts_block(s: &[u8]) -> bool
     true
 }
 
-// The same number, with one call for each block. The part after a block goes to this function again.
-fn leading_blocks(s: &[u8], room: usize) -> usize
-    ensures { λ r. ⌜ r ≡ leading room (now (s .entry)) ⌝ }
+// The same items, with one call for each block. The part after a block goes to this function again.
+fn leading_blocks(s: &[u8], room: usize) -> Span
+    ensures { λ r. ⌜ SpanOf r (leading room (now (s .entry))) ⌝ }
 {
     if room < BLOCK {
-        return leading_characters(s, room);
+        return leading_items(s, room);
     }
     if starts_block(s) {
-        leading_blocks(&s[BLOCK_BYTES..], room - BLOCK) + BLOCK
-    } else {
-        leading_characters(s, room)
+        let rest = leading_blocks(&s[BLOCK_BYTES..], room - BLOCK);
+        return Span {
+            characters: BLOCK + rest.characters,
+            cuts: rest.cuts,
+        };
     }
+    leading_items(s, room)
 }
 
-// Checks s, in which no character comes next, and which starts at `at` and follows `count` characters.
+// Checks s, in which no item comes next, and which starts at `at` and follows `count` characters.
 fn check_end(s: &[u8], at: usize, count: usize) -> Answer
     requires { ⌜ at + length (now s) ≤ maxGalley ⌝ }
     ensures { λ r. ⌜ outcomeOf r ≡ countOutcome count (readEnd (now (s .entry)) at count) ⌝ }
@@ -89,19 +119,22 @@ fn check_end(s: &[u8], at: usize, count: usize) -> Answer
     Answer::Refused(answer::GALLEY_MALFORMED, at)
 }
 
-// Checks the run of fields s, which starts at `at` and follows `count` characters. Fields are read in runs of
-// MAX_DEPTH, which bounds how deep the calls go; the part after a full run goes to this function again.
-fn check_fields(s: &[u8], at: usize, count: usize) -> Answer
-    requires { ⌜ (at + length (now s) ≤ maxGalley) × (count ≤ at) ⌝ }
-    ensures { λ r. ⌜ outcomeOf r ≡ countOutcome count (reading (now (s .entry)) at count) ⌝ }
+// Checks the run of fields s, which starts at `at`, follows `count` characters and may have as many runs of RUN items. Such runs
+// bound how deep the calls go; the part after a full one goes to this function again.
+fn check_fields(s: &[u8], at: usize, count: usize, runs: usize) -> Answer
+    requires { ⌜ (at + length (now s) ≤ maxGalley) × ((count ≤ at) × (runs ≤ 1024)) ⌝ }
+    ensures { λ r. ⌜ outcomeOf r ≡ countOutcome count (reading (1024 * runs) (now (s .entry)) at count) ⌝ }
 {
-    let n = leading_blocks(s, MAX_DEPTH);
-    let start = character::FIELD * n;
-    let rest = &s[start..];
-    if n == MAX_DEPTH {
-        return check_fields(rest, at + start, count + n);
+    if runs == 0 {
+        return check_end(s, at, count);
     }
-    check_end(rest, at + start, count + n)
+    let run = leading_blocks(s, RUN);
+    let start = character::FIELD * run.characters + item::CUT_FIELD * run.cuts;
+    let rest = &s[start..];
+    if run.characters + run.cuts == RUN {
+        return check_fields(rest, at + start, count + run.characters, runs - 1);
+    }
+    check_end(rest, at + start, count + run.characters)
 }
 
 // The number of characters of the galley g, or the refusal of a galley that is too long or malformed.
@@ -111,7 +144,31 @@ pub fn check_galley(g: &[u8]) -> Answer
     if MAX_GALLEY < g.len() {
         return Answer::Refused(answer::GALLEY_TOO_LONG, 0);
     }
-    check_fields(g, 0, 0)
+    check_fields(g, 0, 0, RUNS)
+}
+
+// Character n of a checked galley, field by field.
+fn find_character(g: &[u8], count: usize, n: usize) -> Found
+    requires { ⌜ accepted count ≡ checkOutcome (now g) ⌝ }
+    ensures { λ r. ⌜ foundOf r ≡ readBackOutcome (now (g .entry)) n ⌝ }
+{
+    let mut left = n;
+    let mut at: usize = 0;
+    while at + field::END_FIELD < g.len() {
+        match item::item_at(g, at) {
+            Item::Cut => {
+                at += item::CUT_FIELD;
+            }
+            Item::Placed(c) => {
+                if left == 0 {
+                    return Found::Placed(c);
+                }
+                left -= 1;
+                at += character::FIELD;
+            }
+        }
+    }
+    Found::Refused(answer::NO_CHARACTER, 0)
 }
 
 // Character n of the galley g, counted from 0.
@@ -122,11 +179,14 @@ pub fn read_back(g: &[u8], n: usize) -> Found
     match checked {
         Answer::Refused(number, place) => Found::Refused(number, place),
         Answer::Accepted(count) => {
-            if n < count {
-                Found::Placed(character::character_at(g, n * character::FIELD))
-            } else {
-                Found::Refused(answer::NO_CHARACTER, 0)
+            if count <= n {
+                return Found::Refused(answer::NO_CHARACTER, 0);
             }
+            // Without cuts each character has its place.
+            if g.len() == character::FIELD * count + field::END_FIELD {
+                return Found::Placed(character::character_at(g, n * character::FIELD));
+            }
+            find_character(g, count, n)
         }
     }
 }

@@ -41,6 +41,9 @@ aboveHalf = 8
 abbrev pub noStop : ℕ
 noStop = 9
 
+abbrev pub afterCut : ℕ
+afterCut = 10
+
 abbrev pub noGalleyRoom : ℕ
 noGalleyRoom = 12
 

@@ -24,6 +24,8 @@ pub const ABOVE_HALF: u8 = 8;
 
 pub const NO_STOP: u8 = 9;
 
+pub const AFTER_CUT: u8 = 10;
+
 pub const NO_GALLEY_ROOM: u8 = 12;
 
 pub const DVI_TOO_LONG: u8 = 20;

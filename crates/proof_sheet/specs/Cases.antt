@@ -9,12 +9,14 @@ use Rattle.octets.specs.Field.{field, endField, startsField, startsEnd}
 use Rattle.octets.specs.Answer.{Result, refusal, written, ifRoom}
 use Rattle.measure.specs.Place.{directedBy, placeAt, carriageAt, heightAt}
 use Rattle.measure.specs.Target.{xOf, xTarget, yTarget}
-use Rattle.galley_file.specs.declared.character.Character.{Character}
 use Rattle.galley_file.specs.Character.{valid, characterBody, characterField, characterAt, isCharacter}
-use Rattle.galley_file.specs.Galley.{Reading, whole, fields, galley, readEnd, readFields, reading, readGalley}
+use Rattle.galley_file.specs.declared.item.Item.{Item}
+use Rattle.galley_file.specs.declared.item.Item.the-variants.{Placed}
+use Rattle.galley_file.specs.Item.{isCut, nextItem, charactersOf}
+use Rattle.galley_file.specs.Galley.{Reading, whole, fields, galley, readEnd, reading, readGalley}
 use Rattle.integers.specs.Parts.{eqZ, maxZ}
 use Rattle.dvi.specs.Command.{Y4}
-use Rattle.dvi.specs.Writer.{newPen, penAt, fontCommand, fontChange, shortest, move, commandsOf, commands, pageBytes, largest, uses, usedFonts, nameOf, definition, definitionBytes, trailerBytes, postambleBytes, onePage, dviFile}
+use Rattle.dvi.specs.Writer.{newPen, penAt, fontCommand, fontChange, shortest, move, commandsOf, bopBytes, firstPress, itemBytes, pressAfter, itemsBytes, pressAll, pagesBytes, largest, uses, usedFonts, nameOf, definition, definitionBytes, trailerBytes, postambleBytes, dviFile}
 use Rattle.dvi_writer.specs.Result.{dviResult}
 use Rattle.tape.specs.Code.{codeOf}
 use Rattle.tape.specs.Machine.{flashOf, escapeOf, leadOf, orderOf, codeEffect, effectOf}
@@ -33,8 +35,8 @@ pub data Case : Type 0 where
   -- a move down, and its command
   downCase : ℤ → List ℕ → Case
 
-abbrev placed : ℤ → ℕ → ℕ → ℕ → Character
-placed x height font code = record { x = record { 0 = x }; height = record { 0 = pos height }; font = font; code = code }
+abbrev placed : ℤ → ℕ → ℕ → ℕ → Item
+placed x height font code = Placed (record { x = record { 0 = x }; height = record { 0 = pos height }; font = font; code = code })
 
 abbrev cases : List Case
 cases =
@@ -102,5 +104,5 @@ given (fileCase g r) = fileCase g (dviResult g 64)
 given (downCase m bs) = downCase m (move Y4 m)
 
 pub sheet : map given cases ≡ cases
-unfolding eqZ maxZ numberFrom twos signed bytes residue signedBytes widthOf field endField startsField startsEnd ifRoom directedBy placeAt carriageAt heightAt xOf xTarget yTarget valid characterBody characterField characterAt isCharacter fields galley readEnd readFields reading readGalley codeOf flashOf escapeOf leadOf orderOf codeEffect effectOf run readResult tapeResult newPen penAt fontCommand fontChange shortest move commandsOf commands pageBytes largest uses usedFonts nameOf definition definitionBytes trailerBytes postambleBytes onePage dviFile dviResult
+unfolding eqZ maxZ numberFrom twos signed bytes residue signedBytes widthOf field endField startsField startsEnd ifRoom directedBy placeAt carriageAt heightAt xOf xTarget yTarget valid characterBody characterField characterAt isCharacter fields galley isCut nextItem charactersOf readEnd reading readGalley codeOf flashOf escapeOf leadOf orderOf codeEffect effectOf run readResult tapeResult newPen penAt fontCommand fontChange shortest move commandsOf bopBytes firstPress itemBytes pressAfter itemsBytes pressAll pagesBytes largest uses usedFonts nameOf definition definitionBytes trailerBytes postambleBytes dviFile dviResult
 sheet = refl

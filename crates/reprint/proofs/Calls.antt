@@ -2,7 +2,7 @@
 -- Assumes nothing.
 use mathlib.Core.Path.{_≡_, refl, sym, ap, _∙_}
 use mathlib.Core.List.{List, _++_}
-use Prim.Native.Nat.{ℕ, _+_, _*_, _%_, _≤_, _<_}
+use Prim.Native.Nat.{ℕ, _+_, _-_, _*_, _/_, _%_, _≤_, _<_}
 use native.Mathlib.Omega.{arith}
 use lib.IntN.{ℤ}
 use lib.ListN.{length, take, drop}
@@ -10,13 +10,15 @@ use lib.Seq.{take-at}
 use Rattle.octets.specs.Octets.{Bytes}
 use Rattle.octets.specs.Answer.{Outcome, accepted, refused, Result, refusal, written, outcome, after, ifRoom, noDviRoom, noSheetRoom}
 use Rattle.octets.specs.AnswerLaws.{room-short, room-enough, accepted-length, refused-length, accepted-room}
-use Rattle.galley_file.specs.Galley.{Reading, readGalley}
+use Rattle.galley_file.specs.Item.{charactersOf, cutsOf}
+use Rattle.galley_file.specs.Galley.{maxGalley, maxItems, Reading, readGalley}
+use Rattle.galley_file.specs.GalleyLaws.{checked, reading-length, length-fields}
 use Rattle.galley_file.specs.Outcome.{checkOutcome}
 use Rattle.dvi.specs.Page.{fontChars}
 use Rattle.dvi.specs.Sheet.{sheetResult}
 use Rattle.dvi.specs.Writer.{dviFile}
-use Rattle.dvi_writer.specs.Result.{charactersIn, charactersOf, dviResult}
-use Rattle.reprint.specs.Reprint.{Reprint, stopped, reprinted, reprintResult, reprintOutcome, dviAfter, sheetAfter, ReprintedWhenever}
+use Rattle.dvi_writer.specs.Result.{itemsIn, itemsOf, dviResult}
+use Rattle.reprint.specs.Reprint.{Reprint, stopped, reprinted, reprintResult, reprintOutcome, dviAfter, sheetAfter, sheetSize, ReprintedWhenever}
 use Rattle.reprint.specs.ReprintLaws.{reprints, found, file, file-written, shownSheet, sheet-size, sheet-written, both-written}
 
 -- a refusal's outcome, and both buffers as they were
@@ -24,10 +26,34 @@ pub refuses : {r : Reprint} {number place : ℕ} (dvi out : List ℕ) → r ≡ 
     → (refused number place ≡ reprintOutcome r) × ((dvi ≡ dviAfter dvi r) × (out ≡ sheetAfter out r))
 refuses dvi out q = (sym (ap reprintOutcome q), (sym (ap (dviAfter dvi) q), sym (ap (sheetAfter out) q)))
 
+-- what is not of characters in a galley is of cuts
+module _ (g : List ℕ) (count : ℕ) (e : accepted count ≡ checkOutcome g) where
+  pub galley-length : length g ≡ 9 * count + 3 * cutsOf (itemsOf g) + 7
+  unfolding itemsOf readGalley
+  galley-length =
+      let c = checked g count e in
+      let same = ap (λ (r : Reading). cutsOf (itemsIn r)) (c .read) in
+      omega (arith, same, reading-length (c .items) maxItems g 0 0 (c .read), length-fields (c .items), c .counted)
+
+  pub galley-short : length g ≤ maxGalley
+  galley-short = checked g count e .fits
+
+  pub sheet-size-is : 16 * count + 7 * ((length g - 7 - 9 * count) / 3) + 14 ≡ sheetSize (itemsOf g)
+  unfolding itemsOf
+  sheet-size-is =
+      let c = checked g count e in
+      let same = ap (λ (r : Reading). length (charactersOf (itemsIn r))) (c .read) in
+      omega (arith, galley-length, same, c .counted)
+
 module _ (g : List ℕ) (count : ℕ) (b : Bytes g) (e : checkOutcome g ≡ accepted count) where
-  pub same-file : file g count b e ≡ dviFile (charactersOf g)
-  unfolding charactersOf
-  same-file = ap dviFile (sym (ap charactersIn (found g count b e .read)))
+  pub same-file : file g count b e ≡ dviFile (itemsOf g)
+  unfolding itemsOf
+  same-file = ap dviFile (sym (ap itemsIn (found g count b e .read)))
+
+  -- the sheet's size
+  pub sheet-needed : sheetSize (itemsOf g) ≡ sheetSize (found g count b e .items)
+  unfolding itemsOf
+  sheet-needed = ap (λ (r : Reading). sheetSize (itemsIn r)) (found g count b e .read)
 
   -- the writer's answers name the file's length
   pub accepted-file : (room n : ℕ) → accepted n ≡ outcome (dviResult g room) → n ≡ length (file g count b e)
@@ -62,7 +88,7 @@ module _ (g : List ℕ) (count : ℕ) (b : Bytes g) (e : checkOutcome g ≡ acce
         ∙ take-at (file g count b e) (drop (length (file g count b e)) dvi) n (sym (accepted-file (length dvi) n q))
 
     -- and what the reader then gives
-    module _ (widths : List ℤ) (w : length widths % fontChars ≡ 0) (out : List ℕ) (s : 16 * count + 14 ≤ length out) where
+    module _ (widths : List ℤ) (w : length widths % fontChars ≡ 0) (out : List ℕ) (s : sheetSize (found g count b e .items) ≤ length out) where
       whole-reprint : reprintResult g widths (length dvi) (length out) ≡ reprinted (file g count b e) (shownSheet g count b e widths w)
       whole-reprint = both-written g count b e widths w (length dvi) (length out) file-fits s
 
@@ -94,10 +120,10 @@ claims g widths dvi out b o dvi′ out′ e = (
     e .1 .0,
     (
       e .1 .1,
-      λ count cs c r w f s.
-          let x = reprints g widths dvi out b (reprintResult g widths (length dvi) (length out)) refl count cs c r w f s in
+      λ count is c r w f s.
+          let x = reprints g widths dvi out b (reprintResult g widths (length dvi) (length out)) refl count is c r w f s in
           record {
-            characters = x .characters;
+            items = x .items;
             galley-is = x .galley-is;
             valid = x .valid;
             writer-accepts = x .writer-accepts;

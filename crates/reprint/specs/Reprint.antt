@@ -16,7 +16,8 @@ use lib.Dec.{ltb, eqb}
 use lib.IntN.{ℤ, pos}
 use lib.ListN.{length, drop}
 use Rattle.octets.specs.Answer.{Outcome, accepted, refused, Result, refusal, written, ifRoom, galleyTooLong, galleyMalformed, widthsNotWhole, noDviRoom}
-use Rattle.galley_file.specs.declared.character.Character.{Character}
+use Rattle.galley_file.specs.declared.item.Item.{Item}
+use Rattle.galley_file.specs.Item.{charactersOf, cutsOf}
 use Rattle.galley_file.specs.Galley.{maxGalley, AllValid, galley, Reading, whole, malformed, readGalley}
 use Rattle.galley_file.specs.Outcome.{checkOutcome}
 use Rattle.dvi.specs.Page.{fontChars, Mark, pageMark}
@@ -43,8 +44,8 @@ fileOf widths room (written file) = sheetOf file (sheetResult file widths room)
 -- 41, then 31, then 42, then 30
 abbrev pub reprintRead : List ℤ → ℕ → ℕ → Reading → Reprint
 reprintRead widths dviRoom sheetRoom (malformed place) = stopped galleyMalformed place
-reprintRead widths dviRoom sheetRoom (whole cs) =
-    cond (eqb (length widths % fontChars) 0) (fileOf widths sheetRoom (ifRoom noDviRoom dviRoom (written (dviFile cs)))) (stopped widthsNotWhole 0)
+reprintRead widths dviRoom sheetRoom (whole is) =
+    cond (eqb (length widths % fontChars) 0) (fileOf widths sheetRoom (ifRoom noDviRoom dviRoom (written (dviFile is)))) (stopped widthsNotWhole 0)
 
 -- 40 first
 unfoldable pub reprintResult : List ℕ → List ℤ → ℕ → ℕ → Reprint
@@ -66,36 +67,40 @@ sheetAfter buffer (reprinted file bs) = bs ++ drop (length bs) buffer
 
 -- ---- demand 3
 
+-- the bytes of the sheet: 16 for a character, 7 for each page and for End
+abbrev pub sheetSize : List Item → ℕ
+sheetSize is = 16 * length (charactersOf is) + 7 * cutsOf is + 14
+
 -- of a galley g and a table of widths, with the two buffers before the call, its outcome and the two buffers after it
 pub record Reprinted (g : List ℕ) (widths : List ℤ) (dvi out : List ℕ) (o : Outcome) (dvi′ out′ : List ℕ) : Type 0 where
-  -- "every valid galley": the characters that its bytes encode
-  pub characters : List Character
-  pub galley-is : g ≡ galley characters
-  pub valid : AllValid characters
+  -- "every valid galley": the characters and cuts that its bytes encode
+  pub items : List Item
+  pub galley-is : g ≡ galley items
+  pub valid : AllValid items
   -- "The writer accepts the galley"
-  pub writer-accepts : dviResult g (length dvi) ≡ written (dviFile characters)
+  pub writer-accepts : dviResult g (length dvi) ≡ written (dviFile items)
   -- "the DVI file is the bytes it wrote, .. without the buffer beyond them"
-  pub file-is : dvi′ ≡ dviFile characters ++ drop (length (dviFile characters)) dvi
-  -- "It shows page 1 and no rule"
+  pub file-is : dvi′ ≡ dviFile items ++ drop (length (dviFile items)) dvi
+  -- "It shows page 1 and no rule": a cut shows as the start of the next page
   pub marks : List Mark
-  pub shown : readDvi widths (dviFile characters) ≡ shows (pageMark (pos 1) ∷ marks)
+  pub shown : readDvi widths (dviFile items) ≡ shows (pageMark (pos 1) ∷ marks)
   -- "For each character of the galley, in order, and for nothing else": its font, its y, and the three cases of x
-  pub all-shown : ShowsAll characters marks
+  pub all-shown : ShowsAll 1 items marks
   -- our reader accepts that file
-  pub reader-accepts : sheetResult (dviFile characters) widths (length out) ≡ written (sheet (pageMark (pos 1) ∷ marks))
+  pub reader-accepts : sheetResult (dviFile items) widths (length out) ≡ written (sheet (pageMark (pos 1) ∷ marks))
   -- "The sheet is the page field, then these characters' fields in that order, then end, byte for byte"
   pub sheet-is : out′ ≡ sheet (pageMark (pos 1) ∷ marks) ++ drop (length (sheet (pageMark (pos 1) ∷ marks))) out
-  pub outcome-is : o ≡ accepted (16 * length characters + 14)
+  pub outcome-is : o ≡ accepted (sheetSize items)
 
 -- for every galley that the check accepts, every table of whole fonts, and buffers with room
 abbrev pub ReprintedWhenever : List ℕ → List ℤ → List ℕ → List ℕ → Outcome → List ℕ → List ℕ → Type 0
 ReprintedWhenever g widths dvi out o dvi′ out′ =
-    (count : ℕ) (cs : List Character) → checkOutcome g ≡ accepted count → readGalley g ≡ whole cs → length widths % fontChars ≡ 0 → length (dviFile cs) ≤ length dvi
-    → 16 * count + 14 ≤ length out → Reprinted g widths dvi out o dvi′ out′
+    (count : ℕ) (is : List Item) → checkOutcome g ≡ accepted count → readGalley g ≡ whole is → length widths % fontChars ≡ 0 → length (dviFile is) ≤ length dvi
+    → sheetSize is ≤ length out → Reprinted g widths dvi out o dvi′ out′
 
--- two galleys that the check accepts, of the characters cs and ds, and the marks that their files show
-pub record Distinguished (g h : List ℕ) (cs ds : List Character) (ms ns : List Mark) : Type 0 where
+-- two galleys that the check accepts, of the items is and js, and the marks that their files show
+pub record Distinguished (g h : List ℕ) (is js : List Item) (ms ns : List Mark) : Type 0 where
   -- the same file exactly where the galleys are equal
-  pub same-file : (dviFile cs ≡ dviFile ds) ↔ (g ≡ h)
+  pub same-file : (dviFile is ≡ dviFile js) ↔ (g ≡ h)
   -- "equal fonts where the font numbers are equal, and equal places where x and height are equal, at each character"
-  pub compared : Compared cs ds ms ns
+  pub compared : Compared is js ms ns

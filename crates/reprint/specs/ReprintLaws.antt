@@ -13,8 +13,9 @@ use lib.ListN.{length, drop}
 use Rattle.octets.specs.Octets.{Bytes}
 use Rattle.octets.specs.Answer.{Outcome, accepted, refused, Result, refusal, written, outcome, after, ifRoom, galleyTooLong, galleyMalformed, widthsNotWhole, noDviRoom, noSheetRoom}
 use Rattle.octets.specs.AnswerLaws.{room-short, room-enough}
-use Rattle.galley_file.specs.declared.character.Character.{Character}
-use Rattle.galley_file.specs.Galley.{maxGalley, AllValid, galley, Reading, whole, malformed, readGalley}
+use Rattle.galley_file.specs.declared.item.Item.{Item}
+use Rattle.galley_file.specs.Item.{charactersOf, cutsOf}
+use Rattle.galley_file.specs.Galley.{maxGalley, maxItems, AllValid, galley, Reading, whole, malformed, readGalley}
 use Rattle.galley_file.specs.GalleyLaws.{Checked, checked, Accepted, accepted-is}
 use Rattle.galley_file.specs.Outcome.{countOutcome, checkOutcome}
 use Rattle.dvi.specs.Page.{fontChars, Mark, pageMark}
@@ -24,7 +25,7 @@ use Rattle.dvi.specs.Writer.{dviFile}
 use Rattle.dvi.specs.Demand3.{ShowsAll, Faithful, Compared, markOf}
 use Rattle.dvi.proofs.Demand3.{demand3, file-result, shows-all-only, compared}
 use Rattle.dvi_writer.specs.Result.{dviResult, fileResult}
-use Rattle.reprint.specs.Reprint.{Reprint, stopped, reprinted, sheetOf, fileOf, reprintRead, reprintResult, reprintOutcome, dviAfter, sheetAfter, Reprinted, ReprintedWhenever, Distinguished}
+use Rattle.reprint.specs.Reprint.{Reprint, stopped, reprinted, sheetOf, fileOf, reprintRead, reprintResult, reprintOutcome, dviAfter, sheetAfter, sheetSize, Reprinted, ReprintedWhenever, Distinguished}
 
 -- a galley that the check refuses
 pub refused-galley : (g : List ℕ) (widths : List ℤ) (dviRoom sheetRoom number place : ℕ) → checkOutcome g ≡ refused number place
@@ -35,23 +36,23 @@ refused-galley g widths dviRoom sheetRoom number place e = go (ltb maxGalley (le
     go : (t : Bool) (r : Reading) → cond t (refused galleyTooLong 0) (countOutcome 0 r) ≡ refused number place
         → cond t (stopped galleyTooLong 0) (reprintRead widths dviRoom sheetRoom r) ≡ stopped number place
     go true r h = cc
-    go false (whole cs) h = let z : _≡_ {A = ℕ} 0 1 = cc in absurd (omega arith)
+    go false (whole is) h = let z : _≡_ {A = ℕ} 0 1 = cc in absurd (omega arith)
     go false (malformed p) h = cc
 
 -- a galley that the check accepts
 module _ (g : List ℕ) (count : ℕ) (b : Bytes g) (e : checkOutcome g ≡ accepted count) where
-  -- its characters
+  -- its items
   pub found : Accepted g count
   found = accepted-is g count b e
 
-  few : length (found .characters) ≤ 1048576
-  few = let k = found .counted in let f = found .few in omega arith
+  few : length (found .items) ≤ maxItems
+  few = found .few
 
   short : length g ≤ maxGalley
   short = checked g count (sym e) .fits
 
   abbrev pub file : List ℕ
-  file = dviFile (found .characters)
+  file = dviFile (found .items)
 
   -- the writer's result
   pub file-written : (room : ℕ) → dviResult g room ≡ ifRoom noDviRoom room (written file)
@@ -59,7 +60,7 @@ module _ (g : List ℕ) (count : ℕ) (b : Bytes g) (e : checkOutcome g ≡ acce
   file-written room = rw (le-ltb _ _ short, found .read)
 
   module _ (widths : List ℤ) where
-    by-reading : (dviRoom sheetRoom : ℕ) → reprintResult g widths dviRoom sheetRoom ≡ reprintRead widths dviRoom sheetRoom (whole (found .characters))
+    by-reading : (dviRoom sheetRoom : ℕ) → reprintResult g widths dviRoom sheetRoom ≡ reprintRead widths dviRoom sheetRoom (whole (found .items))
     unfolding reprintResult
     by-reading dviRoom sheetRoom = rw (le-ltb _ _ short, found .read)
 
@@ -67,15 +68,15 @@ module _ (g : List ℕ) (count : ℕ) (b : Bytes g) (e : checkOutcome g ≡ acce
     not-whole dviRoom sheetRoom h = by-reading dviRoom sheetRoom ∙ rw (ne-eqb _ _ h)
 
     module _ (w : length widths % fontChars ≡ 0) where
-      -- demand 3 over its characters
-      pub faithful : Faithful widths (found .characters)
+      -- demand 3 over its items
+      pub faithful : Faithful widths (found .items)
       faithful = demand3 widths w (found .valid) few
 
       abbrev pub shownSheet : List ℕ
       shownSheet = sheet (pageMark (pos 1) ∷ faithful .marks)
 
-      pub sheet-size : length shownSheet ≡ 16 * count + 14
-      sheet-size = let k = found .counted in faithful .sheet-size ∙ (omega arith)
+      pub sheet-size : length shownSheet ≡ sheetSize (found .items)
+      sheet-size = faithful .sheet-size
 
       -- the reader's result
       pub sheet-written : (room : ℕ) → sheetResult file widths room ≡ ifRoom noSheetRoom room (written shownSheet)
@@ -94,43 +95,43 @@ module _ (g : List ℕ) (count : ℕ) (b : Bytes g) (e : checkOutcome g ≡ acce
           by-sheet : reprintResult g widths dviRoom sheetRoom ≡ sheetOf file (ifRoom noSheetRoom sheetRoom (written shownSheet))
           by-sheet = by-file ∙ ap (fileOf widths sheetRoom) (room-enough noDviRoom dviRoom file f) ∙ ap (sheetOf file) (sheet-written sheetRoom)
 
-          pub short-sheet : sheetRoom < 16 * count + 14 → reprintResult g widths dviRoom sheetRoom ≡ stopped noSheetRoom (16 * count + 14)
+          pub short-sheet : sheetRoom < sheetSize (found .items) → reprintResult g widths dviRoom sheetRoom ≡ stopped noSheetRoom (sheetSize (found .items))
           short-sheet h =
               by-sheet
               ∙ ap (sheetOf file) (room-short noSheetRoom sheetRoom shownSheet (omega (arith, sheet-size)))
               ∙ ap (stopped noSheetRoom) sheet-size
 
-          pub both-written : 16 * count + 14 ≤ sheetRoom → reprintResult g widths dviRoom sheetRoom ≡ reprinted file shownSheet
+          pub both-written : sheetSize (found .items) ≤ sheetRoom → reprintResult g widths dviRoom sheetRoom ≡ reprinted file shownSheet
           both-written h = by-sheet ∙ ap (sheetOf file) (room-enough noSheetRoom sheetRoom shownSheet (omega (arith, sheet-size)))
 
 -- demand 3, from the galley's bytes to the sheet's
 pub reprints : (g : List ℕ) (widths : List ℤ) (dvi out : List ℕ) → Bytes g → (r : Reprint) → r ≡ reprintResult g widths (length dvi) (length out)
     → ReprintedWhenever g widths dvi out (reprintOutcome r) (dviAfter dvi r) (sheetAfter out r)
-reprints g widths dvi out b r q count cs e readAs w f s =
+reprints g widths dvi out b r q count is e readAs w f s =
     let a = found g count b e in
     let t = faithful g count b e widths w in
-    let size = sheet-size g count b e widths w in
-    let same : a .characters ≡ cs = (let h : whole (a .characters) ≡ whole cs = sym (a .read) ∙ readAs in cc) in
-    let room : length (dviFile (a .characters)) ≤ length dvi = omega (arith, f, ap (λ (l : List Character). length (dviFile l)) same) in
-    let done = q ∙ both-written g count b e widths w (length dvi) (length out) room s in
+    let same : a .items ≡ is = (let h : whole (a .items) ≡ whole is = sym (a .read) ∙ readAs in cc) in
+    let room : length (dviFile (a .items)) ≤ length dvi = omega (arith, f, ap (λ (l : List Item). length (dviFile l)) same) in
+    let fits : sheetSize (a .items) ≤ length out = omega (arith, s, ap sheetSize same) in
+    let done = q ∙ both-written g count b e widths w (length dvi) (length out) room fits in
     record {
-      characters = a .characters;
+      items = a .items;
       galley-is = a .bytes;
       valid = a .valid;
-      writer-accepts = file-written g count b e (length dvi) ∙ room-enough noDviRoom (length dvi) (dviFile (a .characters)) room;
+      writer-accepts = file-written g count b e (length dvi) ∙ room-enough noDviRoom (length dvi) (dviFile (a .items)) room;
       file-is = ap (dviAfter dvi) done;
       marks = t .marks;
       shown = t .shown;
       all-shown = t .all-shown;
-      reader-accepts = t .sheet-is (length out) (omega (arith, s, a .counted));
+      reader-accepts = t .sheet-is (length out) fits;
       sheet-is = ap (sheetAfter out) done;
       outcome-is = ap reprintOutcome done ∙ ap accepted (t .sheet-size);
     }
 
 -- two galleys that the check accepts, and what their files show
 module _ (g h : List ℕ) (n m : ℕ) (bg : Bytes g) (bh : Bytes h) (eg : checkOutcome g ≡ accepted n) (eh : checkOutcome h ≡ accepted m) where
-  pub distinguished : {ms ns : List Mark} → ShowsAll (found g n bg eg .characters) ms → ShowsAll (found h m bh eh .characters) ns
-      → Distinguished g h (found g n bg eg .characters) (found h m bh eh .characters) ms ns
+  pub distinguished : {ms ns : List Mark} → ShowsAll 1 (found g n bg eg .items) ms → ShowsAll 1 (found h m bh eh .items) ns
+      → Distinguished g h (found g n bg eg .items) (found h m bh eh .items) ms ns
   distinguished p q =
       let a = found g n bg eg in
       let c = found h m bh eh in
@@ -138,7 +139,7 @@ module _ (g h : List ℕ) (n m : ℕ) (bg : Bytes g) (bh : Bytes h) (eg : checkO
       record {
         same-file = (
           λ f. a .bytes ∙ ap galley (k .same-file .0 f) ∙ sym (c .bytes),
-          λ f. ap dviFile (let r : whole (a .characters) ≡ whole (c .characters) = sym (a .read) ∙ ap readGalley f ∙ c .read in cc),
+          λ f. ap dviFile (let r : whole (a .items) ≡ whole (c .items) = sym (a .read) ∙ ap readGalley f ∙ c .read in cc),
         );
         compared = k;
       }

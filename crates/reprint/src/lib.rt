@@ -1,26 +1,41 @@
 // A galley made into a DVI file, and the file into a sheet, in one call (document 01, demand 3).
+use galley_file::character;
+use galley_file::item;
 use octets::answer;
 use octets::answer::Answer;
+use octets::field;
 ghost use mathlib.Core.Path.{_≡_};
 ghost use lib.ListN.{length};
 ghost use Rattle.octets.specs.Answer.{accepted, outcomeOf};
 ghost use Rattle.galley_file.specs.Outcome.{checkOutcome};
 ghost use Rattle.dvi.specs.Writer.{dviFile};
-ghost use Rattle.dvi_writer.specs.Result.{charactersOf};
-ghost use Rattle.reprint.specs.Reprint.{reprintResult, reprintOutcome, dviAfter, sheetAfter, ReprintedWhenever};
+ghost use Rattle.dvi_writer.specs.Result.{itemsOf};
+ghost use Rattle.reprint.specs.Reprint.{reprintResult, reprintOutcome, dviAfter, sheetAfter, sheetSize, ReprintedWhenever};
 
 // The numbers of a font in a table of widths.
 const FONT_WIDTHS: usize = 128;
 
-// A character's field in a sheet, and the fields of page 1 and of the end.
+// The fields of a sheet: a character, and a page.
 const CHARACTER_FIELD: usize = 16;
 
+const PAGE_FIELD: usize = 7;
+
+// The fields of page 1 and of the end.
 const OTHER_FIELDS: usize = 14;
+
+// The bytes of a checked galley's sheet: what is not of characters in the galley is of cuts.
+fn sheet_length(galley: &[u8], count: usize) -> usize
+    requires { ⌜ accepted count ≡ checkOutcome (now galley) ⌝ }
+    ensures { λ r. ⌜ r ≡ sheetSize (itemsOf (now (galley .entry))) ⌝ }
+{
+    let rest = galley.len() - field::END_FIELD - character::FIELD * count;
+    CHARACTER_FIELD * count + PAGE_FIELD * (rest / item::CUT_FIELD) + OTHER_FIELDS
+}
 
 // The bytes of a checked galley's file: the writer names them for a buffer that is too short.
 fn file_length(galley: &[u8], count: usize) -> usize
     requires { ⌜ accepted count ≡ checkOutcome (now galley) ⌝ }
-    ensures { λ r. ⌜ r ≡ length (dviFile (charactersOf (now (galley .entry)))) ⌝ }
+    ensures { λ r. ⌜ r ≡ length (dviFile (itemsOf (now (galley .entry)))) ⌝ }
 {
     let mut none = [0u8; 1];
     let written = dvi_writer::write_dvi(galley, &mut none);
@@ -44,7 +59,7 @@ fn reprint_checked(
     if widths.len() % FONT_WIDTHS != 0 {
         return Answer::Refused(answer::WIDTHS_NOT_WHOLE, 0);
     }
-    let needed = CHARACTER_FIELD * count + OTHER_FIELDS;
+    let needed = sheet_length(galley, count);
     if sheet.len() < needed {
         let length = file_length(galley, count);
         if dvi.len() < length {

@@ -54,19 +54,19 @@ pub sorted-is : (b : ℕ) → b < 256 → sorted b ≡ codeOf b
 sorted-is b h = agree sorted codeOf Illegal 256 all-codes b h
 
 -- what the control codes' match leaves is illegal
-pub rest-illegal : (x : ℕ) → ((((((((((((((Unit {0}) × (x ≡ 0 → ⊥)) × (x ≡ 1 → ⊥)) × (x ≡ 2 → ⊥)) × (x ≡ 3 → ⊥)) × (x ≡ 4 → ⊥)) × (x ≡ 5 → ⊥)) × (x ≡ 6 → ⊥)) × (x ≡ 7 → ⊥)) × (x ≡ 8 → ⊥)) × (x ≡ 9 → ⊥)) × (x ≡ 10 → ⊥)) × (x ≡ 12 → ⊥)) × (x ≡ 14 → ⊥)) × (x ≡ 15 → ⊥) → Illegal ≡ getD controls x Illegal
-rest-illegal zero r = absurd (r .0 .0 .0 .0 .0 .0 .0 .0 .0 .0 .0 .0 .0 .1 refl)
-rest-illegal (suc zero) r = absurd (r .0 .0 .0 .0 .0 .0 .0 .0 .0 .0 .0 .0 .1 refl)
-rest-illegal (suc (suc zero)) r = absurd (r .0 .0 .0 .0 .0 .0 .0 .0 .0 .0 .0 .1 refl)
-rest-illegal (suc (suc (suc zero))) r = absurd (r .0 .0 .0 .0 .0 .0 .0 .0 .0 .0 .1 refl)
-rest-illegal (suc (suc (suc (suc zero)))) r = absurd (r .0 .0 .0 .0 .0 .0 .0 .0 .0 .1 refl)
-rest-illegal (suc (suc (suc (suc (suc zero))))) r = absurd (r .0 .0 .0 .0 .0 .0 .0 .0 .1 refl)
-rest-illegal (suc (suc (suc (suc (suc (suc zero)))))) r = absurd (r .0 .0 .0 .0 .0 .0 .0 .1 refl)
-rest-illegal (suc (suc (suc (suc (suc (suc (suc zero))))))) r = absurd (r .0 .0 .0 .0 .0 .0 .1 refl)
-rest-illegal (suc (suc (suc (suc (suc (suc (suc (suc zero)))))))) r = absurd (r .0 .0 .0 .0 .0 .1 refl)
-rest-illegal (suc (suc (suc (suc (suc (suc (suc (suc (suc zero))))))))) r = absurd (r .0 .0 .0 .0 .1 refl)
-rest-illegal (suc (suc (suc (suc (suc (suc (suc (suc (suc (suc zero)))))))))) r = absurd (r .0 .0 .0 .1 refl)
-rest-illegal (suc (suc (suc (suc (suc (suc (suc (suc (suc (suc (suc zero))))))))))) r = refl
+pub rest-illegal : (x : ℕ) → (((((((((((((((Unit {0}) × (x ≡ 0 → ⊥)) × (x ≡ 1 → ⊥)) × (x ≡ 2 → ⊥)) × (x ≡ 3 → ⊥)) × (x ≡ 4 → ⊥)) × (x ≡ 5 → ⊥)) × (x ≡ 6 → ⊥)) × (x ≡ 7 → ⊥)) × (x ≡ 8 → ⊥)) × (x ≡ 9 → ⊥)) × (x ≡ 10 → ⊥)) × (x ≡ 11 → ⊥)) × (x ≡ 12 → ⊥)) × (x ≡ 14 → ⊥)) × (x ≡ 15 → ⊥) → Illegal ≡ getD controls x Illegal
+rest-illegal zero r = absurd (r .0 .0 .0 .0 .0 .0 .0 .0 .0 .0 .0 .0 .0 .0 .1 refl)
+rest-illegal (suc zero) r = absurd (r .0 .0 .0 .0 .0 .0 .0 .0 .0 .0 .0 .0 .0 .1 refl)
+rest-illegal (suc (suc zero)) r = absurd (r .0 .0 .0 .0 .0 .0 .0 .0 .0 .0 .0 .0 .1 refl)
+rest-illegal (suc (suc (suc zero))) r = absurd (r .0 .0 .0 .0 .0 .0 .0 .0 .0 .0 .0 .1 refl)
+rest-illegal (suc (suc (suc (suc zero)))) r = absurd (r .0 .0 .0 .0 .0 .0 .0 .0 .0 .0 .1 refl)
+rest-illegal (suc (suc (suc (suc (suc zero))))) r = absurd (r .0 .0 .0 .0 .0 .0 .0 .0 .0 .1 refl)
+rest-illegal (suc (suc (suc (suc (suc (suc zero)))))) r = absurd (r .0 .0 .0 .0 .0 .0 .0 .0 .1 refl)
+rest-illegal (suc (suc (suc (suc (suc (suc (suc zero))))))) r = absurd (r .0 .0 .0 .0 .0 .0 .0 .1 refl)
+rest-illegal (suc (suc (suc (suc (suc (suc (suc (suc zero)))))))) r = absurd (r .0 .0 .0 .0 .0 .0 .1 refl)
+rest-illegal (suc (suc (suc (suc (suc (suc (suc (suc (suc zero))))))))) r = absurd (r .0 .0 .0 .0 .0 .1 refl)
+rest-illegal (suc (suc (suc (suc (suc (suc (suc (suc (suc (suc zero)))))))))) r = absurd (r .0 .0 .0 .0 .1 refl)
+rest-illegal (suc (suc (suc (suc (suc (suc (suc (suc (suc (suc (suc zero))))))))))) r = absurd (r .0 .0 .0 .1 refl)
 rest-illegal (suc (suc (suc (suc (suc (suc (suc (suc (suc (suc (suc (suc zero)))))))))))) r = absurd (r .0 .0 .1 refl)
 rest-illegal (suc (suc (suc (suc (suc (suc (suc (suc (suc (suc (suc (suc (suc zero))))))))))))) r = refl
 rest-illegal (suc (suc (suc (suc (suc (suc (suc (suc (suc (suc (suc (suc (suc (suc zero)))))))))))))) r = absurd (r .0 .1 refl)

@@ -52,7 +52,7 @@ code-lead b h k =
 module _ (s : State) (b : ℕ) where
   pub quick-led : Running s → 96 ≤ b → b < 128 → (r : Height) → heightAt (s .height .0 +ℤ directedBy (s .modes .«lead_back») (31 - b % 32)) ≡ r → Leads s b r
   unfolding orderOf
-  quick-led r h k (height.At t) e = sym (lead-to s (31 - b % 32) e ∙ order-taken s b (code-lead b h k) (r .begun) (r .unstopped))
+  quick-led r h k (height.At t) e = sym (lead-to s (31 - b % 32) e ∙ order-taken s b (code-lead b h k) (r .begun) (r .uncut) (r .unstopped))
   quick-led r h k height.Outside e = tt
 
   pub quick-ignored : b ≡ 0 → effectOf s b ≡ Moved (placed s (s .carriage))
@@ -66,13 +66,13 @@ module _ (s : State) (b : ℕ) where
       let t = half-taken (s .modes .«upper_half») b (omega (arith, f .last)) in
       sym
       (flash-set s b (f .runs .unparked) (lt-leb _ _ (f .sized)) (t .1) x (d .font) k ex (f .number) ek
-      ∙ order-taken s b (code-flash b h (t .0)) (f .runs .begun) (f .runs .unstopped))
+      ∙ order-taken s b (code-flash b h (t .0)) (f .runs .begun) (f .runs .uncut) (f .runs .unstopped))
 
   pub quick-at : Running s → 128 ≤ b → b < 255 → (c : Units) → carriageAt (s .carriage .0 +ℤ directedBy (s .modes .«escape_back») (127 - b % 128)) ≡ carriage.At c
       → effectOf s b ≡ Moved (placed s c)
   unfolding orderOf
   quick-at r h k c e =
-      sym (escape-at s (127 - b % 128) (r .unparked) c e ∙ order-taken s b (code-escape b h k) (r .begun) (r .unstopped))
+      sym (escape-at s (127 - b % 128) (r .unparked) c e ∙ order-taken s b (code-escape b h k) (r .begun) (r .uncut) (r .unstopped))
 
 -- ---- codes that are counted
 
@@ -139,31 +139,16 @@ module _ (s : State) (b : ℕ) (d : Derived) (f : DerivedFrom s d) (t : Takes d 
           (ap (λ (n : ℕ). carriageAt (s .carriage .0 +ℤ directedBy (s .modes .«escape_back») n)) (sym (one-way (b / 128) (127 - b % 128) (omega arith))) ∙ e))
           (ap (λ (u : Bool). cond u 0 (1 - b / 128)) (ne-eqb b 0 (not-zero b (omega arith))) ∙ omega arith)
 
--- what is derived from a state stays where only the height changes, or only the carriage moves
-pub led-derived : (s : State) (h : Quanta) {d : Derived} → DerivedFrom s d → DerivedFrom (withHeight s h) d
-led-derived s h f =
-    record {
-      escapes = f .escapes;
-      escaping = λ k. let r = f .escaping k in record { begun = r .begun; unstopped = r .unstopped; unparked = r .unparked };
-      flashing = λ k.
-          let g = f .flashing k in
-          record {
-            runs = record { begun = g .runs .begun; unstopped = g .runs .unstopped; unparked = g .runs .unparked };
-            sized = g .sized;
-            last = g .last;
-            number = g .number;
-          };
-    }
-
+-- what is derived from a state stays where only the carriage moves
 pub still-derived : (s : State) (c : Units) {d : Derived} → DerivedFrom s d → DerivedFrom (placed s c) d
 still-derived s c f =
     record {
       escapes = f .escapes;
-      escaping = λ h. let r = f .escaping h in record { begun = r .begun; unstopped = r .unstopped; unparked = r .unparked };
+      escaping = λ h. let r = f .escaping h in record { begun = r .begun; uncut = r .uncut; unstopped = r .unstopped; unparked = r .unparked };
       flashing = λ h.
           let g = f .flashing h in
           record {
-            runs = record { begun = g .runs .begun; unstopped = g .runs .unstopped; unparked = g .runs .unparked };
+            runs = record { begun = g .runs .begun; uncut = g .runs .uncut; unstopped = g .runs .unstopped; unparked = g .runs .unparked };
             sized = g .sized;
             last = g .last;
             number = g .number;

@@ -8,11 +8,12 @@ use native.Mathlib.Omega.{arith}
 use borrow.Author.Tests.{lt-ltb, le-ltb}
 use lib.ListN.{length, drop}
 use lib.Seq.{sets}
-use Rattle.octets.specs.Answer.{Result, refusal, written, ifRoom, after, tapeTooLong, noStop, noGalleyRoom}
+use Rattle.octets.specs.Answer.{Result, refusal, written, ifRoom, after, tapeTooLong, afterCut, noStop, noGalleyRoom}
 use Rattle.octets.specs.AnswerLaws.{room-refused, room-short, room-enough}
 use Rattle.octets.specs.Field.{endField}
 use Rattle.octets.specs.Write.{sets-append, sets-start}
-use Rattle.galley_file.specs.declared.character.Character.{Character}
+use Rattle.galley_file.specs.declared.item.Item.{Item}
+use Rattle.galley_file.specs.Item.{charactersOf, cutsOf}
 use Rattle.galley_file.specs.Galley.{fields, galley}
 use Rattle.galley_file.specs.GalleyLaws.{length-fields, length-galley}
 use Rattle.tape.specs.declared.machine.State.{State}
@@ -30,40 +31,51 @@ unfolding tapeResult
 fit-tape tape room h = rw (le-ltb _ _ h)
 
 module _ (s : State) (tape : List ℕ) (room : ℕ) where
-  by-ending : {e : Ending} → run s 0 tape .ending ≡ e → readResult s tape room ≡ ifRoom noGalleyRoom room (closing (length tape) (run s 0 tape .characters) e)
+  by-ending : {e : Ending} → run s 0 tape .ending ≡ e → readResult s tape room ≡ ifRoom noGalleyRoom room (closing (length tape) (run s 0 tape .items) e)
   unfolding readResult
-  by-ending q = ap (λ (e : Ending). ifRoom noGalleyRoom room (closing (length tape) (run s 0 tape .characters) e)) q
+  by-ending q = ap (λ (e : Ending). ifRoom noGalleyRoom room (closing (length tape) (run s 0 tape .items) e)) q
 
   pub read-fault : {n place : ℕ} → run s 0 tape .ending ≡ Fault n place → readResult s tape room ≡ refusal n place
   read-fault {n} {place} q = by-ending q ∙ room-refused noGalleyRoom room n place
 
   module _ (t : State) (q : run s 0 tape .ending ≡ Reached t) where
-    stops : {u : Bool} → t .stopped ≡ u → readResult s tape room ≡ ifRoom noGalleyRoom room (cond u (written (galley (run s 0 tape .characters))) (refusal noStop (length tape)))
-    stops e = by-ending q ∙ ap (λ (u : Bool). ifRoom noGalleyRoom room (cond u (written (galley (run s 0 tape .characters))) (refusal noStop (length tape)))) e
+    abbrev closed : Bool → Bool → Result
+    closed k u = ifRoom noGalleyRoom room (cond k (refusal afterCut (length tape)) (cond u (written (galley (run s 0 tape .items))) (refusal noStop (length tape))))
 
-    pub read-open : t .stopped ≡ false → readResult s tape room ≡ refusal noStop (length tape)
-    read-open e = stops e ∙ room-refused noGalleyRoom room noStop (length tape)
+    closes : {k u : Bool} → t .cut ≡ k → t .stopped ≡ u → readResult s tape room ≡ closed k u
+    closes d e = by-ending q ∙ (λ i. closed (d i) (e i))
 
-    module _ (e : t .stopped ≡ true) (n : ℕ) (c : n ≡ length (run s 0 tape .characters)) where
-      pub needed : length (galley (run s 0 tape .characters)) ≡ 9 * n + 7
-      needed = omega (arith, length-galley (run s 0 tape .characters), c)
+    pub read-cut : t .cut ≡ true → readResult s tape room ≡ refusal afterCut (length tape)
+    read-cut d = closes d refl ∙ room-refused noGalleyRoom room afterCut (length tape)
 
-      pub read-short : room < 9 * n + 7 → readResult s tape room ≡ refusal noGalleyRoom (9 * n + 7)
-      read-short h =
-          stops e
-          ∙ room-short noGalleyRoom room (galley (run s 0 tape .characters)) (omega (arith, needed))
-          ∙ ap (refusal noGalleyRoom) needed
+    module _ (d : t .cut ≡ false) where
+      pub read-open : t .stopped ≡ false → readResult s tape room ≡ refusal noStop (length tape)
+      read-open e = closes d e ∙ room-refused noGalleyRoom room noStop (length tape)
 
-      pub read-whole : 9 * n + 7 ≤ room → readResult s tape room ≡ written (galley (run s 0 tape .characters))
-      read-whole h = stops e ∙ room-enough noGalleyRoom room (galley (run s 0 tape .characters)) (omega (arith, needed))
+      module _ (e : t .stopped ≡ true) (n : ℕ) (m : n ≡ length (fields (run s 0 tape .items))) where
+        pub needed : length (galley (run s 0 tape .items)) ≡ n + 7
+        needed = omega (arith, length-galley (run s 0 tape .items), m)
+
+        pub read-short : room < n + 7 → readResult s tape room ≡ refusal noGalleyRoom (n + 7)
+        read-short h =
+            closes d e
+            ∙ room-short noGalleyRoom room (galley (run s 0 tape .items)) (omega (arith, needed))
+            ∙ ap (refusal noGalleyRoom) needed
+
+        pub read-whole : n + 7 ≤ room → readResult s tape room ≡ written (galley (run s 0 tape .items))
+        read-whole h = closes d e ∙ room-enough noGalleyRoom room (galley (run s 0 tape .items)) (omega (arith, needed))
+
+-- the bytes of the fields that a pass has counted
+pub fields-counted : (is : List Item) (n k : ℕ) → n ≡ length (charactersOf is) → k ≡ 3 * cutsOf is → 9 * n + k ≡ length (fields is)
+fields-counted is n k e d = omega (arith, length-fields is, e, d)
 
 -- the buffer after the second pass and End
-pub filled : (cs : List Character) (n at : ℕ) (buffer b₁ b₂ : List ℕ) → n ≡ length cs → at ≡ 9 * n → 9 * n + 7 ≤ length buffer
-    → b₁ ≡ sets buffer 0 (fields cs) → b₂ ≡ sets b₁ at (endField n) → b₂ ≡ galley cs ++ drop (length (galley cs)) buffer
+pub filled : (is : List Item) (n at : ℕ) (buffer b₁ b₂ : List ℕ) → n ≡ length (charactersOf is) → at ≡ length (fields is) → at + 7 ≤ length buffer
+    → b₁ ≡ sets buffer 0 (fields is) → b₂ ≡ sets b₁ at (endField n) → b₂ ≡ galley is ++ drop (length (galley is)) buffer
 unfolding galley
-filled cs n at buffer b₁ b₂ en ea h e₁ e₂ =
-    let place : at ≡ 0 + length (fields cs) = omega (arith, length-fields cs) in
+filled is n at buffer b₁ b₂ en ea h e₁ e₂ =
+    let place : at ≡ 0 + length (fields is) = omega (arith, ea) in
     e₂
     ∙ (λ i. sets (e₁ i) (place i) (endField (en i)))
-    ∙ sym (sets-append buffer 0 (fields cs) (endField (length cs)))
-    ∙ sets-start buffer (galley cs) (omega (arith, length-galley cs))
+    ∙ sym (sets-append buffer 0 (fields is) (endField (length (charactersOf is))))
+    ∙ sets-start buffer (galley is) (omega (arith, length-galley is))

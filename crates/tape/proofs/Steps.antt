@@ -5,7 +5,7 @@ use mathlib.Core.Bool.{Bool, true, false, cond}
 use Prim.Native.Nat.{ℕ}
 use lib.Dec.{leb}
 use lib.IntN.{_+ℤ_}
-use Rattle.octets.specs.Answer.{illegalCode, notInitialized, afterStop}
+use Rattle.octets.specs.Answer.{illegalCode, notInitialized, afterCut, afterStop}
 use Rattle.measure.specs.declared.Units.{Units}
 use Rattle.measure.specs.declared.Carriage.{Carriage}
 use Rattle.measure.specs.declared.Carriage.the-variants as carriage
@@ -45,7 +45,7 @@ module _ (s : State) (n : ℕ) where
 
     pub escape-at : (c : Units) → carriageAt (s .carriage .0 +ℤ directedBy (s .modes .«escape_back») n) ≡ carriage.At c → Moved (placed s c) ≡ escapeOf s n
     escape-at c e =
-        (λ i. Moved (record { initialized = s .initialized; parked = free i; stopped = s .stopped; modes = s .modes; size = s .size; carriage = c; height = s .height }))
+        (λ i. Moved (record { initialized = s .initialized; parked = free i; stopped = s .stopped; cut = s .cut; modes = s .modes; size = s .size; carriage = c; height = s .height }))
         ∙ escape-to e
 
 -- a step by the class of its code
@@ -70,10 +70,14 @@ module _ (s : State) (b : ℕ) where
   unfolding effectOf codeEffect
   order-early e i = rw (e, i)
 
-  pub order-stopped : {o : Order} → codeOf b ≡ Ordered o → s .initialized ≡ true → s .stopped ≡ true → Refused afterStop ≡ effectOf s b
+  pub order-cut : {o : Order} → codeOf b ≡ Ordered o → s .initialized ≡ true → s .cut ≡ true → Refused afterCut ≡ effectOf s b
   unfolding effectOf codeEffect
-  order-stopped e i t = rw (e, i, t)
+  order-cut e i k = rw (e, i, k)
 
-  pub order-taken : {o : Order} → codeOf b ≡ Ordered o → s .initialized ≡ true → s .stopped ≡ false → orderOf s o ≡ effectOf s b
+  pub order-stopped : {o : Order} → codeOf b ≡ Ordered o → s .initialized ≡ true → s .cut ≡ false → s .stopped ≡ true → Refused afterStop ≡ effectOf s b
   unfolding effectOf codeEffect
-  order-taken e i t = rw (e, i, t)
+  order-stopped e i k t = rw (e, i, k, t)
+
+  pub order-taken : {o : Order} → codeOf b ≡ Ordered o → s .initialized ≡ true → s .cut ≡ false → s .stopped ≡ false → orderOf s o ≡ effectOf s b
+  unfolding effectOf codeEffect
+  order-taken e i k t = rw (e, i, k, t)

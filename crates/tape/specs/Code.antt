@@ -1,11 +1,11 @@
--- Document 01, "Tape codes (000)": what each code means.
+-- Document 01, "Tape codes (000)", and document 02, "Software cuts": what each code means.
 use Prim.Native.Nat.{ℕ, _-_, _%_}
 use mathlib.Core.Bool.{true, false, cond}
 use mathlib.Core.List.{List, [], _∷_}
 use lib.ListN.{getD}
 use lib.Dec.{eqb, ltb}
 use Rattle.tape.specs.declared.code.Order.{Order}
-use Rattle.tape.specs.declared.code.Order.the-variants.{Flash, Rail, Mag, Half, EscapeWay, LeadWay, Tilt, Size, Stop, Lead, Escape}
+use Rattle.tape.specs.declared.code.Order.the-variants.{Flash, Rail, Mag, Half, EscapeWay, LeadWay, Tilt, Size, Stop, Cut, Lead, Escape}
 use Rattle.tape.specs.declared.code.Code.{Code}
 use Rattle.tape.specs.declared.code.Code.the-variants.{Ignored, Illegal, Initialize, Ordered}
 
@@ -23,7 +23,7 @@ controls =
     ∷ Ordered (EscapeWay true)  -- 48 escape backward
     ∷ Ordered Stop  -- 49 stop
     ∷ Ordered (LeadWay false)  -- 4A lead forward
-    ∷ Illegal  -- 4B
+    ∷ Ordered Cut  -- 4B software cut
     ∷ Ordered (LeadWay true)  -- 4C lead backward
     ∷ Illegal  -- 4D
     ∷ Ordered (Tilt false)  -- 4E tilt up

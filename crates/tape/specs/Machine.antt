@@ -1,4 +1,4 @@
--- The machine of document 01, "Tape codes": its state, and what one code does to it.
+-- The machine of document 01, "Tape codes", and document 02, "Software cuts": its state, and what one code does to it.
 --     start           the state before the first code
 --     initializedOf   a state after initialize
 --     fontIn          the font in force, 1 to 8
@@ -11,7 +11,7 @@ use Prim.Native.Nat.{ℕ, _+_}
 use mathlib.Core.Bool.{Bool, true, false, cond}
 use lib.Dec.{leb, ltb, eqb}
 use lib.IntN.{pos, _+ℤ_}
-use Rattle.octets.specs.Answer.{illegalCode, notInitialized, afterStop, stillParked, noSize, outOfRange, aboveHalf}
+use Rattle.octets.specs.Answer.{illegalCode, notInitialized, afterCut, afterStop, stillParked, noSize, outOfRange, aboveHalf}
 use Rattle.measure.specs.declared.Units.{Units}
 use Rattle.measure.specs.declared.Quanta.{Quanta}
 use Rattle.measure.specs.declared.Carriage.{Carriage}
@@ -23,13 +23,13 @@ use Rattle.measure.specs.Target.{xOf}
 use Rattle.galley_file.specs.declared.character.Character.{Character}
 use Rattle.galley_file.specs.Font.{fontNumber, isDouble}
 use Rattle.tape.specs.declared.code.Order.{Order}
-use Rattle.tape.specs.declared.code.Order.the-variants.{Flash, Rail, Mag, Half, EscapeWay, LeadWay, Tilt, Size, Stop, Lead, Escape}
+use Rattle.tape.specs.declared.code.Order.the-variants.{Flash, Rail, Mag, Half, EscapeWay, LeadWay, Tilt, Size, Stop, Cut, Lead, Escape}
 use Rattle.tape.specs.declared.code.Code.{Code}
 use Rattle.tape.specs.declared.code.Code.the-variants.{Ignored, Illegal, Initialize, Ordered}
 use Rattle.tape.specs.declared.machine.Modes.{Modes}
 use Rattle.tape.specs.declared.machine.State.{State}
 use Rattle.tape.specs.declared.machine.Effect.{Effect}
-use Rattle.tape.specs.declared.machine.Effect.the-variants.{Moved, Flashed, Refused}
+use Rattle.tape.specs.declared.machine.Effect.the-variants.{Moved, Flashed, Parted, Refused}
 use Rattle.tape.specs.Code.{codeOf}
 
 -- ---- parts of a state
@@ -55,19 +55,23 @@ withTilt m b = record { «escape_back» = m .«escape_back»; «lead_back» = m 
 
 -- a state with other modes, size, place or height
 abbrev pub withModes : State → Modes → State
-withModes s m = record { initialized = s .initialized; parked = s .parked; stopped = s .stopped; modes = m; size = s .size; carriage = s .carriage; height = s .height }
+withModes s m = record { initialized = s .initialized; parked = s .parked; stopped = s .stopped; cut = s .cut; modes = m; size = s .size; carriage = s .carriage; height = s .height }
 
 abbrev pub withSize : State → ℕ → State
-withSize s n = record { initialized = s .initialized; parked = s .parked; stopped = s .stopped; modes = s .modes; size = n; carriage = s .carriage; height = s .height }
+withSize s n = record { initialized = s .initialized; parked = s .parked; stopped = s .stopped; cut = s .cut; modes = s .modes; size = n; carriage = s .carriage; height = s .height }
 
 abbrev pub withStop : State → State
-withStop s = record { initialized = s .initialized; parked = s .parked; stopped = true; modes = s .modes; size = s .size; carriage = s .carriage; height = s .height }
+withStop s = record { initialized = s .initialized; parked = s .parked; stopped = true; cut = s .cut; modes = s .modes; size = s .size; carriage = s .carriage; height = s .height }
 
 abbrev pub withCarriage : State → Units → State
-withCarriage s c = record { initialized = s .initialized; parked = false; stopped = s .stopped; modes = s .modes; size = s .size; carriage = c; height = s .height }
+withCarriage s c = record { initialized = s .initialized; parked = false; stopped = s .stopped; cut = s .cut; modes = s .modes; size = s .size; carriage = c; height = s .height }
 
 abbrev pub withHeight : State → Quanta → State
-withHeight s h = record { initialized = s .initialized; parked = s .parked; stopped = s .stopped; modes = s .modes; size = s .size; carriage = s .carriage; height = h }
+withHeight s h = record { initialized = s .initialized; parked = s .parked; stopped = s .stopped; cut = s .cut; modes = s .modes; size = s .size; carriage = s .carriage; height = h }
+
+-- a cut: height 0, and initialize has to come
+abbrev pub withCut : State → State
+withCut s = record { initialized = s .initialized; parked = s .parked; stopped = s .stopped; cut = true; modes = s .modes; size = s .size; carriage = s .carriage; height = record { 0 = pos 0 } }
 
 -- ---- the start, and initialize
 
@@ -87,12 +91,12 @@ noSizeYet = 15
 -- height 0
 abbrev pub start : State
 start =
-    record { initialized = false; parked = false; stopped = false; modes = firstModes; size = noSizeYet; carriage = origin; height = record { 0 = pos 0 } }
+    record { initialized = false; parked = false; stopped = false; cut = false; modes = firstModes; size = noSizeYet; carriage = origin; height = record { 0 = pos 0 } }
 
--- initialize: the modes above, parked at the left switch; size and height stay
+-- initialize: the modes above, parked at the left switch; size and height stay, and a cut is done with
 abbrev pub initializedOf : State → State
 initializedOf s =
-    record { initialized = true; parked = true; stopped = s .stopped; modes = firstModes; size = s .size; carriage = origin; height = s .height }
+    record { initialized = true; parked = true; stopped = s .stopped; cut = false; modes = firstModes; size = s .size; carriage = origin; height = s .height }
 
 -- ---- flashes
 
@@ -177,15 +181,20 @@ orderOf s (LeadWay back) = Moved (withModes s (withLead (s .modes) back))
 orderOf s (Tilt down) = Moved (withModes s (withTilt (s .modes) down))
 orderOf s (Size index) = Moved (withSize s index)
 orderOf s Stop = Moved (withStop s)
+orderOf s Cut = Parted (withCut s)
 orderOf s (Lead n) = leadOf s n
 orderOf s (Escape n) = escapeOf s n
 
--- 00 is ignored everywhere; 2 illegal; 3 before the first initialize; 4 after stop; then the code's own rules
+-- 00 is ignored everywhere; 2 illegal; 3 before the first initialize; 10 after a cut, unless initialize; 4 after stop; then the code's
+-- own rules
 unfoldable pub codeEffect : State → Code → Effect
 codeEffect s Ignored = Moved s
 codeEffect s Illegal = Refused illegalCode
 codeEffect s Initialize = cond (s .stopped) (Refused afterStop) (Moved (initializedOf s))
-codeEffect s (Ordered o) = cond (s .initialized) (cond (s .stopped) (Refused afterStop) (orderOf s o)) (Refused notInitialized)
+codeEffect s (Ordered o) =
+    cond (s .initialized)
+    (cond (s .cut) (Refused afterCut) (cond (s .stopped) (Refused afterStop) (orderOf s o)))
+    (Refused notInitialized)
 
 unfoldable pub effectOf : State → ℕ → Effect
 effectOf s b = codeEffect s (codeOf b)

@@ -16,9 +16,10 @@ use Rattle.tape.specs.declared.quick.Quick.{Quick}
 use Rattle.tape.specs.declared.quick.Quick.the-variants as quick
 use Rattle.tape.specs.Machine.{fontIn, withHeight, effectOf}
 
--- initialized, not stopped and past the left switch
+-- initialized, not stopped or cut, and past the left switch
 pub record Running (s : State) : Type 0 where
   pub begun : s .initialized ≡ true
+  pub uncut : s .cut ≡ false
   pub unstopped : s .stopped ≡ false
   pub unparked : s .parked ≡ false
 
@@ -54,7 +55,7 @@ flashesIn b = cond (eqb b 0) 0 (1 - b / 128)
 
 -- a state with its carriage elsewhere
 abbrev pub placed : State → Units → State
-placed s c = record { initialized = s .initialized; parked = s .parked; stopped = s .stopped; modes = s .modes; size = s .size; carriage = c; height = s .height }
+placed s c = record { initialized = s .initialized; parked = s .parked; stopped = s .stopped; cut = s .cut; modes = s .modes; size = s .size; carriage = c; height = s .height }
 
 -- what `quick_step` says of a code; of Slow it says nothing
 abbrev pub Quickly : State → ℕ → Quick → Type 0
@@ -68,7 +69,7 @@ stretchAt s i n = record { next = i; carriage = s .carriage; count = n }
 
 -- ---- the codes that turn a mode or set a size
 
--- 0x41 to 0x5E but stop and the two illegal ones
+-- 0x41 to 0x5E but stop, the cut and the illegal one
 pub record Turn (b : ℕ) : Type 0 where
   pub low : 0x41 ≤ b
   pub high : b ≤ 0x5E
@@ -96,7 +97,7 @@ sizeAfter size b = cond (ltb b 0x50) size (b - 0x50)
 
 -- a state with other modes and another size
 abbrev pub settled : State → Modes → ℕ → State
-settled s m z = record { initialized = s .initialized; parked = s .parked; stopped = s .stopped; modes = m; size = z; carriage = s .carriage; height = s .height }
+settled s m z = record { initialized = s .initialized; parked = s .parked; stopped = s .stopped; cut = s .cut; modes = m; size = z; carriage = s .carriage; height = s .height }
 
 -- ---- leads
 

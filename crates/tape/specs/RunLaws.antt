@@ -1,7 +1,7 @@
--- The laws of a run: on bytes cut in two, on the next byte, and that it stays sound and sets valid characters.
+-- The laws of a run: on bytes cut in two, on the next byte, and how many items it sets.
 --     run-append       a tape cut in two: the second piece is run from the state that the first reaches, at its place on the tape
---     run-moved, run-flashed, run-refused       the byte after a prefix
---     run-length       at most one character a byte
+--     run-moved, run-set, run-refused       the byte after a prefix
+--     run-length       at most one item a byte
 -- Assumes nothing.
 use mathlib.Core.Path.{_≡_, refl, sym, ap, subst, _∙_}
 use mathlib.Core.List.{List, [], _∷_, _++_, append-nil}
@@ -12,58 +12,69 @@ use native.Mathlib.Omega.{arith}
 use lib.ListN.{length, getD, take, drop, take-append-drop, length-append}
 use lib.Seq.{take-suc, drop-cons, length-take-le}
 use Rattle.galley_file.specs.declared.character.Character.{Character}
+use Rattle.galley_file.specs.declared.item.Item.{Item}
+use Rattle.galley_file.specs.declared.item.Item.the-variants.{Placed, Cut}
 use Rattle.tape.specs.declared.machine.State.{State}
 use Rattle.tape.specs.declared.machine.Effect.{Effect}
-use Rattle.tape.specs.declared.machine.Effect.the-variants.{Moved, Flashed, Refused}
+use Rattle.tape.specs.declared.machine.Effect.the-variants.{Moved, Flashed, Parted, Refused}
 use Rattle.tape.specs.declared.Ending.{Ending}
 use Rattle.tape.specs.declared.Ending.the-variants.{Reached, Fault}
 use Rattle.tape.specs.Machine.{effectOf}
 use Rattle.tape.specs.Tape.{Run, after, run}
 
--- a run after characters that were set, by how these ended
-abbrev pub goOn : List Character → Ending → (State → Run) → Run
-goOn cs (Reached t) rest = record { characters = cs ++ rest t .characters; ending = rest t .ending }
-goOn cs (Fault n p) rest = record { characters = cs; ending = Fault n p }
+-- a run after items that were set, by how these ended
+abbrev pub goOn : List Item → Ending → (State → Run) → Run
+goOn is (Reached t) rest = record { items = is ++ rest t .items; ending = rest t .ending }
+goOn is (Fault n p) rest = record { items = is; ending = Fault n p }
 
-after-goOn : (c : Character) (cs : List Character) (e : Ending) (rest : State → Run) → after c (goOn cs e rest) ≡ goOn (c ∷ cs) e rest
-after-goOn c cs (Reached t) rest = refl
-after-goOn c cs (Fault n p) rest = refl
+after-goOn : (i : Item) (is : List Item) (e : Ending) (rest : State → Run) → after i (goOn is e rest) ≡ goOn (i ∷ is) e rest
+after-goOn i is (Reached t) rest = refl
+after-goOn i is (Fault n p) rest = refl
 
-pub run-append : (s : State) (at : ℕ) (xs ys : List ℕ) → run s at (xs ++ ys) ≡ goOn (run s at xs .characters) (run s at xs .ending) (λ t. run t (at + length xs) ys)
+pub run-append : (s : State) (at : ℕ) (xs ys : List ℕ) → run s at (xs ++ ys) ≡ goOn (run s at xs .items) (run s at xs .ending) (λ t. run t (at + length xs) ys)
 unfolding run
 run-append s at [] ys = ap (λ (p : ℕ). run s p ys) (sym (add-zero at))
 run-append s at (b ∷ xs) ys = go (λ t. run-append t (suc at) xs ys ∙ moved t) (effectOf s b) refl
   where
-    moved : (t : State) → goOn (run t (suc at) xs .characters) (run t (suc at) xs .ending) (λ u. run u (suc at + length xs) ys)
-        ≡ goOn (run t (suc at) xs .characters) (run t (suc at) xs .ending) (λ u. run u (at + suc (length xs)) ys)
+    moved : (t : State) → goOn (run t (suc at) xs .items) (run t (suc at) xs .ending) (λ u. run u (suc at + length xs) ys)
+        ≡ goOn (run t (suc at) xs .items) (run t (suc at) xs .ending) (λ u. run u (at + suc (length xs)) ys)
     moved t =
         let place : suc at + length xs ≡ at + suc (length xs) = omega arith in
-        ap (λ (p : ℕ). goOn (run t (suc at) xs .characters) (run t (suc at) xs .ending) (λ u. run u p ys)) place
+        ap (λ (p : ℕ). goOn (run t (suc at) xs .items) (run t (suc at) xs .ending) (λ u. run u p ys)) place
 
-    go : ((t : State) → run t (suc at) (xs ++ ys) ≡ goOn (run t (suc at) xs .characters) (run t (suc at) xs .ending) (λ u. run u (at + suc (length xs)) ys))
+    go : ((t : State) → run t (suc at) (xs ++ ys) ≡ goOn (run t (suc at) xs .items) (run t (suc at) xs .ending) (λ u. run u (at + suc (length xs)) ys))
         → (e : Effect) → effectOf s b ≡ e
-        → run s at (b ∷ (xs ++ ys)) ≡ goOn (run s at (b ∷ xs) .characters) (run s at (b ∷ xs) .ending) (λ t. run t (at + suc (length xs)) ys)
+        → run s at (b ∷ (xs ++ ys)) ≡ goOn (run s at (b ∷ xs) .items) (run s at (b ∷ xs) .ending) (λ t. run t (at + suc (length xs)) ys)
     go later (Moved t) q = rw (q, run) (later t)
     go later (Flashed c) q =
-        rw (q, run) (ap (after c) (later s) ∙ after-goOn c (run s (suc at) xs .characters) (run s (suc at) xs .ending) (λ t. run t (at + suc (length xs)) ys))
+        rw (q, run) (ap (after (Placed c)) (later s) ∙ after-goOn (Placed c) (run s (suc at) xs .items) (run s (suc at) xs .ending) (λ t. run t (at + suc (length xs)) ys))
+    go later (Parted t) q =
+        rw (q, run) (ap (after Cut) (later t) ∙ after-goOn Cut (run t (suc at) xs .items) (run t (suc at) xs .ending) (λ u. run u (at + suc (length xs)) ys))
     go later (Refused n) q = rw (q, run)
 
-pub run-length : (s : State) (at : ℕ) (bs : List ℕ) → length (run s at bs .characters) ≤ length bs
+pub run-length : (s : State) (at : ℕ) (bs : List ℕ) → length (run s at bs .items) ≤ length bs
 unfolding run
 run-length s at [] = omega arith
 run-length s at (b ∷ bs) = go (λ t. run-length t (suc at) bs) (effectOf s b) refl
   where
-    go : ((t : State) → length (run t (suc at) bs .characters) ≤ length bs) → (e : Effect) → effectOf s b ≡ e → length (run s at (b ∷ bs) .characters) ≤ suc (length bs)
+    go : ((t : State) → length (run t (suc at) bs .items) ≤ length bs) → (e : Effect) → effectOf s b ≡ e → length (run s at (b ∷ bs) .items) ≤ suc (length bs)
     go later (Moved t) q = rw (q, run) (omega (arith, later t))
     go later (Flashed c) q = rw (q, run) (omega (arith, later s))
+    go later (Parted t) q = rw (q, run) (omega (arith, later t))
     go later (Refused n) q = rw (q, run) (omega arith)
+
+-- ---- an effect that sets an item and leaves a state
+
+pub data Sets (s : State) : Effect → Item → State → Type 0 where
+  flashed : {c : Character} → Sets s (Flashed c) (Placed c) s
+  parted : {t : State} → Sets s (Parted t) Cut t
 
 -- ---- a prefix of i bytes that reaches the state s, and the byte after it
 
 module _ (s₀ : State) (at : ℕ) (tape : List ℕ) (i : ℕ) where
   -- what the prefix sets
-  abbrev pub soFar : List Character
-  soFar = run s₀ at (take i tape) .characters
+  abbrev pub soFar : List Item
+  soFar = run s₀ at (take i tape) .items
 
   module _ (s : State) (ran : run s₀ at (take i tape) .ending ≡ Reached s) where
     follow : (ys : List ℕ) → i ≤ length tape → run s₀ at (take i tape ++ ys) ≡ goOn soFar (Reached s) (λ t. run t (at + i) ys)
@@ -78,25 +89,29 @@ module _ (s₀ : State) (at : ℕ) (tape : List ℕ) (i : ℕ) where
       next : run s₀ at (take (i + 1) tape) ≡ goOn soFar (Reached s) (λ t. run t (at + i) (getD tape i 0 ∷ []))
       next = ap (λ (k : ℕ). run s₀ at (take k tape)) (add-one i) ∙ ap (run s₀ at) (take-suc tape i 0 h) ∙ follow (getD tape i 0 ∷ []) (omega arith)
 
-      pub run-moved : {t : State} → effectOf s (getD tape i 0) ≡ Moved t → run s₀ at (take (i + 1) tape) ≡ record { characters = soFar; ending = Reached t }
+      pub run-moved : {t : State} → effectOf s (getD tape i 0) ≡ Moved t → run s₀ at (take (i + 1) tape) ≡ record { items = soFar; ending = Reached t }
       unfolding run
-      run-moved {t} e = next ∙ rw (e, run) (λ j. record { characters = append-nil soFar j; ending = Reached t })
+      run-moved {t} e = next ∙ rw (e, run) (λ j. record { items = append-nil soFar j; ending = Reached t })
 
-      pub run-flashed : {c : Character} → effectOf s (getD tape i 0) ≡ Flashed c → run s₀ at (take (i + 1) tape) ≡ record { characters = soFar ++ (c ∷ []); ending = Reached s }
+      pub run-set : {e : Effect} {x : Item} {t : State} → effectOf s (getD tape i 0) ≡ e → Sets s e x t → run s₀ at (take (i + 1) tape) ≡ record { items = soFar ++ (x ∷ []); ending = Reached t }
       unfolding run
-      run-flashed e = next ∙ rw (e, run)
+      run-set e flashed = next ∙ rw (e, run)
+      run-set e parted = next ∙ rw (e, run)
 
-      pub run-refused : {n : ℕ} → effectOf s (getD tape i 0) ≡ Refused n → run s₀ at tape ≡ record { characters = soFar; ending = Fault n (at + i) }
+      pub run-refused : {n : ℕ} → effectOf s (getD tape i 0) ≡ Refused n → run s₀ at tape ≡ record { items = soFar; ending = Fault n (at + i) }
       unfolding run
       run-refused {n} e =
           run-rest (omega arith)
-          ∙ rw (drop-cons tape i 0 h, e, run) (λ j. record { characters = append-nil soFar j; ending = Fault n (at + i) })
+          ∙ rw (drop-cons tape i 0 h, e, run) (λ j. record { items = append-nil soFar j; ending = Fault n (at + i) })
 
-      -- a character more fits among those of the whole tape
-      pub run-room : {c : Character} → effectOf s (getD tape i 0) ≡ Flashed c → length soFar + 1 ≤ length (run s₀ at tape .characters)
+      rest-set : {e : Effect} {x : Item} {t : State} → effectOf s (getD tape i 0) ≡ e → Sets s e x t
+          → run s (at + i) (drop i tape) .items ≡ x ∷ run t (suc (at + i)) (drop (suc i) tape) .items
       unfolding run
-      run-room {c} e =
-          let rest = run s (at + i) (drop i tape) .characters in
-          let more : rest ≡ c ∷ run s (suc (at + i)) (drop (suc i) tape) .characters = rw (drop-cons tape i 0 h, e, run) in
-          let all : length (run s₀ at tape .characters) ≡ length soFar + length rest = ap (λ (r : Run). length (r .characters)) (run-rest (omega arith)) ∙ length-append soFar rest in
-          omega (arith, all, ap length more)
+      rest-set e flashed = rw (drop-cons tape i 0 h, e, run)
+      rest-set e parted = rw (drop-cons tape i 0 h, e, run)
+
+      -- an item more is one of those of the whole tape
+      pub run-room : {e : Effect} {x : Item} {t : State} → effectOf s (getD tape i 0) ≡ e → Sets s e x t
+          → (more : List Item) × (run s₀ at tape .items ≡ soFar ++ (x ∷ more))
+      run-room {x = x} {t = t} e q =
+          (run t (suc (at + i)) (drop (suc i) tape) .items, ap (λ (r : Run). r .items) (run-rest (omega arith)) ∙ ap (λ (l : List Item). soFar ++ l) (rest-set e q))

@@ -1,5 +1,4 @@
--- Every step from a sound state leaves a sound state or sets a valid character, and so does every run; an accepted tape's galley is
--- one that the check accepts, with exactly the characters flashed.
+-- Every step from a sound state leaves a sound state or sets a valid character, and so does every run.
 -- Assumes nothing.
 use mathlib.Core.Path.{_≡_, refl, sym, ap, subst, _∙_}
 use mathlib.Core.Bool.{Bool, true, false, cond}
@@ -12,7 +11,7 @@ use lib.IntN.{ℤ, pos, negsuc, _+ℤ_, _-ℤ_}
 use lib.ListN.{length, getD}
 use lib.Signed.{leZ, _≤ℤ_}
 use Rattle.integers.specs.Parts.{integers, dif-parts, true-leZ}
-use Rattle.octets.specs.Answer.{Result, refusal, written, accepted, illegalCode, notInitialized, afterStop, stillParked, noSize, outOfRange, aboveHalf}
+use Rattle.octets.specs.Answer.{Result, refusal, written, accepted, illegalCode, notInitialized, afterCut, afterStop, stillParked, noSize, outOfRange, aboveHalf}
 use Rattle.measure.specs.declared.Carriage.{Carriage}
 use Rattle.measure.specs.declared.Carriage.the-variants as carriage
 use Rattle.measure.specs.declared.Height.{Height}
@@ -24,14 +23,14 @@ use Rattle.galley_file.specs.declared.character.Character.{Character}
 use Rattle.galley_file.specs.Font.{fontNumber, sizeIndex, isDouble}
 use Rattle.galley_file.specs.Character.{validX, valid}
 use Rattle.galley_file.specs.CharacterLaws.{parts-valid}
-use Rattle.galley_file.specs.Galley.{AllValid, none, more}
+use Rattle.galley_file.specs.Galley.{AllValid, nil, more}
 use Rattle.tape.specs.declared.code.Order.{Order}
-use Rattle.tape.specs.declared.code.Order.the-variants.{Flash, Rail, Mag, Half, EscapeWay, LeadWay, Tilt, Size, Stop, Lead, Escape}
+use Rattle.tape.specs.declared.code.Order.the-variants.{Flash, Rail, Mag, Half, EscapeWay, LeadWay, Tilt, Size, Stop, Cut, Lead, Escape}
 use Rattle.tape.specs.declared.code.Code.{Code}
 use Rattle.tape.specs.declared.code.Code.the-variants.{Ignored, Illegal, Initialize, Ordered}
 use Rattle.tape.specs.declared.machine.State.{State}
 use Rattle.tape.specs.declared.machine.Effect.{Effect}
-use Rattle.tape.specs.declared.machine.Effect.the-variants.{Moved, Flashed, Refused}
+use Rattle.tape.specs.declared.machine.Effect.the-variants.{Moved, Flashed, Parted, Refused}
 use Rattle.tape.specs.Code.{codeOf, controls}
 use Rattle.tape.specs.Machine.{start, noSizeYet, origin, initializedOf, fontAt, fontIn, pastHalf, codeIn, characterIn, leavesSwitch, withCarriage, toCarriage, toHeight, flashOf, escapeOf, leadOf, orderOf, codeEffect, effectOf}
 use Rattle.tape.specs.Tape.{Run, run}
@@ -49,6 +48,7 @@ Flashes (LeadWay back) = Unit {0}
 Flashes (Tilt down) = Unit {0}
 Flashes (Size index) = Unit {0}
 Flashes Stop = Unit {0}
+Flashes Cut = Unit {0}
 Flashes (Lead n) = Unit {0}
 Flashes (Escape n) = Unit {0}
 
@@ -136,6 +136,7 @@ set-valid s r v fv z a =
 abbrev Good : Effect → Type 0
 Good (Moved t) = Sound t
 Good (Flashed c) = valid c ≡ true
+Good (Parted t) = Sound t
 Good (Refused n) = Unit {0}
 
 good-cond : (t : Bool) (x y : Effect) → (t ≡ true → Good x) → (t ≡ false → Good y) → Good (cond t x y)
@@ -164,6 +165,9 @@ module _ (s : State) (r : Sound s) where
   good-carriage z (carriage.At c) e = record { carriage-in = carriage-in z c e .1; height-in = r .height-in }
   good-carriage z carriage.Outside e = tt
 
+  at-top : InRange heightEnd (pos 0)
+  at-top = record { low = omega integers; high = omega integers }
+
   at-origin : InRange carriageEnd (origin .0)
   at-origin = record { low = omega integers; high = omega integers }
 
@@ -187,6 +191,7 @@ module _ (s : State) (r : Sound s) where
   good-order (Tilt down) f = same _ refl refl
   good-order (Size index) f = same _ refl refl
   good-order Stop f = same _ refl refl
+  good-order Cut f = record { carriage-in = r .carriage-in; height-in = at-top }
   good-order (Lead n) f = let z = s .height .0 +ℤ directedBy (s .modes .«lead_back») n in good-height z (heightAt z) refl
   good-order (Escape n) f = good-escape n
 
@@ -197,8 +202,12 @@ module _ (s : State) (r : Sound s) where
   good-code Initialize f =
       good-cond (s .stopped) (Refused afterStop) (Moved (initializedOf s)) (λ _. tt) (λ _. record { carriage-in = at-origin; height-in = r .height-in })
   good-code (Ordered o) f =
-      good-cond (s .initialized) (cond (s .stopped) (Refused afterStop) (orderOf s o)) (Refused notInitialized)
-      (λ _. good-cond (s .stopped) (Refused afterStop) (orderOf s o) (λ _. tt) (λ _. good-order o f)) (λ _. tt)
+      let taken = cond (s .stopped) (Refused afterStop) (orderOf s o) in
+      good-cond (s .initialized) (cond (s .cut) (Refused afterCut) taken) (Refused notInitialized)
+      (λ _.
+      good-cond (s .cut) (Refused afterCut) taken (λ _. tt)
+      (λ _. good-cond (s .stopped) (Refused afterStop) (orderOf s o) (λ _. tt) (λ _. good-order o f)))
+      (λ _. tt)
 
   good : (b : ℕ) → Good (effectOf s b)
   unfolding effectOf
@@ -206,6 +215,9 @@ module _ (s : State) (r : Sound s) where
 
   pub stays-sound : (b : ℕ) {t : State} → effectOf s b ≡ Moved t → Sound t
   stays-sound b e = subst Good e (good b)
+
+  pub parted-sound : (b : ℕ) {t : State} → effectOf s b ≡ Parted t → Sound t
+  parted-sound b e = subst Good e (good b)
 
   pub flashed-valid : (b : ℕ) {c : Character} → effectOf s b ≡ Flashed c → valid c ≡ true
   flashed-valid b e = subst Good e (good b)
@@ -216,12 +228,13 @@ start-sound =
 
 -- ---- runs
 
-pub run-valid : (s : State) (at : ℕ) (bs : List ℕ) → Sound s → AllValid (run s at bs .characters)
+pub run-valid : (s : State) (at : ℕ) (bs : List ℕ) → Sound s → AllValid (run s at bs .items)
 unfolding run
-run-valid s at [] r = none
+run-valid s at [] r = nil
 run-valid s at (b ∷ bs) r = go (λ t q. run-valid t (suc at) bs q) (effectOf s b) refl
   where
-    go : ((t : State) → Sound t → AllValid (run t (suc at) bs .characters)) → (e : Effect) → effectOf s b ≡ e → AllValid (run s at (b ∷ bs) .characters)
+    go : ((t : State) → Sound t → AllValid (run t (suc at) bs .items)) → (e : Effect) → effectOf s b ≡ e → AllValid (run s at (b ∷ bs) .items)
     go later (Moved t) q = rw (q, run) (later t (stays-sound s r b q))
     go later (Flashed c) q = rw (q, run) (more (flashed-valid s r b q) (later s r))
-    go later (Refused n) q = rw (q, run) none
+    go later (Parted t) q = rw (q, run) (more refl (later t (parted-sound s r b q)))
+    go later (Refused n) q = rw (q, run) nil

@@ -1,5 +1,5 @@
 -- What reading a tape gives (document 01, "Numbers given back").
---     Run            a run over some bytes: the characters flashed, in order, and the state reached or the first refusal
+--     Run            a run over some bytes: the characters flashed and the cuts, in order, and the state reached or the first refusal
 --     run            from a state, with the next byte at a place
 --     readResult     a tape within the limit, read from a state into a buffer of so many bytes
 --     tapeResult     any tape, read from the start
@@ -8,12 +8,13 @@ use mathlib.Core.Bool.{cond}
 use mathlib.Core.List.{List, [], _∷_}
 use lib.Dec.{ltb}
 use lib.ListN.{length}
-use Rattle.octets.specs.Answer.{Result, refusal, written, ifRoom, tapeTooLong, noStop, noGalleyRoom}
-use Rattle.galley_file.specs.declared.character.Character.{Character}
+use Rattle.octets.specs.Answer.{Result, refusal, written, ifRoom, tapeTooLong, afterCut, noStop, noGalleyRoom}
+use Rattle.galley_file.specs.declared.item.Item.{Item}
+use Rattle.galley_file.specs.declared.item.Item.the-variants.{Placed, Cut}
 use Rattle.galley_file.specs.Galley.{galley}
 use Rattle.tape.specs.declared.machine.State.{State}
 use Rattle.tape.specs.declared.machine.Effect.{Effect}
-use Rattle.tape.specs.declared.machine.Effect.the-variants.{Moved, Flashed, Refused}
+use Rattle.tape.specs.declared.machine.Effect.the-variants.{Moved, Flashed, Parted, Refused}
 use Rattle.tape.specs.declared.Ending.{Ending}
 use Rattle.tape.specs.declared.Ending.the-variants.{Reached, Fault}
 use Rattle.tape.specs.Machine.{start, effectOf}
@@ -22,30 +23,31 @@ abbrev pub maxTape : ℕ
 maxTape = 1048576
 
 pub record Run : Type 0 where
-  pub characters : List Character
+  pub items : List Item
   pub ending : Ending
 
--- the same run with a character before it
-abbrev pub after : Character → Run → Run
-after c r = record { characters = c ∷ r .characters; ending = r .ending }
+-- the same run with an item before it
+abbrev pub after : Item → Run → Run
+after i r = record { items = i ∷ r .items; ending = r .ending }
 
 unfoldable pub run : State → ℕ → List ℕ → Run
-run s at [] = record { characters = []; ending = Reached s }
+run s at [] = record { items = []; ending = Reached s }
 run s at (b ∷ bs) =
     elim (effectOf s b) [
       | Moved t ↦ run t (suc at) bs
-      | Flashed c ↦ after c (run s (suc at) bs)
-      | Refused n ↦ record { characters = []; ending = Fault n at }
+      | Flashed c ↦ after (Placed c) (run s (suc at) bs)
+      | Parted t ↦ after Cut (run t (suc at) bs)
+      | Refused n ↦ record { items = []; ending = Fault n at }
     ]
 
--- at the end of a tape of so many bytes: the first refusal; 9 without stop; else the galley of its characters
-abbrev pub closing : ℕ → List Character → Ending → Result
-closing len cs (Reached s) = cond (s .stopped) (written (galley cs)) (refusal noStop len)
-closing len cs (Fault n place) = refusal n place
+-- at the end of a tape of so many bytes: the first refusal; 10 after a cut; 9 without stop; else the galley of its items
+abbrev pub closing : ℕ → List Item → Ending → Result
+closing len is (Reached s) = cond (s .cut) (refusal afterCut len) (cond (s .stopped) (written (galley is)) (refusal noStop len))
+closing len is (Fault n place) = refusal n place
 
 -- 12 last
 unfoldable pub readResult : State → List ℕ → ℕ → Result
-readResult s tape room = ifRoom noGalleyRoom room (closing (length tape) (run s 0 tape .characters) (run s 0 tape .ending))
+readResult s tape room = ifRoom noGalleyRoom room (closing (length tape) (run s 0 tape .items) (run s 0 tape .ending))
 
 -- 1 first
 unfoldable pub tapeResult : List ℕ → ℕ → Result

@@ -15,6 +15,7 @@ pub enum Order {
     Tilt(bool),
     Size(u8),
     Stop,
+    Cut,
     Lead(u8),
     Escape(u8),
 }
@@ -57,6 +58,7 @@ fn control(low: u8) -> Code
         8 => Code::Ordered(Order::EscapeWay(true)),
         9 => Code::Ordered(Order::Stop),
         10 => Code::Ordered(Order::LeadWay(false)),
+        11 => Code::Ordered(Order::Cut),
         12 => Code::Ordered(Order::LeadWay(true)),
         14 => Code::Ordered(Order::Tilt(false)),
         15 => Code::Ordered(Order::Tilt(true)),

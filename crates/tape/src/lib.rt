@@ -4,10 +4,10 @@ mod machine;
 mod quick;
 
 use galley_file::character;
-use galley_file::character::Character;
+use galley_file::item;
+use galley_file::item::Item;
 use machine::Effect;
 use machine::State;
-use measure::Height;
 use octets::answer;
 use octets::answer::Answer;
 use octets::field;
@@ -16,9 +16,11 @@ ghost use mathlib.Core.Bool.{true};
 ghost use Prim.Native.Nat.{_+_, _*_, _≤_};
 ghost use lib.ListN.{length};
 ghost use Rattle.octets.specs.Answer.{outcomeOf, outcome, after};
+ghost use Rattle.galley_file.specs.Item.{itemSize};
+ghost use Rattle.galley_file.specs.Galley.{fields};
 ghost use Rattle.tape.specs.Sound.{Sound};
 ghost use Rattle.tape.specs.Tape.{maxTape, run, readResult, tapeResult};
-ghost use Rattle.tape.specs.Pass.{putNth, Passed};
+ghost use Rattle.tape.specs.Pass.{putAt, Passed};
 
 pub const MAX_TAPE: usize = 1_048_576;
 
@@ -28,77 +30,73 @@ pub enum Ending {
     Fault(u8, usize),
 }
 
-// What a pass finds: the number of characters, and how it ends.
+// What a pass finds: the number of characters, the bytes of the cuts' fields, and how it ends.
 pub struct Reading {
     pub count: usize,
+    pub cuts: usize,
     pub ending: Ending,
 }
 
-// Writes a character's field as the one after n others, if writing.
-fn put_nth(writing: bool, out: &mut [u8], n: usize, c: Character)
-    requires { ⌜ (writing ≡ true → 9 * n + 9 ≤ length (now out)) ⌝ }
-    ensures { λ _. ⌜ now (out .exit) ≡ putNth writing n c (now (out .entry)) ⌝ }
+// Writes an item's field after `count` characters and so many bytes of cuts, if writing.
+fn put_after(writing: bool, out: &mut [u8], count: usize, cuts: usize, i: Item)
+    requires { ⌜ (count ≤ maxTape) × (cuts ≤ 3 * maxTape) ⌝ }
+    requires { ⌜ (writing ≡ true → 9 * count + cuts + itemSize i ≤ length (now out)) ⌝ }
+    ensures { λ _. ⌜ now (out .exit) ≡ putAt writing count cuts i (now (out .entry)) ⌝ }
 {
     if writing {
-        character::put_character(out, character::FIELD * n, c);
+        item::put_item(out, character::FIELD * count + cuts, i);
     }
 }
 
-// One pass over the bytes of a tape from the place `at`, on a machine in the state `first`. It writes the characters' fields, if writing.
+// One pass over the bytes of a tape from the place `at`, on a machine in the state `first`. It writes the items' fields, if writing.
 fn pass(first: State, at: usize, tape: &[u8], out: &mut [u8], writing: bool) -> Reading
     requires { ⌜ (Sound first) × (at + length (now tape) ≤ maxTape) ⌝ }
-    requires { ⌜ (writing ≡ true → 9 * length (run first at (now tape) .characters) ≤ length (now out)) ⌝ }
+    requires { ⌜ (writing ≡ true → length (fields (run first at (now tape) .items)) ≤ length (now out)) ⌝ }
     ensures { λ r. ⌜ Passed (run first at (now (tape .entry))) writing (now (out .entry)) r (now (out .exit)) ⌝ }
 {
     let mut s = first;
     let mut d = quick::derived_of(first);
     let mut count: usize = 0;
+    let mut cuts: usize = 0;
     let mut i: usize = 0;
     while i < tape.len() {
-        let r = quick::quick_stretch(writing, s, d, tape, i, count, out);
+        let r = quick::quick_stretch(writing, s, d, tape, i, count, cuts, out);
         let place = r.carriage;
         s.carriage = place;
         count = r.count;
         i = r.next;
         if i < tape.len() {
-            let b = tape[i];
-            if quick::takes_turn(s, b) {
-                let modes = quick::modes_after(s.modes, b);
-                let size = quick::size_after(s.size, b);
-                s.modes = modes;
-                s.size = size;
-                d = quick::derived_of(s);
-                i += 1;
-            } else {
-                match quick::led(s, b) {
-                    Height::At(h) => {
-                        s.height = h;
-                        i += 1;
-                    }
-                    Height::Outside => match machine::step(s, b) {
-                        Effect::Moved(next) => {
-                            s = next;
-                            d = quick::derived_of(next);
-                            i += 1;
-                        }
-                        Effect::Flashed(c) => {
-                            put_nth(writing, out, count, c);
-                            count += 1;
-                            i += 1;
-                        }
-                        Effect::Refused(n) => {
-                            return Reading {
-                                count: count,
-                                ending: Ending::Fault(n, at + i),
-                            };
-                        }
-                    },
+            match quick::effect_of(s, tape[i]) {
+                Effect::Moved(next) => {
+                    s = next;
+                    d = quick::derived_of(next);
+                    i += 1;
+                }
+                Effect::Flashed(c) => {
+                    put_after(writing, out, count, cuts, Item::Placed(c));
+                    count += 1;
+                    i += 1;
+                }
+                Effect::Parted(next) => {
+                    put_after(writing, out, count, cuts, Item::Cut);
+                    cuts += item::CUT_FIELD;
+                    s = next;
+                    d = quick::derived_of(next);
+                    i += 1;
+                }
+                Effect::Refused(n) => {
+                    return Reading {
+                        count: count,
+                        cuts: cuts,
+                        ending: Ending::Fault(n, at + i),
+                    };
                 }
             }
         }
     }
     Reading {
         count: count,
+        cuts: cuts,
         ending: Ending::Reached(s),
     }
 }
@@ -110,12 +108,15 @@ fn read_from(first: State, tape: &[u8], galley: &mut [u8]) -> Answer
 {
     let r = pass(first, 0, tape, galley, false);
     let count = r.count;
+    let start = character::FIELD * count + r.cuts;
     let ending = r.ending;
     match ending {
         Ending::Fault(n, place) => Answer::Refused(n, place),
         Ending::Reached(s) => {
+            if s.cut {
+                return Answer::Refused(answer::AFTER_CUT, tape.len());
+            }
             if s.stopped {
-                let start = character::FIELD * count;
                 let needed = start + field::END_FIELD;
                 if galley.len() < needed {
                     return Answer::Refused(answer::NO_GALLEY_ROOM, needed);

@@ -30,6 +30,8 @@ pub struct State {
     pub initialized: bool,
     pub parked: bool,
     pub stopped: bool,
+    // A cut came last: initialize has to follow.
+    pub cut: bool,
     pub modes: Modes,
     // The size index, or NO_SIZE_YET.
     pub size: u8,
@@ -37,10 +39,11 @@ pub struct State {
     pub height: Quanta,
 }
 
-// What one code does: it leaves another state, sets a character, or is refused.
+// What one code does: it leaves another state, sets a character, ends the page, or is refused.
 pub enum Effect {
     Moved(State),
     Flashed(Character),
+    Parted(State),
     Refused(u8),
 }
 
@@ -76,6 +79,7 @@ pub fn at_start() -> State
         initialized: false,
         parked: false,
         stopped: false,
+        cut: false,
         modes: modes,
         size: NO_SIZE_YET,
         carriage: Units(0),
@@ -93,6 +97,7 @@ fn initialized(s: State) -> State
         initialized: true,
         parked: true,
         stopped: s.stopped,
+        cut: false,
         modes: modes,
         size: s.size,
         carriage: Units(0),
@@ -247,6 +252,12 @@ fn obey(s: State, o: Order) -> Effect
             next.stopped = true;
             Effect::Moved(next)
         }
+        Order::Cut => {
+            let top = Quanta(0);
+            next.cut = true;
+            next.height = top;
+            Effect::Parted(next)
+        }
         Order::Lead(by) => lead(s, by),
         Order::Escape(by) => escape(s, by),
     }
@@ -269,7 +280,9 @@ pub fn step(s: State, b: u8) -> Effect
         }
         Code::Ordered(o) => {
             if s.initialized {
-                if s.stopped {
+                if s.cut {
+                    Effect::Refused(answer::AFTER_CUT)
+                } else if s.stopped {
                     Effect::Refused(answer::AFTER_STOP)
                 } else {
                     obey(s, o)

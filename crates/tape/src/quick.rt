@@ -1,6 +1,7 @@
 // The commonest codes without the whole step: 00 and the flashes and escapes that are taken, in stretches; leads; and the codes that turn a mode or set a size.
 use crate::code;
 use crate::machine;
+use crate::machine::Effect;
 use crate::machine::Modes;
 use crate::machine::State;
 use galley_file::character;
@@ -13,6 +14,7 @@ ghost use mathlib.Core.Path.{_≡_};
 ghost use mathlib.Core.Bool.{true, false};
 ghost use mathlib.Core.List.{List};
 ghost use Prim.Native.Nat.{ℕ, _≤_};
+ghost use Rattle.tape.specs.Machine.{effectOf};
 ghost use Rattle.tape.specs.Sound.{Sound};
 ghost use Rattle.tape.specs.Quick.{Running, halfSize, DerivedFrom, Takes, escapeBy, flashesIn, Turn, turnedBy, modesAfter, sizeAfter, Leads, placed, stretchAt, Quickly};
 ghost use Rattle.tape.specs.Pass.{Further};
@@ -61,12 +63,16 @@ fn with_carriage(s: State, c: Units) -> State
     t
 }
 
-// Initialized, not stopped and past the left switch.
+// Initialized, not stopped or cut, and past the left switch.
 fn running(s: State) -> bool
     ensures { λ r. ⌜ (r ≡ true → Running s) ⌝ }
 {
     if s.initialized {
-        if s.stopped { false } else { !s.parked }
+        if s.cut {
+            false
+        } else {
+            if s.stopped { false } else { !s.parked }
+        }
     } else {
         false
     }
@@ -170,7 +176,7 @@ fn flashes_in(b: u8) -> usize
 // A stretch from `from` on, after `before` characters: counts. Flashes and escapes mix at random, so no branch tells them apart.
 fn count_stretch(s: State, d: Derived, tape: &[u8], from: usize, before: usize) -> Stretch
     requires { ⌜ ((Sound s) × (DerivedFrom s d)) × (before ≤ from) ⌝ }
-    ensures { λ r. ⌜ ((out : List ℕ) → Further false (now (tape .entry)) out s before from r out) ⌝ }
+    ensures { λ r. ⌜ ((out : List ℕ) (cuts : ℕ) → Further false (now (tape .entry)) out s before cuts from r out) ⌝ }
 {
     let mut r = at_state(s, from, before);
     while r.next < tape.len() {
@@ -194,20 +200,24 @@ fn count_stretch(s: State, d: Derived, tape: &[u8], from: usize, before: usize) 
     r
 }
 
-// A stretch from `from` on, after `before` characters: writes their fields, as long as there is room.
+// A stretch from `from` on, after `before` characters and so many bytes of cuts: writes their fields, as long as there is room.
 fn write_stretch(
     s: State,
     d: Derived,
     tape: &[u8],
     from: usize,
     before: usize,
+    cuts: usize,
     out: &mut [u8],
 ) -> Stretch
     requires { ⌜ ((Sound s) × (DerivedFrom s d)) × (before ≤ from) ⌝ }
-    ensures { λ r. ⌜ Further true (now (tape .entry)) (now (out .entry)) s before from r (now (out .exit)) ⌝ }
+    ensures { λ r. ⌜ Further true (now (tape .entry)) (now (out .entry)) s before cuts from r (now (out .exit)) ⌝ }
 {
-    let room = out.len() / character::FIELD;
     let mut r = at_state(s, from, before);
+    if out.len() < cuts {
+        return r;
+    }
+    let room = (out.len() - cuts) / character::FIELD;
     while r.next < tape.len() {
         let i = r.next;
         match quick_step(with_carriage(s, r.carriage), d, tape[i]) {
@@ -215,7 +225,7 @@ fn write_stretch(
                 if room <= r.count {
                     return r;
                 }
-                character::put_character(out, character::FIELD * r.count, c);
+                character::put_character(out, character::FIELD * r.count + cuts, c);
                 r.count += 1;
                 r.next += 1;
             }
@@ -231,7 +241,7 @@ fn write_stretch(
     r
 }
 
-// A stretch from `from` on, after `before` characters; writes their fields, if writing.
+// A stretch from `from` on, after `before` characters and so many bytes of cuts; writes their fields, if writing.
 pub fn quick_stretch(
     writing: bool,
     s: State,
@@ -239,13 +249,14 @@ pub fn quick_stretch(
     tape: &[u8],
     from: usize,
     before: usize,
+    cuts: usize,
     out: &mut [u8],
 ) -> Stretch
     requires { ⌜ ((Sound s) × (DerivedFrom s d)) × (before ≤ from) ⌝ }
-    ensures { λ r. ⌜ Further writing (now (tape .entry)) (now (out .entry)) s before from r (now (out .exit)) ⌝ }
+    ensures { λ r. ⌜ Further writing (now (tape .entry)) (now (out .entry)) s before cuts from r (now (out .exit)) ⌝ }
 {
     if writing {
-        write_stretch(s, d, tape, from, before, out)
+        write_stretch(s, d, tape, from, before, cuts, out)
     } else {
         count_stretch(s, d, tape, from, before)
     }
@@ -274,7 +285,7 @@ fn turns(b: u8) -> bool
 }
 
 // Whether b turns a mode or sets a size of a running machine.
-pub fn takes_turn(s: State, b: u8) -> bool
+fn takes_turn(s: State, b: u8) -> bool
     ensures { λ r. ⌜ (r ≡ true → ((Running s) × (Turn b))) ⌝ }
 {
     if running(s) { turns(b) } else { false }
@@ -292,7 +303,7 @@ fn turned(mode: bool, b: u8, on: u8, off: u8) -> bool
 }
 
 // The modes after a code that turns one or sets a size. Which one comes is hard to foresee, so every mode is computed.
-pub fn modes_after(m: Modes, b: u8) -> Modes
+fn modes_after(m: Modes, b: u8) -> Modes
     ensures { λ r. ⌜ r ≡ modesAfter m b ⌝ }
 {
     Modes {
@@ -306,14 +317,14 @@ pub fn modes_after(m: Modes, b: u8) -> Modes
 }
 
 // The size after a code that turns a mode or sets a size.
-pub fn size_after(size: u8, b: u8) -> u8
+fn size_after(size: u8, b: u8) -> u8
     ensures { λ r. ⌜ r ≡ sizeAfter size b ⌝ }
 {
     if b < 0x50 { size } else { b - 0x50 }
 }
 
 // The height after b, where b is a lead that a running machine takes; Outside is every other code and every refusal.
-pub fn led(s: State, b: u8) -> Height
+fn led(s: State, b: u8) -> Height
     ensures { λ r. ⌜ Leads s b r ⌝ }
 {
     if b >> 5 != 3 {
@@ -323,5 +334,27 @@ pub fn led(s: State, b: u8) -> Height
         s.height.lead(code::lead_size(b), s.modes.lead_back)
     } else {
         Height::Outside
+    }
+}
+
+// What any code does: a turn or a lead of a running machine by the quick ways, every other code by the whole step.
+pub fn effect_of(s: State, b: u8) -> Effect
+    requires { ⌜ Sound s ⌝ }
+    ensures { λ r. ⌜ r ≡ effectOf s b ⌝ }
+{
+    let mut next = s;
+    if takes_turn(s, b) {
+        let modes = modes_after(s.modes, b);
+        let size = size_after(s.size, b);
+        next.modes = modes;
+        next.size = size;
+        return Effect::Moved(next);
+    }
+    match led(s, b) {
+        Height::At(h) => {
+            next.height = h;
+            Effect::Moved(next)
+        }
+        Height::Outside => machine::step(s, b),
     }
 }

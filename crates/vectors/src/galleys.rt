@@ -1,4 +1,4 @@
-// Galleys, by the rules of document 01, "Galley" and "Numbers given back". In each case of a check: the galley, the number and the place of
+// Galleys, by the rules of document 01, "Galley" and "Numbers given back", and of document 02, "Software cuts". In each case of a check: the galley, the number and the place of
 // the answer, and the number of characters.
 use crate::cases::check_case;
 use crate::cases::found_case;
@@ -319,4 +319,79 @@ pub fn read_back() {
     lost_case(b"\x01\x00\x06\x00\x00\x00\x00\x00\x01", 5, 41, 9);
     // 41 even where the character asked for is good
     lost_case(b"\x01\x00\x06\x00\x00\x00\x00\x00\x01\x02", 0, 41, 9);
+}
+
+pub fn cuts() {
+    // a cut alone: no characters
+    check_case(b"\x06\x00\x00\x02\x00\x04\x00\x00\x00\x00", 0, 0, 0);
+    // End counts the cut
+    check_case(b"\x06\x00\x00\x02\x00\x04\x00\x00\x00\x01", 41, 3, 0);
+    // cuts before, between and after characters
+    check_case(
+        b"\x06\x00\x00\x01\x00\x06\x00\x00\x00\x00\x02\x01\x06\x00\x00\x06\x00\x00\x01\x00\x06\x00\x03\x00\x00\x02\x02\x06\x00\x00\x02\x00\x04\x00\x00\x00\x02",
+        0,
+        0,
+        2,
+    );
+    // End counts characters and cuts
+    check_case(
+        b"\x01\x00\x06\x00\x00\x00\x00\x02\x01\x06\x00\x00\x02\x00\x04\x00\x00\x00\x02",
+        41,
+        12,
+        0,
+    );
+    // a cut with a body
+    check_case(b"\x06\x00\x01\x00\x02\x00\x04\x00\x00\x00\x00", 41, 0, 0);
+    // a cut's length with a high byte
+    check_case(b"\x06\x01\x00\x02\x00\x04\x00\x00\x00\x00", 41, 0, 0);
+    // a cut cut short
+    check_case(b"\x06\x00", 41, 0, 0);
+    // End is missing after a cut, at the length
+    check_case(b"\x06\x00\x00", 41, 3, 0);
+    // tag 7
+    check_case(b"\x07\x00\x00\x02\x00\x04\x00\x00\x00\x00", 41, 0, 0);
+    // a bad character after two cuts
+    check_case(
+        b"\x06\x00\x00\x06\x00\x00\x01\x00\x06\x00\x00\x00\x00\x78\x01\x02\x00\x04\x00\x00\x00\x01",
+        41,
+        6,
+        0,
+    );
+    // one byte after End
+    check_case(b"\x06\x00\x00\x02\x00\x04\x00\x00\x00\x00\x00", 41, 10, 0);
+    // a cut after End
+    check_case(b"\x02\x00\x04\x00\x00\x00\x00\x06\x00\x00", 41, 7, 0);
+}
+
+// Reading back counts characters only.
+pub fn past_cuts() {
+    // the first, after a cut
+    found_case(
+        b"\x06\x00\x00\x01\x00\x06\x00\x00\x00\x00\x02\x01\x06\x00\x00\x01\x00\x06\x00\x03\x00\x00\x02\x02\x02\x00\x04\x00\x00\x00\x02",
+        0,
+        0,
+        0,
+        2,
+        1,
+    );
+    // the second, after another
+    found_case(
+        b"\x06\x00\x00\x01\x00\x06\x00\x00\x00\x00\x02\x01\x06\x00\x00\x01\x00\x06\x00\x03\x00\x00\x02\x02\x02\x00\x04\x00\x00\x00\x02",
+        1,
+        3,
+        0,
+        2,
+        2,
+    );
+    // 11: there are two
+    lost_case(
+        b"\x06\x00\x00\x01\x00\x06\x00\x00\x00\x00\x02\x01\x06\x00\x00\x01\x00\x06\x00\x03\x00\x00\x02\x02\x02\x00\x04\x00\x00\x00\x02",
+        2,
+        11,
+        0,
+    );
+    // 11: a cut is no character
+    lost_case(b"\x06\x00\x00\x02\x00\x04\x00\x00\x00\x00", 0, 11, 0);
+    // 41 before 11
+    lost_case(b"\x06\x00\x00", 0, 41, 3);
 }

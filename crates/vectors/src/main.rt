@@ -1,5 +1,5 @@
 // Directed cases of reading tapes, of the check and of reading back, run and compared. Each dot is a case that came out right; expected
-// answers are worked out by hand from document 01.
+// answers are worked out by hand from documents 01 and 02.
 mod cases;
 mod galleys;
 mod limits;
@@ -21,6 +21,8 @@ fn run_tapes() {
     tapes::sizes();
     line(b"fonts");
     tapes::fonts();
+    line(b"cuts");
+    tapes::cuts();
 }
 
 fn run_limits() {
@@ -46,6 +48,10 @@ fn run_galleys() {
     galleys::values();
     line(b"read back");
     galleys::read_back();
+    line(b"with cuts");
+    galleys::cuts();
+    line(b"past cuts");
+    galleys::past_cuts();
 }
 
 fn main() {

@@ -1,4 +1,4 @@
-// Tapes, by the rules of document 01, "Tape codes" and "Numbers given back". In each case: the tape, the bytes of the buffer, the number
+// Tapes, by the rules of document 01, "Tape codes" and "Numbers given back", and of document 02, "Software cuts". In each case: the tape, the bytes of the buffer, the number
 // and the place of the answer, and the bytes written.
 use crate::cases::tape_case;
 
@@ -17,8 +17,8 @@ pub fn at_the_start() {
     );
     // 2 before 3 at one byte: FF
     tape_case(b"\xFF", 256, 2, 0, b"");
-    // 4B
-    tape_case(b"\x4B", 256, 2, 0, b"");
+    // 3: a cut
+    tape_case(b"\x4B", 256, 3, 0, b"");
     // 4D
     tape_case(b"\x4D", 256, 2, 0, b"");
     // 5F
@@ -461,4 +461,83 @@ pub fn room() {
     tape_case(b"\xEF", 0, 3, 0, b"");
     // 9 comes before room
     tape_case(b"\x40", 0, 9, 1, b"");
+}
+
+pub fn cuts() {
+    // a cut, parked; End counts no cut
+    tape_case(
+        b"\x40\x4B\x40\x49",
+        256,
+        0,
+        0,
+        b"\x06\x00\x00\x02\x00\x04\x00\x00\x00\x00",
+    );
+    // 00 between a cut and initialize
+    tape_case(
+        b"\x40\x4B\x00\x40\x49",
+        256,
+        0,
+        0,
+        b"\x06\x00\x00\x02\x00\x04\x00\x00\x00\x00",
+    );
+    // two cuts: an empty page
+    tape_case(
+        b"\x40\x4B\x40\x4B\x40\x49",
+        256,
+        0,
+        0,
+        b"\x06\x00\x00\x06\x00\x00\x02\x00\x04\x00\x00\x00\x00",
+    );
+    // 10 at the length
+    tape_case(b"\x40\x4B", 256, 10, 2, b"");
+    // 10, not 9, at the length, 00 counted
+    tape_case(b"\x40\x4B\x00\x00", 256, 10, 4, b"");
+    // 10: a cut after a cut
+    tape_case(b"\x40\x4B\x4B", 256, 10, 2, b"");
+    // 10: stop after a cut
+    tape_case(b"\x40\x4B\x49", 256, 10, 2, b"");
+    // 10 before 5: a flash after a cut
+    tape_case(b"\x40\x4B\x01", 256, 10, 2, b"");
+    // 10 before 5: an escape of 15 after a cut, 00 between
+    tape_case(b"\x40\x4B\x00\xF0", 256, 10, 3, b"");
+    // 10 before 7: a lead backward after a cut
+    tape_case(b"\x40\x4C\x4B\x7E", 256, 10, 3, b"");
+    // 2 before 10
+    tape_case(b"\x40\x4B\xFF", 256, 2, 2, b"");
+    // 3 before 10: no initialize yet
+    tape_case(b"\x00\x4B\x01", 256, 3, 1, b"");
+    // 4: a cut after stop
+    tape_case(b"\x40\x49\x4B", 256, 4, 2, b"");
+    // the height is 0 after a cut, and the size stays
+    tape_case(
+        b"\x40\xEF\x52\x7E\x01\x4B\x40\xEF\x01\x49",
+        256,
+        0,
+        0,
+        b"\x01\x00\x06\x00\x00\x00\x01\x11\x01\x06\x00\x00\x01\x00\x06\x00\x00\x00\x00\x11\x01\x02\x00\x04\x00\x00\x00\x02",
+    );
+    // 7: height 0 less 1
+    tape_case(b"\x40\x7E\x4B\x40\x4C\x7E", 256, 7, 5, b"");
+    // initialize turns tilt down again
+    tape_case(
+        b"\x40\xEF\x52\x4E\x01\x4B\x40\xEF\x01\x49",
+        256,
+        0,
+        0,
+        b"\x01\x00\x06\x00\x00\x00\x00\x02\x01\x06\x00\x00\x01\x00\x06\x00\x00\x00\x00\x11\x01\x02\x00\x04\x00\x00\x00\x02",
+    );
+    // 5: parked again after the cut's initialize
+    tape_case(b"\x40\xEF\x52\x01\x4B\x40\x01", 256, 5, 6, b"");
+    // 12: the bytes needed for a cut and End
+    tape_case(b"\x40\x4B\x40\x49", 9, 12, 10, b"");
+    // room for just these
+    tape_case(
+        b"\x40\x4B\x40\x49",
+        10,
+        0,
+        0,
+        b"\x06\x00\x00\x02\x00\x04\x00\x00\x00\x00",
+    );
+    // 10 before 12
+    tape_case(b"\x40\x4B", 0, 10, 2, b"");
 }

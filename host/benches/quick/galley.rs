@@ -2,55 +2,102 @@
 
 use super::{accepted, refused};
 
+/// Characters and cuts in a galley, together.
+const MOST: usize = 1_048_576;
+
 pub fn check_galley(galley: &[u8]) -> [usize; 3] {
     match count(galley) {
-        Ok(count) => accepted(count),
+        Ok(count) => accepted(count.characters),
         Err(refusal) => refused(refusal),
     }
 }
 
 pub fn read_back(galley: &[u8], n: usize) -> ([usize; 3], [i32; 4]) {
-    match count(galley) {
-        Err(refusal) => (refused(refusal), [0; 4]),
-        Ok(count) if n >= count => (refused((11, 0)), [0; 4]),
-        Ok(_) => {
-            let (word, code) = split(galley[9 * n..].first_chunk().unwrap());
+    let count = match count(galley) {
+        Ok(count) => count,
+        Err(refusal) => return (refused(refusal), [0; 4]),
+    };
+    let mut left = n;
+    for page in pages(galley, count) {
+        if let Some(field) = page.get(left) {
+            let (word, code) = split(field);
             let character = [across(word), height(word), font_number(word) as i32, code.into()];
-            (accepted(0), character)
+            return (accepted(0), character);
         }
+        left -= page.len();
     }
+    (refused((11, 0)), [0; 4])
 }
 
-/// The number of characters, or the refusal.
-pub fn count(galley: &[u8]) -> Result<usize, (usize, usize)> {
+/// How many characters and cuts a galley has.
+#[derive(Clone, Copy)]
+pub struct Count {
+    pub characters: usize,
+    pub cuts: usize,
+}
+
+/// The numbers of characters and cuts, or the refusal.
+pub fn count(galley: &[u8]) -> Result<Count, (usize, usize)> {
     if galley.len() > 9_437_191 {
         return Err((40, 0));
     }
-    let (fields, _) = galley.as_chunks();
-    let count = good_fields(fields);
-    let place = 9 * count;
-    match galley[place..] {
-        [2, 0, 4, a, b, c, d, ref more @ ..] if u32::from_be_bytes([a, b, c, d]) as usize == count => {
-            if more.is_empty() {
-                Ok(count)
-            } else {
-                Err((41, place + 7))
+    let mut count = Count { characters: 0, cuts: 0 };
+    let mut place = 0;
+    loop {
+        let most = MOST - count.characters - count.cuts;
+        let (fields, _) = galley[place..].as_chunks();
+        let run = good_fields(&fields[..fields.len().min(most)]);
+        count.characters += run;
+        place += 9 * run;
+        match galley[place..] {
+            [6, 0, 0, ..] if run < most => {
+                count.cuts += 1;
+                place += 3;
             }
+            [2, 0, 4, a, b, c, d] if counts(count.characters, [a, b, c, d]) => return Ok(count),
+            [2, 0, 4, a, b, c, d, ..] if counts(count.characters, [a, b, c, d]) => {
+                return Err((41, place + 7));
+            }
+            _ => return Err((41, place)),
         }
-        _ => Err((41, place)),
     }
 }
 
-/// How many good character fields come first. Runs of 64 are tested without a branch for each.
+/// Whether End's body counts so many characters.
+fn counts(characters: usize, body: [u8; 4]) -> bool {
+    u32::from_be_bytes(body) as usize == characters
+}
+
+/// How many good character fields come first. Runs of 64 are tested without a branch for each; the first few
+/// fields are a run of their own, since a cut may be near.
 fn good_fields(fields: &[[u8; 9]]) -> usize {
+    let (few, rest) = fields.split_at(fields.len().min(4));
     let mut count = 0;
-    for run in fields.chunks(64) {
+    for run in std::iter::once(few).chain(rest.chunks(64)) {
         if !run.iter().fold(true, |good, field| good & is_good(field)) {
             return count + run.iter().take_while(|field| is_good(field)).count();
         }
         count += run.len();
     }
     count
+}
+
+/// The character fields of each page of a good galley. What is left after the last cut is a page.
+pub fn pages(galley: &[u8], count: Count) -> impl Iterator<Item = &[[u8; 9]]> {
+    let Count { mut characters, cuts } = count;
+    let mut place = 0;
+    (0..=cuts).map(move |page| {
+        let (fields, _) = galley[place..].as_chunks();
+        let length = if page == cuts { characters } else { leading_characters(fields) };
+        characters -= length;
+        place += 9 * length + 3;
+        &fields[..length]
+    })
+}
+
+/// How many character fields come before the cut.
+fn leading_characters(fields: &[[u8; 9]]) -> usize {
+    fields.iter().take_while(|field| field[0] == 1).count()
 }
 
 #[inline(always)]

@@ -10,7 +10,7 @@ pub fn read_tape(tape: &[u8], galley: &mut [u8]) -> [usize; 3] {
     match scan(tape) {
         Err(refusal) => refused(refusal),
         Ok(codes) => {
-            let needed = 9 * codes.count + 7;
+            let needed = 9 * codes.count + 3 * codes.cuts + 7;
             if galley.len() < needed {
                 return refused((12, needed));
             }
@@ -176,6 +176,11 @@ impl Machine {
         (taken, count)
     }
 
+    /// The height is 0 after a cut. The initialize that follows does the rest.
+    fn cut(&mut self) {
+        self.place = 0;
+    }
+
     /// Off the left switch, to 0.
     fn leave_switch(&mut self) {
         self.modes |= UNPARKED;
@@ -187,7 +192,7 @@ impl Machine {
     fn refusal(&self, code: u8) -> Option<usize> {
         let parked = self.modes & UNPARKED == 0;
         match code {
-            0x4B | 0x4D | 0x5F | 0xFF => Some(2),
+            0x4D | 0x5F | 0xFF => Some(2),
             0xEF if parked && self.modes & ESCAPE_BACKWARD == 0 => None,
             0x01..=0x3F | 0x80..=0xFE if parked => Some(5),
             0x01..=0x3F if self.modes & SIZED == 0 => Some(6),
@@ -197,51 +202,74 @@ impl Machine {
     }
 }
 
-/// The codes between the first initialize and stop, and their number of flashes.
+/// The codes between the first initialize and stop, and their numbers of flashes and cuts.
 struct Codes {
     start: usize,
     stop: usize,
     count: usize,
+    cuts: usize,
 }
 
 fn scan(tape: &[u8]) -> Result<Codes, (usize, usize)> {
-    let start = match tape.iter().position(|&code| code != 0) {
+    let start = match next_code(tape, 0) {
         None => return Err((9, tape.len())),
-        Some(first) if tape[first] == 0x40 => first + 1,
-        Some(first) => return Err((other_code(tape[first], 3), first)),
+        Some((0x40, place)) => place + 1,
+        Some((code, place)) => return Err((other_code(code, 3), place)),
     };
-    let (stop, count) = run(tape, start)?;
-    match tape[stop + 1..].iter().position(|&code| code != 0) {
-        None => Ok(Codes { start, stop, count }),
-        Some(further) => Err((other_code(tape[stop + 1 + further], 4), stop + 1 + further)),
+    let codes = run(tape, start)?;
+    match next_code(tape, codes.stop + 1) {
+        None => Ok(codes),
+        Some((code, place)) => Err((other_code(code, 4), place)),
     }
+}
+
+/// The first code other than 00 from a place on, and its place.
+fn next_code(tape: &[u8], from: usize) -> Option<(u8, usize)> {
+    let further = tape[from..].iter().position(|&code| code != 0)?;
+    Some((tape[from + further], from + further))
 }
 
 /// 2 for an illegal code, else the number given.
 fn other_code(code: u8, number: usize) -> usize {
     match code {
-        0x4B | 0x4D | 0x5F | 0xFF => 2,
+        0x4D | 0x5F | 0xFF => 2,
         _ => number,
     }
 }
 
-/// Runs the machine up to stop: its place, and the number of flashes.
-fn run(tape: &[u8], start: usize) -> Result<(usize, usize), (usize, usize)> {
+/// The place of the initialize after a cut.
+fn initialize_from(tape: &[u8], from: usize) -> Result<usize, (usize, usize)> {
+    match next_code(tape, from) {
+        None => Err((10, tape.len())),
+        Some((0x40, place)) => Ok(place),
+        Some((code, place)) => Err((other_code(code, 10), place)),
+    }
+}
+
+/// Runs the machine up to stop.
+fn run(tape: &[u8], start: usize) -> Result<Codes, (usize, usize)> {
     let mut machine = Machine::new();
-    let (mut index, mut count) = (start, 0);
+    let (mut index, mut count, mut cuts) = (start, 0, 0);
     loop {
         let (codes, flashes) = machine.take_common(&tape[index..]);
         index += codes;
         count += flashes;
         match tape.get(index) {
             None => return Err((9, index)),
-            Some(0x49) => return Ok((index, count)),
-            Some(&code) => match machine.refusal(code) {
-                Some(number) => return Err((number, index)),
-                None => machine.leave_switch(),
-            },
+            Some(0x49) => return Ok(Codes { start, stop: index, count, cuts }),
+            Some(0x4B) => {
+                index = initialize_from(tape, index + 1)?;
+                machine.cut();
+                cuts += 1;
+            }
+            Some(&code) => {
+                if let Some(number) = machine.refusal(code) {
+                    return Err((number, index));
+                }
+                machine.leave_switch();
+                index += 1;
+            }
         }
-        index += 1;
     }
 }
 
@@ -250,11 +278,11 @@ fn is_flash(code: u8) -> bool {
     code.wrapping_sub(1) < 63
 }
 
-/// Writes the galley of codes that are known to be good. Every code but a mode stores a field; only a flash
-/// moves on.
+/// Writes the galley of codes that are known to be good. Every code but a mode or a cut stores a character
+/// field; only a flash moves on. After the last flash only cuts are left.
 #[inline(never)]
 fn write(codes: &[u8], galley: &mut [u8], count: usize) {
-    let (fields, end) = galley.split_at_mut(9 * count);
+    let (fields, end) = galley.split_at_mut(galley.len() - 7);
     let last = codes.iter().rposition(|&code| is_flash(code));
     let mut modes = LOWER_HALF | TILT_DOWN;
     let mut body = BODY_PARKED;
@@ -267,6 +295,10 @@ fn write(codes: &[u8], galley: &mut [u8], count: usize) {
             setting = Setting::of(modes);
             if code == 0x40 {
                 body = (body & BODY_HEIGHT).wrapping_add(BODY_PARKED);
+            } else if code == 0x4B {
+                fields[at..at + 3].copy_from_slice(&CUT);
+                at += 3;
+                body = 0;
             }
             continue;
         }
@@ -277,9 +309,15 @@ fn write(codes: &[u8], galley: &mut [u8], count: usize) {
         at += 9 * usize::from(is_flash(code));
         body = body.wrapping_add(setting.steps[usize::from(code)]);
     }
+    for cut in fields[at..].chunks_exact_mut(3) {
+        cut.copy_from_slice(&CUT);
+    }
     end[..3].copy_from_slice(&[2, 0, 4]);
     end[3..].copy_from_slice(&(count as u32).to_be_bytes());
 }
+
+/// The field of a cut.
+const CUT: [u8; 3] = [6, 0, 0];
 
 /// A field's x, height and font number in its first eight bytes, and the height alone.
 const BODY: u64 = 0xFF_FFFF_FFFF;

@@ -1,11 +1,15 @@
 //! A galley to a DVI file.
 
-use super::galley::{across, count, font_number, height, split};
+use super::galley::{across, count, font_number, height, pages, split, Count};
 use super::{accepted, reader, refused};
 
-/// Bytes of BOP, EOP and a postamble without fonts; and of one font definition.
-const EMPTY: usize = 36;
+/// Bytes of BOP and EOP, of a postamble without fonts, and of one font definition.
+const PAGE: usize = 10;
+const POSTAMBLE: usize = 26;
 const DEFINITION: usize = 14;
+
+/// Before a page's first character: no font number.
+const NO_FONT: usize = 255;
 
 const POINTS: [u8; 15] = [7, 8, 10, 11, 12, 14, 18, 9, 6, 16, 20, 22, 24, 28, 36];
 
@@ -14,13 +18,12 @@ pub fn write_dvi(galley: &[u8], dvi: &mut [u8]) -> [usize; 3] {
         Ok(count) => count,
         Err(refusal) => return refused(refusal),
     };
-    let fields = &galley.as_chunks().0[..count];
-    let measure = measure(fields);
+    let measure = measure(galley, count);
     let needed = measure.length();
     if dvi.len() < needed {
         return refused((42, needed));
     }
-    write(fields, &measure, &mut dvi[..needed]);
+    write(galley, count, &measure, &mut dvi[..needed]);
     accepted(needed)
 }
 
@@ -33,22 +36,22 @@ pub fn reprint(galley: &[u8], widths: &[i32], dvi: &mut [u8], sheet: &mut [u8]) 
     if !widths.len().is_multiple_of(128) {
         return refused((31, 0));
     }
-    let fields = &galley.as_chunks().0[..count];
-    let measure = measure(fields);
+    let measure = measure(galley, count);
     let needed = measure.length();
-    let sheet_needed = 7 + 16 * count + 7;
+    let sheet_needed = 7 + 16 * count.characters + 7 * count.cuts + 7;
     if dvi.len() < needed {
         return refused((42, needed));
     }
     if sheet.len() < sheet_needed {
         return refused((30, sheet_needed));
     }
-    write(fields, &measure, &mut dvi[..needed]);
+    write(galley, count, &measure, &mut dvi[..needed]);
     reader::read_dvi(&dvi[..needed], widths, sheet)
 }
 
-/// What the postamble and the room need to know of a page.
+/// What the postamble and the room need to know of the pages.
 struct Measure {
+    pages: usize,
     commands: usize,
     widest: i32,
     deepest: i32,
@@ -58,32 +61,56 @@ struct Measure {
 impl Measure {
     fn length(&self) -> usize {
         let fonts = self.fonts[0].count_ones() + self.fonts[1].count_ones();
-        EMPTY + self.commands + DEFINITION * fonts as usize
+        PAGE * self.pages + self.commands + POSTAMBLE + DEFINITION * fonts as usize
     }
 }
 
-fn measure(fields: &[[u8; 9]]) -> Measure {
-    let mut measure = Measure { commands: 0, widest: 0, deepest: 0, fonts: [0; 2] };
-    let (mut x, mut y, mut font) = (0, 0, 255);
-    for field in fields {
-        let (word, _) = split(field);
-        let (to_x, to_y, to_font) = (target(across(word)), height(word) << 15, font_number(word));
-        measure.commands += font_length(font, to_font) + move_length(to_x - x) + move_length(to_y - y) + 2;
-        measure.widest = measure.widest.max(to_x);
-        measure.deepest = measure.deepest.max(to_y);
-        measure.fonts[to_font / 64] |= 1 << (to_font % 64);
-        (x, y, font) = (to_x, to_y, to_font);
+fn measure(galley: &[u8], count: Count) -> Measure {
+    let mut measure = Measure { pages: 0, commands: 0, widest: 0, deepest: 0, fonts: [0; 2] };
+    for page in pages(galley, count) {
+        measure.pages += 1;
+        let (mut x, mut y, mut font) = (0, 0, NO_FONT);
+        for field in page {
+            let (word, _) = split(field);
+            let (to_x, to_y, to_font) = (target(across(word)), height(word) << 15, font_number(word));
+            measure.commands +=
+                font_length(font, to_font) + move_length(to_x - x) + move_length(to_y - y) + 2;
+            measure.widest = measure.widest.max(to_x);
+            measure.deepest = measure.deepest.max(to_y);
+            measure.fonts[to_font / 64] |= 1 << (to_font % 64);
+            (x, y, font) = (to_x, to_y, to_font);
+        }
     }
     measure
 }
 
 /// Writes the file, which is as long as `dvi`. A store may run past its command: what is there is
 /// written later, since the postamble is longer than any store.
-fn write(fields: &[[u8; 9]], measure: &Measure, dvi: &mut [u8]) {
-    dvi[..9].copy_from_slice(&[129, 0, 0, 0, 1, 255, 255, 255, 255]);
-    let (mut x, mut y, mut font) = (0, 0, 255);
-    let mut at = 9;
-    for field in fields {
+fn write(galley: &[u8], count: Count, measure: &Measure, dvi: &mut [u8]) {
+    let mut at = 0;
+    let mut last = -1;
+    for (number, page) in (1..).zip(pages(galley, count)) {
+        let bop = at as i32;
+        put_bop(dvi, at, number, last);
+        last = bop;
+        at = put_characters(dvi, at + 9, page);
+        dvi[at] = 130;
+        at += 1;
+    }
+    put_postamble(measure, at, last, &mut dvi[at..]);
+}
+
+fn put_bop(dvi: &mut [u8], at: usize, number: i32, previous: i32) {
+    dvi[at] = 129;
+    dvi[at + 1..at + 5].copy_from_slice(&number.to_be_bytes());
+    dvi[at + 5..at + 9].copy_from_slice(&previous.to_be_bytes());
+}
+
+/// Puts the characters of a page; gives the place after them.
+fn put_characters(dvi: &mut [u8], start: usize, page: &[[u8; 9]]) -> usize {
+    let (mut x, mut y, mut font) = (0, 0, NO_FONT);
+    let mut at = start;
+    for field in page {
         let (word, code) = split(field);
         let (to_x, to_y, to_font) = (target(across(word)), height(word) << 15, font_number(word));
         if to_font != font {
@@ -95,15 +122,14 @@ fn write(fields: &[[u8; 9]], measure: &Measure, dvi: &mut [u8]) {
         at += 2;
         (x, y, font) = (to_x, to_y, to_font);
     }
-    dvi[at] = 130;
-    put_postamble(measure, at + 1, &mut dvi[at + 1..]);
+    at
 }
 
 /// The whole number nearest to 32,768x/3.
 #[inline(always)]
 fn target(x: i32) -> i32 {
-    // Made positive for the division: 3 x 55 is more than the doubler's shift.
-    (32_768 * (x + 165) + 1) / 3 - 32_768 * 55
+    // Made positive for the division, which is quicker unsigned: 3 x 55 is more than the doubler's shift.
+    ((32_768 * (x + 165) as u32 + 1) / 3) as i32 - 32_768 * 55
 }
 
 #[inline(always)]
@@ -145,13 +171,13 @@ fn put_move(dvi: &mut [u8], at: usize, two: u8, distance: i32) -> usize {
     length
 }
 
-fn put_postamble(measure: &Measure, place: usize, end: &mut [u8]) {
+fn put_postamble(measure: &Measure, place: usize, last: i32, end: &mut [u8]) {
     end[0] = 131;
-    end[1..5].copy_from_slice(&[0; 4]);
+    end[1..5].copy_from_slice(&last.to_be_bytes());
     end[5..9].copy_from_slice(&measure.deepest.to_be_bytes());
     end[9..13].copy_from_slice(&measure.widest.to_be_bytes());
     let (_, rest) = end.split_at_mut(13);
-    let (definitions, last) = rest.split_at_mut(rest.len() - 13);
+    let (definitions, tail) = rest.split_at_mut(rest.len() - 13);
     let used = (0..120).filter(|font| measure.fonts[font / 64] >> (font % 64) & 1 == 1);
     for (definition, font) in definitions.chunks_exact_mut(DEFINITION).zip(used) {
         let (points, number) = (POINTS[font % 15], font as u8);
@@ -159,7 +185,7 @@ fn put_postamble(measure: &Measure, place: usize, end: &mut [u8]) {
         definition[..8].copy_from_slice(&[0, 0, 0, number, 0, 0, 0, number]);
         definition[8..].copy_from_slice(&name);
     }
-    last[..4].copy_from_slice(&[255; 4]);
-    last[4..8].copy_from_slice(&(place as u32).to_be_bytes());
-    last[8..].copy_from_slice(&[0, 223, 223, 223, 223]);
+    tail[..4].copy_from_slice(&[255; 4]);
+    tail[4..8].copy_from_slice(&(place as u32).to_be_bytes());
+    tail[8..].copy_from_slice(&[0, 223, 223, 223, 223]);
 }

@@ -6,4 +6,4 @@ mod yearbook;
 
 pub use book::{book, book_widths};
 pub use random::Random;
-pub use yearbook::yearbook;
+pub use yearbook::{pages, yearbook};

@@ -37,6 +37,19 @@ pub fn yearbook(seed: u64, length: usize) -> Vec<u8> {
     punch.tape
 }
 
+/// A tape of three pages: so many lines of a table, nothing, and so many lines of another table. After each
+/// cut come blank tape and initialize.
+pub fn pages(seed: u64, lines: usize) -> Vec<u8> {
+    let mut random = Random::new(seed);
+    let mut punch = Punch::new();
+    punch.table(&mut random, lines);
+    punch.cut();
+    punch.cut();
+    punch.table(&mut random, lines);
+    punch.tape.push(0x49);
+    punch.tape
+}
+
 /// Which figures of a column are in font 2: those from this row on.
 struct Table {
     row: usize,
@@ -124,6 +137,24 @@ impl Punch {
             upper_rail: false,
             tilt_down: true,
             size: 0,
+        }
+    }
+
+    /// A cut, blank tape, and the machine initialized anew, which keeps its size.
+    fn cut(&mut self) {
+        let anew = Punch::new();
+        self.tape.push(0x4B);
+        self.tape.extend([0; 8]);
+        self.tape.extend(&anew.tape);
+        *self = Punch { tape: std::mem::take(&mut self.tape), size: self.size, ..anew };
+    }
+
+    /// The first lines of a new table.
+    fn table(&mut self, random: &mut Random, lines: usize) {
+        let mut table = Table::new(random);
+        for _ in 0..lines {
+            table.line(self, random);
+            self.next_line();
         }
     }
 

@@ -1,7 +1,7 @@
 //! The command `spatecanter`: files, exit status and texts.
 
 use crate::readings::hex;
-use spatecanter::sample::yearbook;
+use spatecanter::sample::{pages, yearbook};
 use std::fs;
 use std::io::Write;
 use std::path::{Path, PathBuf};
@@ -135,8 +135,11 @@ fn standard_input_and_output() {
 #[test]
 fn a_refused_tape_says_why_and_writes_nothing() {
     let folder = folder("refused");
-    let rows: [(&str, &str, &str); 9] = [
+    let rows: [(&str, &str, &str); 12] = [
         ("", "refused 9 at 0", "expected: stop (49)"),
+        ("4B", "refused 3 at 0", "byte 4B, a cut"),
+        ("40 4B EF", "refused 10 at 2", "expected: initialize (40), after nothing but 00, since a cut"),
+        ("40 EF 4B 00", "refused 10 at 4", "the end of the tape"),
         ("40 EF 4D", "refused 2 at 2", "at offset 2 (hexadecimal 2): byte 4D, which means nothing"),
         ("EF", "refused 3 at 0", "byte EF, an escape of 16 units"),
         ("40 49 01", "refused 4 at 2", "nothing but 00"),
@@ -172,8 +175,11 @@ fn a_tape_over_the_limit() {
 #[test]
 fn refused_galleys_and_dvi_files() {
     let folder = folder("others");
-    let rows: [(&str, &str, &str, &str); 8] = [
-        ("check", "", "refused 41 at 0", "expected: a character (01 00 06 ...) or End (02 00 04 ...)"),
+    let rows: [(&str, &str, &str, &str); 11] = [
+        ("check", "", "refused 41 at 0", "expected: a character (01 00 06 ...), a cut (06 00 00) or End (02"),
+        ("check", "06 00 01 00", "refused 41 at 0", "bytes 06 00 01 00"),
+        ("plot", "06 00 00 02 00 04 00 00 00 01", "refused 41 at 3", "an End that counts 0 characters"),
+        ("list", "06 00 00 02 00 04 00 00 00 00 05", "refused 41 at 10", "since End was read"),
         ("list", "02 00 04 00 00 00 01", "refused 41 at 0", "an End that counts 0 characters"),
         ("set", "02 00 04 00 00 00 00 05", "refused 41 at 7", "since End was read"),
         ("plot", "01 00 06 00 00 00 00 02 00", "refused 41 at 0", "a character of 1 to 108"),
@@ -193,6 +199,42 @@ fn refused_galleys_and_dvi_files() {
     let run = run(&folder, &["sheet", "bad"]);
     assert_eq!((run.status, run.text().as_str()), (1, ""));
     assert_eq!(run.err, "spatecanter: bad: no sheet: an End with a wrong count at 7\n");
+}
+
+#[test]
+fn a_galley_with_one_cut_too_many() {
+    let folder = folder("cuts");
+    let mut galley = [6, 0, 0].repeat(spatecanter::ITEM_LIMIT);
+    galley.extend([6, 0, 0, 2, 0, 4, 0, 0, 0, 0]);
+    fs::write(folder.join("cuts.galley"), &galley).unwrap();
+    let more = run(&folder, &["check", "cuts.galley"]);
+    assert_eq!(more.status, 1);
+    assert!(more.err.contains("refused 41 at 3145728: the galley is malformed"), "{}", more.err);
+    assert!(more.err.contains("expected: End (02 00 04 ...), after 1,048,576 characters and cuts"));
+    fs::write(folder.join("cuts.galley"), &galley[3..]).unwrap();
+    assert_eq!(run(&folder, &["check", "cuts.galley"]).text(), "accepted, 0 characters\n");
+}
+
+#[test]
+fn the_way_of_a_tape_with_cuts() {
+    let folder = folder("pages");
+    fs::write(folder.join("a.tape"), hex("40 EF 52 4E 01 4B 00 40 4B 40 EF 02 49")).unwrap();
+    let read = run(&folder, &["read", "a.tape"]);
+    assert_eq!((read.status, read.err.as_str()), (0, "a.galley: 2 characters\n"));
+    assert_eq!(run(&folder, &["check", "a.galley"]).text(), "accepted, 2 characters\n");
+    let list = "x y font size char\n0 0 1 10 1\ncut\ncut\n0 0 2 10 2\n2 glyphs\n";
+    assert_eq!(run(&folder, &["list", "a.galley"]).text(), list);
+    assert_eq!(run(&folder, &["set", "a.galley"]).status, 0);
+    assert_eq!(run(&folder, &["show", "a.dvi"]).status, 0);
+    let sheet = "page 1\nchar 0 0 2 1\npage 2\npage 3\nchar 0 0 17 2\nend 5\n";
+    assert_eq!(run(&folder, &["sheet", "a.sheet"]).text(), sheet);
+    let summary = run(&folder, &["reprint", "a.tape", "-d", "out"]).text();
+    assert!(summary.contains("\npages                                3\n"), "{summary}");
+    assert_eq!(fs::read(folder.join("out/a.dvi")).unwrap(), fs::read(folder.join("a.dvi")).unwrap());
+    // A galley that begins with a cut is no tape.
+    fs::write(folder.join("cut"), hex("06 00 00 02 00 04 00 00 00 00")).unwrap();
+    let plot = run(&folder, &["plot", "cut", "-o", "cut.svg"]);
+    assert_eq!((plot.status, plot.err.as_str()), (0, "cut.svg: 0 characters\n"));
 }
 
 #[test]
@@ -275,12 +317,44 @@ fn a_picture_has_a_mark_for_each_character() {
     let picture = fs::read_to_string(folder.join("a&b.svg")).unwrap();
     let again = fs::read_to_string(folder.join("b.svg")).unwrap();
     assert_eq!(picture.replace("a&amp;b.tape", "a&amp;b.galley"), again);
-    let count = spatecanter::read_tape(&tape).unwrap().len() / 9;
-    let marks: usize =
-        picture.lines().filter(|line| line.contains("d=\"M")).map(|line| line.matches('M').count()).sum();
-    let rulers = picture.matches("stroke=\"#c8c8c8\" stroke-width=\"4\" d=").count();
-    assert_eq!(marks - rulers - 3, count);
+    assert_eq!(marks(&picture), spatecanter::read_tape(&tape).unwrap().len() / 9);
     assert!(picture.starts_with("<svg ") && picture.ends_with("</svg>\n"));
+}
+
+/// How many marks a picture has, rulers and legend apart.
+fn marks(picture: &str) -> usize {
+    let paths = picture.lines().filter(|line| line.contains("d=\"M"));
+    let all: usize = paths.map(|line| line.matches('M').count()).sum();
+    let rulers = picture.matches("stroke=\"#c8c8c8\" stroke-width=\"4\" d=").count();
+    all - rulers - 3
+}
+
+#[test]
+fn a_picture_has_all_pages() {
+    let folder = folder("plot_pages");
+    let tape = pages(4, 6);
+    fs::write(folder.join("a.tape"), &tape).unwrap();
+    assert_eq!(run(&folder, &["plot", "a.tape"]).status, 0);
+    let picture = fs::read_to_string(folder.join("a.svg")).unwrap();
+    let count = spatecanter::check_galley(&spatecanter::read_tape(&tape).unwrap()).unwrap();
+    assert!(picture.contains(&format!("<title>a.tape: {count} characters, 3 pages</title>")));
+    assert_eq!(marks(&picture), count);
+    let parts: Vec<&str> = picture.split("\n<svg ").collect();
+    let counts: Vec<usize> = parts[1..].iter().map(|page| page.matches('M').count()).collect();
+    assert_eq!((counts.len(), counts[1], counts[0] + counts[2]), (3, 0, count));
+    for (number, page) in (1..).zip(&parts[1..]) {
+        assert!(page.contains(&format!(">page {number}</text>")));
+    }
+    assert_eq!(run(&folder, &["plot", "a.tape", "--page", "3", "-o", "c.svg"]).status, 0);
+    let third = fs::read_to_string(folder.join("c.svg")).unwrap();
+    assert!(third.contains(">page 3</text>") && !third.contains(">page 1</text>"));
+    assert_eq!(marks(&third), counts[2]);
+    for wrong in ["0", "4", "x"] {
+        let refused = run(&folder, &["plot", "a.tape", "--page", wrong, "-o", "d.svg"]);
+        assert_eq!(refused.status, 2);
+        assert!(refused.err.contains("is no page: there are 3, counted from 1"));
+    }
+    assert!(!folder.join("d.svg").exists());
 }
 
 #[test]

@@ -41,7 +41,7 @@ fn tapes(comparison: &mut Comparison) {
 
 /// Every code, and every two codes, after some beginnings.
 fn codes(comparison: &mut Comparison) {
-    let beginnings: [&[u8]; 10] = [
+    let beginnings: [&[u8]; 16] = [
         &[],
         &[0x40],
         &[0x40, 0x48],
@@ -52,6 +52,12 @@ fn codes(comparison: &mut Comparison) {
         &[0x40, 0xEF, 0x52, 0x48, 0x4C],
         &[0x40, 0xEF, 0x43, 0x42, 0x5E, 0x60, 0x80],
         &[0x40, 0xEF, 0x52, 0x49],
+        &[0x00, 0x4B],
+        &[0x40, 0x4B],
+        &[0x40, 0xEF, 0x52, 0x60, 0x4B, 0x00],
+        &[0x40, 0x4B, 0x40],
+        &[0x40, 0xEF, 0x52, 0x60, 0x80, 0x4C, 0x4B, 0x00, 0x40],
+        &[0x40, 0xEF, 0x59, 0x60, 0x80, 0x4B, 0x40, 0xEF],
     ];
     for beginning in beginnings {
         for code in 0..=255 {
@@ -62,6 +68,7 @@ fn codes(comparison: &mut Comparison) {
     for first in 0..=255 {
         for second in 0..=255 {
             comparison.tape(&[0x40, 0xEF, 0x52, first, second, 0x01, 0x49]);
+            comparison.tape(&[0x40, 0x52, 0x4B, first, second, 0xEF, 0x01, 0x49]);
         }
     }
 }
@@ -73,15 +80,26 @@ fn galleys(comparison: &mut Comparison) {
     }
     for characters in [0, 1, 2, 5, 70, 200] {
         let galley = cases::valid_galley(&mut random, characters);
-        for length in 0..=galley.len() {
-            comparison.galley(&galley[..length]);
-        }
-        each_byte_changed(&galley, &mut random, |galley| comparison.galley(galley));
+        each_part_and_change(comparison, &galley, &mut random);
+    }
+    for (items, n) in [(1, 1), (5, 3), (70, 2), (200, 20), (200, 100)] {
+        let galley = cases::valid_galley_with_cuts(&mut random, items, n);
+        each_part_and_change(comparison, &galley, &mut random);
     }
     let galley = cases::valid_galley(&mut random, 2);
+    let with_cuts = [&[6, 0, 0], &galley[..9], &[6, 0, 0, 6, 0, 0], &galley[9..]].concat();
     for value in 0..=255 {
         each_byte_set(&galley, value, |galley| comparison.check_galley(galley));
+        each_byte_set(&with_cuts, value, |galley| comparison.check_galley(galley));
     }
+}
+
+/// A galley ended anywhere, and with each byte changed.
+fn each_part_and_change(comparison: &mut Comparison, galley: &[u8], random: &mut Random) {
+    for length in 0..=galley.len() {
+        comparison.galley(&galley[..length]);
+    }
+    each_byte_changed(galley, random, |galley| comparison.galley(galley));
 }
 
 fn dvi_files(comparison: &mut Comparison) {
@@ -126,7 +144,7 @@ fn each_byte_set(bytes: &[u8], value: u8, mut take: impl FnMut(&[u8])) {
 /// The cases are worth their number: each answer that small inputs can get was met often.
 fn every_number_is_met(comparison: &Comparison) {
     let numbers: [(&str, &[usize]); 6] = [
-        ("read_tape", &[0, 2, 3, 4, 5, 6, 7, 8, 9, 12]),
+        ("read_tape", &[0, 2, 3, 4, 5, 6, 7, 8, 9, 10, 12]),
         ("check_galley", &[0, 41]),
         ("read_back", &[0, 41, 11]),
         ("write_dvi", &[0, 41, 42]),

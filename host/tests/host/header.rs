@@ -39,7 +39,7 @@ fn the_header_has_the_same_numbers() {
             value.split([',', ' ']).next().unwrap().parse().unwrap()
         })
         .collect();
-    assert_eq!(numbers.len(), 27);
+    assert_eq!(numbers.len(), 28);
     for &number in &numbers[1..] {
         let meaning = spatecanter::Refusal { number, place: 0 }.meaning();
         assert_ne!(meaning, "an unknown refusal", "{number}");
@@ -48,6 +48,7 @@ fn the_header_has_the_same_numbers() {
         ("SP_TAPE_LIMIT", spatecanter::TAPE_LIMIT),
         ("SP_GALLEY_LIMIT", spatecanter::GALLEY_LIMIT),
         ("SP_DVI_LIMIT", spatecanter::DVI_LIMIT),
+        ("SP_ITEM_LIMIT", spatecanter::ITEM_LIMIT),
     ] {
         let line = header.lines().find(|line| line.starts_with("#define") && line.contains(name)).unwrap();
         assert!(line.ends_with(&format!(" {limit}")), "{line}");

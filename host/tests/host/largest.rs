@@ -5,7 +5,8 @@ use crate::compare::{Comparison, Implementation, LIBRARY, QUICK};
 use spatecanter::sample::{book, book_widths, yearbook, Random};
 use spatecanter::{DVI_LIMIT, GALLEY_LIMIT, TAPE_LIMIT};
 
-const CHARACTERS: usize = 1_048_576;
+/// Characters and cuts in a galley, together.
+const ITEMS: usize = 1_048_576;
 const STACK: usize = 256 * 1024;
 
 #[test]
@@ -23,6 +24,7 @@ fn on_a_small_stack(implementation: Implementation) {
         let mut comparison = Comparison::new(implementation, 432).with_exact_room();
         tapes(&mut comparison);
         galleys(&mut comparison);
+        galleys_with_cuts(&mut comparison);
         dvi_files(&mut comparison);
         comparison.print();
         needs_the_largest_sheet(implementation);
@@ -43,10 +45,17 @@ fn tapes(comparison: &mut Comparison) {
     comparison.tape(&flashes);
     flashes[TAPE_LIMIT - 2] = 0xFF;
     comparison.tape(&flashes);
+
+    let mut cuts = [0x40, 0x4B].repeat(TAPE_LIMIT / 2);
+    comparison.tape(&cuts);
+    cuts[TAPE_LIMIT - 1] = 0x49;
+    comparison.tape(&cuts);
+    cuts[TAPE_LIMIT - 2] = 0x00;
+    comparison.tape(&cuts);
 }
 
 fn galleys(comparison: &mut Comparison) {
-    let mut galley = cases::valid_galley(&mut Random::new(8), CHARACTERS);
+    let mut galley = cases::valid_galley(&mut Random::new(8), ITEMS);
     assert_eq!(galley.len(), GALLEY_LIMIT);
     comparison.galley(&galley);
     galley.push(0);
@@ -58,6 +67,19 @@ fn galleys(comparison: &mut Comparison) {
     galley[GALLEY_LIMIT - 8] = 109;
     comparison.galley(&galley);
     comparison.galley(&galley[..GALLEY_LIMIT - 8]);
+}
+
+/// Cuts alone, and characters among cuts; then one cut or character more.
+fn galleys_with_cuts(comparison: &mut Comparison) {
+    for n in [1, 10] {
+        let galley = cases::valid_galley_with_cuts(&mut Random::new(8), ITEMS, n);
+        comparison.galley(&galley);
+        let (fields, end) = galley.split_at(galley.len() - 7);
+        for more in [&[6, 0, 0][..], &[1, 0, 6, 0, 0, 0, 0, 2, 1]] {
+            comparison.check_galley(&[fields, more, end].concat());
+            comparison.write_dvi(&[more, fields, end].concat());
+        }
+    }
 }
 
 fn dvi_files(comparison: &mut Comparison) {

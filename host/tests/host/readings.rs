@@ -11,10 +11,10 @@ pub fn hex(text: &str) -> Vec<u8> {
 
 #[test]
 fn tapes() {
-    let rows: [(&str, usize, usize); 44] = [
+    let rows: [(&str, usize, usize); 66] = [
         // An illegal code is 2 wherever it stands, but the earliest place decides.
         ("FF", 2, 0),
-        ("4B", 2, 0),
+        ("4D", 2, 0),
         ("40 49 4D", 2, 2),
         ("40 5F", 2, 1),
         ("EF FF", 3, 0),
@@ -62,6 +62,31 @@ fn tapes() {
         ("40 EF 4C 7F 49", 0, 7),
         ("40 EF 4C 7E", 7, 3),
         ("40 EF 4C 4A 7E 4C 7E 7E", 7, 7),
+        // A cut: 3 before initialize, 4 after stop; then nothing but 00 and initialize, else 10, after 2.
+        ("4B", 3, 0),
+        ("40 49 4B", 4, 2),
+        ("40 4B 40 49", 0, 10),
+        ("40 EF 4B 00 00 40 49 00", 0, 10),
+        ("40 4B 40 4B 40 49", 0, 13),
+        ("40 4B 4B", 10, 2),
+        ("40 4B 49", 10, 2),
+        ("40 4B 00 01", 10, 3),
+        ("40 4B EF", 10, 2),
+        ("40 EF 52 46 4B 3F", 10, 5),
+        ("40 4C 4B 7E", 10, 3),
+        ("40 4B FF", 2, 2),
+        ("40 4B 00 4D", 2, 3),
+        // A tape that ends after a cut is 10, not 9.
+        ("40 4B", 10, 2),
+        ("40 4B 00 00", 10, 4),
+        ("40 4B 40", 9, 3),
+        // A cut keeps the size, and the height is 0; initialize parks and sets the modes.
+        ("40 EF 52 4B 40 01", 5, 5),
+        ("40 EF 52 4B 40 EF 01 49", 0, 19),
+        ("40 EF 4B 40 EF 01", 6, 5),
+        ("40 60 4B 40 4C 7E", 7, 5),
+        ("40 EF 52 46 4B 40 EF 3F 49", 0, 19),
+        ("40 48 4C 4B 40 EF 60 49", 0, 10),
         ("40 EF 52 01 02 03", 9, 6),
         ("40 EF 52 01 02 03 49 00", 0, 34),
     ];
@@ -103,7 +128,7 @@ fn the_right_switch_and_the_greatest_height() {
 
 #[test]
 fn galleys() {
-    let rows: [(&str, usize, usize); 27] = [
+    let rows: [(&str, usize, usize); 38] = [
         ("", 41, 0),
         ("02 00 04 00 00 00 00", 0, 0),
         ("02 00 04 00 00 00", 41, 0),
@@ -125,6 +150,18 @@ fn galleys() {
         ("01 01 06 00 00 00 00 02 01", 41, 0),
         ("02 00 05 00 00 00 00 00", 41, 0),
         ("06 FF FF", 41, 0),
+        // Cuts: without a body, not counted by End.
+        ("06 00 00", 41, 3),
+        ("06 00", 41, 0),
+        ("06 00 00 02 00 04 00 00 00 00", 0, 0),
+        ("06 00 00 02 00 04 00 00 00 01", 41, 3),
+        ("06 00 00 06 00 00 02 00 04 00 00 00 00", 0, 0),
+        ("06 00 01 00 02 00 04 00 00 00 00", 41, 0),
+        ("06 01 00 02 00 04 00 00 00 00", 41, 0),
+        ("02 00 04 00 00 00 00 06 00 00", 41, 7),
+        ("01 00 06 00 00 00 00 02 01 06 00 00 02 00 04 00 00 00 01", 0, 1),
+        ("01 00 06 00 00 00 00 02 01 06 00 00 02 00 04 00 00 00 02", 41, 12),
+        ("06 00 00 01 00 06 00 00 00 00 02 00 02 00 04 00 00 00 01", 41, 3),
         // Values at the ends of their ranges: x 3,239 and 3,240, -55 and -56, 3,184 and 3,185.
         ("01 00 06 0C A7 FF FF 02 6C 02 00 04 00 00 00 01", 0, 1),
         ("01 00 06 0C A8 FF FF 02 6C 02 00 04 00 00 00 01", 41, 0),
@@ -253,5 +290,41 @@ fn a_sheet_by_hand() {
     for them in [LIBRARY, QUICK] {
         assert_eq!((them.read_dvi)(&dvi, &widths, &mut buffer), [0, 0, sheet.len()]);
         assert_eq!(buffer, sheet);
+    }
+}
+
+/// A character, an empty page, and a character again in the same font, by hand: BOPs at 0, 21 and 31, PST
+/// at 44.
+#[test]
+fn pages_by_hand() {
+    let tape = hex("40 EF 52 4E FC 7E 01  4B  40  4B 00  40 4E EF 02 49");
+    let galley = hex("01 00 06 00 03 00 01 02 01  06 00 00  06 00 00  01 00 06 00 00 00 00 02 02
+         02 00 04 00 00 00 02");
+    let dvi = hex("81 00 00 00 01 FF FF FF FF  9C  8F 00 80 00  93 00 80 00  88 01  82
+         81 00 00 00 02 00 00 00 00  82
+         81 00 00 00 03 00 00 00 15  9C  88 02  82
+         83 00 00 00 1F 00 00 80 00 00 00 80 00  00 00 00 02 00 00 00 02 22 43 31 31 30 22
+         FF FF FF FF 00 00 00 2C 00 DF DF DF DF");
+    let sheet = hex("05 00 04 00 00 00 01
+         03 00 0D 00 00 80 00 00 00 80 00 00 00 00 02 01
+         05 00 04 00 00 00 02
+         05 00 04 00 00 00 03
+         03 00 0D 00 00 00 00 00 00 00 00 00 00 00 02 02
+         02 00 04 00 00 00 05");
+    assert_eq!(sheet.len(), 7 + 16 * 2 + 7 * 2 + 7);
+    assert_eq!(plain::read_tape(&tape), Ok(galley.clone()));
+    assert_eq!(plain::write_dvi(&galley), Ok(dvi.clone()));
+    assert_eq!(plain::read_dvi(&dvi, &[]), Ok(sheet.clone()));
+    for them in [LIBRARY, QUICK] {
+        let mut galley_made = vec![0; galley.len()];
+        assert_eq!((them.read_tape)(&tape, &mut galley_made), [0, 0, galley.len()], "{}", them.name);
+        assert_eq!(galley_made, galley, "{}", them.name);
+        assert_eq!((them.check_galley)(&galley), [0, 0, 2], "{}", them.name);
+        assert_eq!((them.read_back)(&galley, 1), ([0; 3], [0, 0, 2, 2]), "{}", them.name);
+        assert_eq!((them.read_back)(&galley, 2), ([11, 0, 0], [0; 4]), "{}", them.name);
+        let (mut dvi_made, mut sheet_made) = (vec![0; dvi.len()], vec![0; sheet.len()]);
+        let answer = (them.reprint)(&galley, &[], &mut dvi_made, &mut sheet_made);
+        assert_eq!(answer, [0, 0, sheet.len()], "{}", them.name);
+        assert_eq!((dvi_made, sheet_made), (dvi.clone(), sheet.clone()), "{}", them.name);
     }
 }

@@ -1,6 +1,7 @@
 //! The files in samples/ are what their README says.
 
-use spatecanter::sample::yearbook;
+use spatecanter::sample::{pages, yearbook};
+use spatecanter::sheet::{fields, Field};
 use spatecanter::Refusal;
 use std::path::Path;
 
@@ -16,6 +17,19 @@ fn the_yearbook_is_made_by_the_generator() {
     assert_eq!(spatecanter::check_galley(&galley), Ok(2_628));
     let reprint = spatecanter::reprint(&galley, &[]).unwrap();
     assert_eq!((galley.len(), reprint.dvi.len(), reprint.sheet.len()), (23_659, 16_090, 42_062));
+}
+
+#[test]
+fn the_pages_are_made_by_the_generator() {
+    let tape = sample("pages.tape");
+    assert!(tape == pages(1980, 8));
+    let galley = spatecanter::read_tape(&tape).unwrap();
+    assert_eq!(spatecanter::check_galley(&galley), Ok(628));
+    let reprint = spatecanter::reprint(&galley, &[]).unwrap();
+    assert_eq!((galley.len(), reprint.dvi.len(), reprint.sheet.len()), (5_665, 3_940, 10_076));
+    let starts: Vec<(usize, Field)> =
+        fields(&reprint.sheet).enumerate().filter(|(_, field)| matches!(field, Field::Page(_))).collect();
+    assert_eq!(starts, [(0, Field::Page(1)), (335, Field::Page(2)), (336, Field::Page(3))]);
 }
 
 #[test]

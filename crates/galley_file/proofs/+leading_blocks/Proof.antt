@@ -4,15 +4,14 @@ use mathlib.Core.Path.{_≡_, sym, ap, _∙_}
 use Prim.Native.Nat.{ℕ, _+_, _<_}
 use native.Mathlib.Omega.{arith}
 use borrow.Author.Needs.{needs}
-use borrow.Author.Tests.{eqb-true}
 use borrow.Fn.Kinds.{In}
 use borrow.Fn.PlainCycle.{Measures, is, falls, and}
-use Rattle.galley_file.specs.Galley.{leading}
-use Rattle.galley_file.proofs.Reading.{leading-room, leading-part, run-fits}
+use Rattle.galley_file.specs.Span.{Block}
+use Rattle.galley_file.proofs.Reading.{span-few, block-fits, block-span}
 use Rattle.galley_file.proofs.leading_blocks.Reads as own
 use Rattle.galley_file.proofs.leading_blocks.Kinds as kinds
 use Rattle.galley_file.proofs.+leading_blocks.Lts-leading_blocks as lts
-use Rattle.galley_file.proofs.leading_characters.Reads as leading-characters
+use Rattle.galley_file.proofs.leading_items.Reads as leading-items
 use Rattle.galley_file.proofs.starts_block.Reads as starts-block
 use Rattle.galley_file.proofs.+leading_blocks.{statement}
 use Rattle.galley_file.proofs.+leading_blocks.Tie.{close}
@@ -29,23 +28,23 @@ below t = and 1 kinds.ps (falls 1 kinds.ps _<_ μ t) own.Pre
 
 -- the contracts of the callees
 abbrev uses : ℕ → lts.Claims
-uses t = (leading-characters.Asked, leading-characters.Learnt, starts-block.Asked, starts-block.Learnt, below t, own.Post)
+uses t = (leading-items.Asked, leading-items.Learnt, starts-block.Asked, starts-block.Learnt, below t, own.Post)
 
-leading-characters-requires : (t : ℕ) → lts.Need-leading-characters-requires (uses t) (at t) own.Post
-leading-characters-requires t c κs = search needs
+leading-items-requires : (t : ℕ) → lts.Need-leading-items-requires (uses t) (at t) own.Post
+leading-items-requires t c κs = search needs
 
 returns : (t : ℕ) → lts.Need-returns (uses t) (at t) own.Post
-returns t c = c .leading-characters .ensures
+returns t c = c .leading-items .ensures
 
 starts-block-requires : (t : ℕ) → lts.Need-starts-block-requires (uses t) (at t) own.Post
 starts-block-requires t c κs = search needs
 
 -- the slice starts with a block
-block : (t : ℕ) (c : lts.Then2 (uses t) (at t) own.Post) → leading 64 (c .before .before .before .before .args .s .now) ≡ 64
-block t c = eqb-true _ _ (sym (c .before .starts-block .ensures) ∙ c .if2 .taken)
+block : (t : ℕ) (c : lts.Then2 (uses t) (at t) own.Post) → Block 64 (c .before .before .before .before .args .s .now)
+block t c = c .before .starts-block .ensures (c .if2 .taken)
 
 sub-part : (t : ℕ) → lts.Need-sub-leading-blocks (uses t) (at t) own.Post
-sub-part t c = let h = run-fits 64 64 _ (sym (block t c)) in omega arith
+sub-part t c = block-fits 64 _ (block t c)
 
 part-start : (t : ℕ) → lts.Need-part-leading-blocks-start (uses t) (at t) own.Post
 part-start t c = sub-part t c
@@ -56,25 +55,20 @@ part-end t c = search needs
 call-requires : (t : ℕ) → lts.Need-leading-blocks-requires (uses t) (at t) own.Post
 call-requires t c κs = (omega arith, tt)
 
+add-characters : (t : ℕ) → lts.Need-add-t7 (uses t) (at t) own.Post
+add-characters t c = omega (arith, span-few _ _ _ (c .before .leading-blocks .ensures), c .before .before .before .before .before .if1 .left)
+
 returns-2 : (t : ℕ) → lts.Need-returns-2 (uses t) (at t) own.Post
-returns-2 t c =
-    ap (λ (n : ℕ). n + 64) (c .leading-blocks .ensures) ∙ leading-part 64 _ (block t (c .before .before)) _ (c .before .before .before .before .if1 .left)
+returns-2 t c = block-span 64 _ (block t (c .before .before .before)) _ _ (c .before .before .before .before .before .if1 .left) (c .before .leading-blocks .ensures)
 
-add-result : (t : ℕ) → lts.Need-add-result (uses t) (at t) own.Post
-add-result t c =
-    let a = c .before .before .before .before .before .before .args in
-    let e = returns-2 t c in
-    let h = leading-room (a .room) (a .s .now) in
-    omega arith
-
-leading-characters-requires-2 : (t : ℕ) → lts.Need-leading-characters-requires-2 (uses t) (at t) own.Post
-leading-characters-requires-2 t c κs = search needs
+leading-items-requires-2 : (t : ℕ) → lts.Need-leading-items-requires-2 (uses t) (at t) own.Post
+leading-items-requires-2 t c κs = search needs
 
 returns-3 : (t : ℕ) → lts.Need-returns-3 (uses t) (at t) own.Post
-returns-3 t c = c .leading-characters2 .ensures
+returns-3 t c = c .leading-items2 .ensures
 
 pub +leading-blocks-spec : {M : Type 1} → statement M
 +leading-blocks-spec =
     close μ λ t.
-    lts.spec (uses t) (at t) own.Post (leading-characters-requires t) (returns t) (starts-block-requires t) (sub-part t) (part-start t)
-    (part-end t) (call-requires t) (add-result t) (leading-characters-requires-2 t) (returns-2 t) (returns-3 t)
+    lts.spec (uses t) (at t) own.Post (leading-items-requires t) (returns t) (starts-block-requires t) (sub-part t) (part-start t)
+    (part-end t) (call-requires t) (add-characters t) (returns-2 t) (leading-items-requires-2 t) (returns-3 t)

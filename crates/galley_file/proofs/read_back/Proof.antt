@@ -1,10 +1,11 @@
--- `galley_file::read_back` meets its contract: the check's answer decides, and an accepted galley has its character n at byte 9 n.
+-- `galley_file::read_back` meets its contract: the check's answer decides; an accepted galley has its character n at byte 9 n where
+-- there are no cuts, and else it is looked for.
 use mathlib.Core.Path.{_≡_, sym, ap, _∙_}
 use native.Mathlib.Omega.{arith}
 use borrow.Author.Needs.{needs}
 use Rattle.galley_file.specs.Outcome.{checkOutcome, found}
 use Rattle.octets.specs.Answer.{accepted, outcomeOf}
-use Rattle.galley_file.proofs.Back.{back-refused, back-room, back-found, back-none}
+use Rattle.galley_file.proofs.Back.{back-refused, back-few, back-room, back-found, back-none}
 use Rattle.galley_file.proofs.read_back.Statement.{statement}
 use Rattle.galley_file.proofs.read_back.Tie as tie
 
@@ -21,22 +22,37 @@ enum-known-checked-2 c = search needs
 counted : (c : tie.After-checked2) → accepted (c .checked2 .given .0 .0) ≡ checkOutcome (c .before .before .before .before .args .g .now)
 counted c = sym (ap outcomeOf (c .checked2 .given .1)) ∙ c .before .before .check-galley .ensures
 
-character-at-requires : tie.Need-character-at-requires
-character-at-requires c κs = let h = back-room _ _ _ (counted (c .before .before)) (c .if1 .taken) in omega arith
+returns : tie.Need-returns
+returns c = back-none _ _ _ (counted (c .before .before)) (c .if1 .taken)
+
+mul-if2 : tie.Need-mul-if2
+mul-if2 c = omega (arith, back-few _ _ (counted (c .before .before)))
+
+add-if2 : tie.Need-add-if2
+add-if2 c = omega (arith, back-few _ _ (counted (c .before .before)))
 
 mul-character-at : tie.Need-mul-character-at
-mul-character-at c = let h = back-room _ _ _ (counted (c .before .before)) (c .if1 .taken) in omega arith
+mul-character-at c = omega (arith, back-few _ _ (counted (c .before .before .before)), c .before .if1 .left)
 
-returns : tie.Need-returns
-returns c = back-refused _ _ _ _ (sym (ap outcomeOf (c .before .checked .given .1)) ∙ c .before .before .before .check-galley .ensures)
+character-at-requires : tie.Need-character-at-requires
+character-at-requires c κs = back-room _ _ _ (counted (c .before .before .before)) (c .if2 .taken) (omega (arith, c .before .if1 .left))
 
 returns-2 : tie.Need-returns-2
-returns-2 c = ap found (c .character-at .ensures) ∙ back-found _ _ _ (counted (c .before .before .before)) (c .before .if1 .taken)
+returns-2 c =
+    ap found (c .character-at .ensures)
+    ∙ back-found _ _ _ (counted (c .before .before .before .before)) (c .before .if2 .taken) (omega (arith, c .before .before .if1 .left))
+
+find-character-requires : tie.Need-find-character-requires
+find-character-requires c κs = counted (c .before .before .before)
 
 returns-3 : tie.Need-returns-3
-returns-3 c = back-none _ _ _ (counted (c .before .before)) (c .if1 .left)
+returns-3 c = back-refused _ _ _ _ (sym (ap outcomeOf (c .before .checked .given .1)) ∙ c .before .before .before .check-galley .ensures)
+
+returns-4 : tie.Need-returns-4
+returns-4 c = c .find-character .ensures
 
 pub read-back-spec : {M : Type 1} → statement M
 read-back-spec =
     tie.close
-    (tie.spec check-galley-requires enum-known-checked enum-known-checked-2 mul-character-at character-at-requires returns returns-2 returns-3)
+    (tie.spec check-galley-requires enum-known-checked enum-known-checked-2 returns mul-if2 add-if2 mul-character-at character-at-requires
+    returns-2 find-character-requires returns-3 returns-4)

@@ -9,11 +9,11 @@ use borrow.Author.Needs.{needs}
 use lib.ListN.{length, take}
 use lib.Seq.{length-take-le}
 use Rattle.octets.specs.Octets.{Bytes}
-use Rattle.octets.specs.Answer.{accepted, refused, outcomeOf, outcome, noDviRoom}
+use Rattle.octets.specs.Answer.{accepted, refused, outcomeOf, outcome, noDviRoom, noSheetRoom}
 use Rattle.dvi_writer.specs.Result.{dviResult}
 use Rattle.reprint.specs.Reprint.{stopped}
 use Rattle.reprint.specs.ReprintLaws.{found, file, not-whole, short-file, short-sheet}
-use Rattle.reprint.proofs.Calls.{refuses, same-file, accepted-file, refused-file, refused-writing, file-fits, written-part, completes}
+use Rattle.reprint.proofs.Calls.{refuses, same-file, sheet-needed, accepted-file, refused-file, refused-writing, file-fits, written-part, completes}
 use Rattle.reprint.proofs.reprint_checked.Statement.{statement}
 use Rattle.reprint.proofs.reprint_checked.Tie as tie
 
@@ -26,52 +26,36 @@ returns c =
     let e = sym (s .pre) in
     refuses (a .dvi .now) (a .sheet .now) (not-whole g (a .count) k e (a .widths .now) (length (a .dvi .now)) (length (a .sheet .now)) (c .if1 .taken))
 
-mul-needed : tie.Need-mul-needed
-mul-needed c =
-    let s = c .before .before .before .before in
-    let a = s .args in
-    let g = a .galley .now in
-    let k : Bytes g = λ i. c .before .before .before .shared-slice-known .given i .fits in
-    let e = sym (s .pre) in
-    let f = found g (a .count) k e .few in
-    omega arith
-
-add-needed : tie.Need-add-needed
-add-needed c =
-    let s = c .before .before .before .before in
-    let a = s .args in
-    let g = a .galley .now in
-    let k : Bytes g = λ i. c .before .before .before .shared-slice-known .given i .fits in
-    let e = sym (s .pre) in
-    let f = found g (a .count) k e .few in
-    omega arith
+sheet-length-requires : tie.Need-sheet-length-requires
+sheet-length-requires c κs = search needs
 
 file-length-requires : tie.Need-file-length-requires
 file-length-requires c κs = search needs
 
 returns-2 : tie.Need-returns-2
 returns-2 c =
-    let s = c .before .before .before .before .before .before .before in
+    let s = c .before .before .before .before .before .before .before .before in
     let a = s .args in
     let g = a .galley .now in
-    let k : Bytes g = λ i. c .before .before .before .before .before .before .shared-slice-known .given i .fits in
+    let k : Bytes g = λ i. c .before .before .before .before .before .before .before .shared-slice-known .given i .fits in
     let e = sym (s .pre) in
     let l = c .before .file-length .ensures ∙ sym (ap length (same-file g (a .count) k e)) in
     let h : length (a .dvi .now) < length (file g (a .count) k e) = omega (arith, l, c .if3 .taken) in
     refuses (a .dvi .now) (a .sheet .now)
-    (short-file g (a .count) k e (a .widths .now) (c .before .before .before .if1 .left) (length (a .dvi .now)) (length (a .sheet .now)) h ∙ ap (stopped noDviRoom) (sym l))
+    (short-file g (a .count) k e (a .widths .now) (c .before .before .before .before .if1 .left) (length (a .dvi .now)) (length (a .sheet .now)) h ∙ ap (stopped noDviRoom) (sym l))
 
 returns-3 : tie.Need-returns-3
 returns-3 c =
-    let s = c .before .before .before .before .before .before .before in
+    let s = c .before .before .before .before .before .before .before .before in
     let a = s .args in
     let g = a .galley .now in
-    let k : Bytes g = λ i. c .before .before .before .before .before .before .shared-slice-known .given i .fits in
+    let k : Bytes g = λ i. c .before .before .before .before .before .before .before .shared-slice-known .given i .fits in
     let e = sym (s .pre) in
     let l = c .before .file-length .ensures ∙ sym (ap length (same-file g (a .count) k e)) in
+    let n = c .before .before .before .sheet-length .ensures ∙ sheet-needed g (a .count) k e in
     let h : length (file g (a .count) k e) ≤ length (a .dvi .now) = omega (arith, l, c .if3 .left) in
     refuses (a .dvi .now) (a .sheet .now)
-    (short-sheet g (a .count) k e (a .widths .now) (c .before .before .before .if1 .left) (length (a .dvi .now)) (length (a .sheet .now)) h (c .before .before .if2 .taken))
+    (short-sheet g (a .count) k e (a .widths .now) (c .before .before .before .before .if1 .left) (length (a .dvi .now)) (length (a .sheet .now)) h (omega (arith, c .before .before .if2 .taken, n)) ∙ ap (stopped noSheetRoom) (sym n))
 
 write-dvi-requires : tie.Need-write-dvi-requires
 write-dvi-requires c κs = search needs
@@ -83,22 +67,22 @@ enum-known-written-2 : tie.Need-enum-known-written-2
 enum-known-written-2 c = search needs
 
 -- the writer has accepted the galley, with this length
-accepted-by : (c : tie.After-known-told2) → let a = c .before .before .before .before .before .before .before .before .before .before .before .before .args in accepted (c .before .written2 .given .0 .0) ≡ outcome (dviResult (a .galley .now) (length (a .dvi .now)))
+accepted-by : (c : tie.After-known-told2) → let a = c .before .before .before .before .before .before .before .before .before .before .before .before .before .args in accepted (c .before .written2 .given .0 .0) ≡ outcome (dviResult (a .galley .now) (length (a .dvi .now)))
 accepted-by c = sym (ap outcomeOf (c .before .written2 .given .1)) ∙ c .before .before .before .before .before .write-dvi .ensures .0
 
 part-fits : (c : tie.After-known-told2) → c .before .written2 .given .0 .0 ≤ length (c .before .before .before .before .before .write-dvi .last .1 .0)
 part-fits c =
-    let s = c .before .before .before .before .before .before .before .before .before .before .before .before in
+    let s = c .before .before .before .before .before .before .before .before .before .before .before .before .before in
     let a = s .args in
     let g = a .galley .now in
-    let k : Bytes g = λ i. c .before .before .before .before .before .before .before .before .before .before .before .shared-slice-known .given i .fits in
+    let k : Bytes g = λ i. c .before .before .before .before .before .before .before .before .before .before .before .before .shared-slice-known .given i .fits in
     let e = sym (s .pre) in
     let l = accepted-file g (a .count) k e (length (a .dvi .now)) _ (accepted-by c) in
     let h = file-fits g (a .count) k e (a .dvi .now) _ (accepted-by c) in
     omega (arith, l, h, c .before .before .before .before .before .write-dvi .kept .1 .0)
 
 -- the writer has refused it
-refused-by : (c : tie.After-known-told) → let a = c .before .before .before .before .before .before .before .before .before .before .before .before .args in refused (c .before .written .given .0 .0) (c .before .written .given .0 .1 .0) ≡ outcome (dviResult (a .galley .now) (length (a .dvi .now)))
+refused-by : (c : tie.After-known-told) → let a = c .before .before .before .before .before .before .before .before .before .before .before .before .before .args in refused (c .before .written .given .0 .0) (c .before .written .given .0 .1 .0) ≡ outcome (dviResult (a .galley .now) (length (a .dvi .now)))
 refused-by c = sym (ap outcomeOf (c .before .written .given .1)) ∙ c .before .before .before .before .before .write-dvi .ensures .0
 
 slice-reshare-prefix-read-dvi : tie.Need-slice-reshare-prefix-read-dvi
@@ -115,13 +99,13 @@ same-length c = search needs
 
 returns-4 : tie.Need-returns-4
 returns-4 c =
-    let s = c .before .before .before .before .before .before .before .before .before .before .before .before in
+    let s = c .before .before .before .before .before .before .before .before .before .before .before .before .before in
     let a = s .args in
     let g = a .galley .now in
-    let k : Bytes g = λ i. c .before .before .before .before .before .before .before .before .before .before .before .shared-slice-known .given i .fits in
+    let k : Bytes g = λ i. c .before .before .before .before .before .before .before .before .before .before .before .before .shared-slice-known .given i .fits in
     let e = sym (s .pre) in
     let r = c .before .before .before .before .before .write-dvi in
-    let q = short-file g (a .count) k e (a .widths .now) (c .before .before .before .before .before .before .before .before .if1 .left) (length (a .dvi .now)) (length (a .sheet .now)) (refused-file g (a .count) k e (length (a .dvi .now)) _ _ (refused-by c) .1 .1) in
+    let q = short-file g (a .count) k e (a .widths .now) (c .before .before .before .before .before .before .before .before .before .if1 .left) (length (a .dvi .now)) (length (a .sheet .now)) (refused-file g (a .count) k e (length (a .dvi .now)) _ _ (refused-by c) .1 .1) in
     refused-writing g (a .count) k e (a .dvi .now) (a .sheet .now) _ _ (refused-by c) (r .ensures .1) q
 
 same-length-2 : tie.Need-same-length-2
@@ -132,15 +116,16 @@ same-length-3 c = search needs
 
 returns-5 : tie.Need-returns-5
 returns-5 c =
-    let s = c .before .before .before .before .before .before .before .before .before .before .before .before .before .before .before .before .before in
+    let s = c .before .before .before .before .before .before .before .before .before .before .before .before .before .before .before .before .before .before in
     let a = s .args in
     let g = a .galley .now in
-    let k : Bytes g = λ i. c .before .before .before .before .before .before .before .before .before .before .before .before .before .before .before .before .shared-slice-known .given i .fits in
+    let k : Bytes g = λ i. c .before .before .before .before .before .before .before .before .before .before .before .before .before .before .before .before .before .shared-slice-known .given i .fits in
     let e = sym (s .pre) in
     let r = c .before .before .before .before .before .before .before .before .before .before .write-dvi in
     let q = accepted-by (c .before .before .before .before .before) in
     let d = c .before .before .read-dvi in
-    completes g (a .count) k e (a .dvi .now) _ q (a .widths .now) (c .before .before .before .before .before .before .before .before .before .before .before .before .before .if1 .left) (a .sheet .now) (c .before .before .before .before .before .before .before .before .before .before .before .before .if2 .left) (outcomeOf (d .result)) _ _ _
+    let n = c .before .before .before .before .before .before .before .before .before .before .before .before .before .sheet-length .ensures ∙ sheet-needed g (a .count) k e in
+    completes g (a .count) k e (a .dvi .now) _ q (a .widths .now) (c .before .before .before .before .before .before .before .before .before .before .before .before .before .before .if1 .left) (a .sheet .now) (omega (arith, c .before .before .before .before .before .before .before .before .before .before .before .before .if2 .left, n)) (outcomeOf (d .result)) _ _ _
     (written-part g (a .count) k e (a .dvi .now) _ q _ (r .ensures .1)) (r .ensures .1) (d .ensures .0) (d .ensures .1)
 
 pub reprint-checked-spec : {M : Type 1} → statement M
@@ -148,8 +133,7 @@ reprint-checked-spec =
     tie.close
     (tie.spec
     returns
-    mul-needed
-    add-needed
+    sheet-length-requires
     file-length-requires
     returns-2
     returns-3

@@ -12,12 +12,18 @@ use Rattle.octets.specs.Answer.{accepted, outcome, after}
 use Rattle.galley_file.specs.Galley.{fields}
 use Rattle.octets.specs.Answer.{outcome, after}
 use Rattle.tape.specs.Tape.{run}
-use Rattle.tape.proofs.Results.{read-fault, read-open, needed, read-short, read-whole, filled}
+use Rattle.tape.proofs.Results.{read-fault, read-cut, read-open, needed, read-short, read-whole, fields-counted, filled}
 use Rattle.tape.proofs.read_from.Statement.{statement}
 use Rattle.tape.proofs.read_from.Tie as tie
 
 pass-requires : tie.Need-pass-requires
 pass-requires c κs = ((c .before .before .before .pre .0, omega (arith, c .before .before .before .pre .1)), λ h. absurd (true≢false (sym h)))
+
+mul-start : tie.Need-mul-start
+mul-start c = omega (arith, c .before .before .pass .ensures .few)
+
+add-start : tie.Need-add-start
+add-start c = let p = c .before .before .before .pass .ensures in omega (arith, p .few, p .short)
 
 enum-known-ending : tie.Need-enum-known-ending
 enum-known-ending c = search needs
@@ -25,11 +31,9 @@ enum-known-ending c = search needs
 enum-known-ending-2 : tie.Need-enum-known-ending-2
 enum-known-ending-2 c = search needs
 
-mul-start : tie.Need-mul-start
-mul-start c = search needs
-
-add-needed : tie.Need-add-needed
-add-needed c = search needs
+-- the bytes of the fields that the first pass has counted
+bytes-counted : (c : tie.After-pass) → 9 * (c .pass .result .count) + c .pass .result .cuts ≡ length (fields (run (c .before .before .before .before .args .first) 0 (c .before .before .before .before .args .tape .now) .items))
+bytes-counted c = fields-counted _ _ _ (c .pass .ensures .counted) (c .pass .ensures .parted)
 
 same-length : tie.Need-same-length
 same-length c = search needs
@@ -38,51 +42,59 @@ returns : tie.Need-returns
 returns c =
     let a = c .before .before .before .before .before .before .before .before .before .before .before .args in
     let p = c .before .before .before .before .before .before .before .pass in
-    let same = p .ensures .buffer in
-    let e = sym (p .ensures .ended) ∙ c .before .before .before .ending2 .given .1 in
-    let short : length (a .galley .now) < 9 * p .result .count + 7 = omega (arith, c .if2 .taken, ap length same) in
-    let q = read-short (a .first) (a .tape .now) (length (a .galley .now)) _ e (c .before .if1 .taken) (p .result .count) (p .ensures .counted) short in
-    (sym (ap outcome q), same ∙ sym (ap (after (a .galley .now)) q))
+    let e = sym (p .ensures .ended) ∙ c .before .before .ending2 .given .1 in
+    let q = read-cut (a .first) (a .tape .now) (length (a .galley .now)) _ e (c .if1 .taken) in
+    (sym (ap outcome q), p .ensures .buffer ∙ sym (ap (after (a .galley .now)) q))
 
-pass-requires-2 : tie.Need-pass-requires-2
-pass-requires-2 c κs = search needs
-
-cast-put-end : tie.Need-cast-put-end
-cast-put-end c = search needs
-
-put-end-requires : tie.Need-put-end-requires
-put-end-requires c κs = search needs
+add-needed : tie.Need-add-needed
+add-needed c = let p = c .before .before .before .before .before .before .before .before .pass .ensures in omega (arith, p .few, p .short)
 
 same-length-2 : tie.Need-same-length-2
 same-length-2 c = search needs
 
 returns-2 : tie.Need-returns-2
 returns-2 c =
-    let t = c .before .before .before .before .before .before .before .before in
-    let a = t .before .before .before .before .before .before .before .before .before .before .before .args in
-    let p = t .before .before .before .before .before .before .before .pass in
-    let m = c .before .before .before .before .before .before .pass2 in
+    let a = c .before .before .before .before .before .before .before .before .before .before .before .before .before .args in
+    let p = c .before .before .before .before .before .before .before .before .before .pass in
     let same = p .ensures .buffer in
-    let n = p .result .count in
-    let e = sym (p .ensures .ended) ∙ t .before .before .before .ending2 .given .1 in
-    let room : 9 * n + 7 ≤ length (a .galley .now) = omega (arith, t .if2 .left, ap length same) in
-    let q = read-whole (a .first) (a .tape .now) (length (a .galley .now)) _ e (t .before .if1 .taken) n (p .ensures .counted) room in
-    let cs = run (a .first) 0 (a .tape .now) .characters in
-    let w = m .ensures .buffer ∙ ap (λ (g : List ℕ). sets g 0 (fields cs)) same in (
-      ap accepted (sym (needed (a .first) (a .tape .now) (length (a .galley .now)) _ e (t .before .if1 .taken) n (p .ensures .counted))) ∙ sym (ap outcome q),
-      filled cs n (9 * n) (a .galley .now) (m .last .1 .1 .1 .0) (c .before .before .put-end .last .0) (p .ensures .counted) refl room w (c .before .before .put-end .ensures .buffer-is)
-          ∙ sym (ap (after (a .galley .now)) q),
-    )
+    let e = sym (p .ensures .ended) ∙ c .before .before .before .before .ending2 .given .1 in
+    let n = bytes-counted (c .before .before .before .before .before .before .before .before .before) in
+    let short : length (a .galley .now) < 9 * p .result .count + p .result .cuts + 7 = omega (arith, c .if3 .taken, ap length same) in
+    let q = read-short (a .first) (a .tape .now) (length (a .galley .now)) _ e (c .before .before .if1 .left) (c .before .if2 .taken) _ n short in
+    (sym (ap outcome q), same ∙ sym (ap (after (a .galley .now)) q))
+
+pass-requires-2 : tie.Need-pass-requires-2
+pass-requires-2 c κs =
+    let s = c .before .before .before .before .before .before .before .before .before .before .before .before .before .before in
+    let p = c .before .before .before .before .before .before .before .before .before .before .pass in
+    ((s .pre .0, omega (arith, s .pre .1)), λ _. omega (arith, bytes-counted (c .before .before .before .before .before .before .before .before .before .before), c .before .if3 .left, ap length (p .ensures .buffer)))
+
+cast-put-end : tie.Need-cast-put-end
+cast-put-end c = omega (arith, c .before .before .before .before .before .before .before .before .before .before .before .before .before .before .pass .ensures .few)
+
+put-end-requires : tie.Need-put-end-requires
+put-end-requires c κs = search needs
 
 same-length-3 : tie.Need-same-length-3
 same-length-3 c = search needs
 
 returns-3 : tie.Need-returns-3
 returns-3 c =
-    let a = c .before .before .before .before .before .before .before .before .before .args in
-    let p = c .before .before .before .before .before .pass in
-    let q = read-fault (a .first) (a .tape .now) (length (a .galley .now)) (sym (p .ensures .ended) ∙ c .before .ending .given .1) in
-    (sym (ap outcome q), p .ensures .buffer ∙ sym (ap (after (a .galley .now)) q))
+    let t = c .before .before .before .before .before .before .before .before in
+    let a = c .before .before .before .before .before .before .before .before .before .before .before .before .before .before .before .before .before .before .before .before .before .args in
+    let p = c .before .before .before .before .before .before .before .before .before .before .before .before .before .before .before .before .before .pass in
+    let m = c .before .before .before .before .before .before .pass2 in
+    let same = p .ensures .buffer in
+    let n = bytes-counted (c .before .before .before .before .before .before .before .before .before .before .before .before .before .before .before .before .before) in
+    let e = sym (p .ensures .ended) ∙ c .before .before .before .before .before .before .before .before .before .before .before .before .ending2 .given .1 in
+    let room : 9 * p .result .count + p .result .cuts + 7 ≤ length (a .galley .now) = omega (arith, t .if3 .left, ap length same) in
+    let q = read-whole (a .first) (a .tape .now) (length (a .galley .now)) _ e (c .before .before .before .before .before .before .before .before .before .before .if1 .left) (c .before .before .before .before .before .before .before .before .before .if2 .taken) _ n room in
+    let is = run (a .first) 0 (a .tape .now) .items in
+    let w = m .ensures .buffer ∙ ap (λ (g : List ℕ). sets g 0 (fields is)) same in (
+      ap accepted (sym (needed (a .first) (a .tape .now) (length (a .galley .now)) _ e (c .before .before .before .before .before .before .before .before .before .before .if1 .left) (c .before .before .before .before .before .before .before .before .before .if2 .taken) _ n)) ∙ sym (ap outcome q),
+      filled is (p .result .count) _ (a .galley .now) (m .last .1 .1 .1 .0) (c .before .before .put-end .last .0) (p .ensures .counted) n room w (c .before .before .put-end .ensures .buffer-is)
+          ∙ sym (ap (after (a .galley .now)) q),
+    )
 
 same-length-4 : tie.Need-same-length-4
 same-length-4 c = search needs
@@ -91,27 +103,22 @@ returns-4 : tie.Need-returns-4
 returns-4 c =
     let a = c .before .before .before .before .before .before .before .before .before .before .args in
     let p = c .before .before .before .before .before .before .pass in
-    let e = sym (p .ensures .ended) ∙ c .before .before .ending2 .given .1 in
-    let q = read-open (a .first) (a .tape .now) (length (a .galley .now)) _ e (c .if1 .left) in
+    let q = read-fault (a .first) (a .tape .now) (length (a .galley .now)) (sym (p .ensures .ended) ∙ c .before .ending .given .1) in
+    (sym (ap outcome q), p .ensures .buffer ∙ sym (ap (after (a .galley .now)) q))
+
+same-length-5 : tie.Need-same-length-5
+same-length-5 c = search needs
+
+returns-5 : tie.Need-returns-5
+returns-5 c =
+    let a = c .before .before .before .before .before .before .before .before .before .before .before .before .args in
+    let p = c .before .before .before .before .before .before .before .before .pass in
+    let e = sym (p .ensures .ended) ∙ c .before .before .before .ending2 .given .1 in
+    let q = read-open (a .first) (a .tape .now) (length (a .galley .now)) _ e (c .before .if1 .left) (c .if2 .left) in
     (sym (ap outcome q), p .ensures .buffer ∙ sym (ap (after (a .galley .now)) q))
 
 pub read-from-spec : {M : Type 1} → statement M
 read-from-spec =
     tie.close
-    (tie.spec
-    pass-requires
-    enum-known-ending
-    enum-known-ending-2
-    mul-start
-    add-needed
-    same-length
-    returns
-    pass-requires-2
-    cast-put-end
-    put-end-requires
-    same-length-2
-    returns-2
-    same-length-3
-    returns-3
-    same-length-4
-    returns-4)
+    (tie.spec pass-requires mul-start add-start enum-known-ending enum-known-ending-2 same-length returns add-needed same-length-2 returns-2
+    pass-requires-2 cast-put-end put-end-requires same-length-3 returns-3 same-length-4 returns-4 same-length-5 returns-5)

@@ -12,6 +12,8 @@ pub struct Arguments {
     pub widths: Option<OsString>,
     /// -d
     pub folder: Option<OsString>,
+    /// --page
+    pub page: Option<OsString>,
 }
 
 /// Whether --help or -h is among the options.
@@ -22,7 +24,7 @@ pub fn ask_for_help(words: &[OsString]) -> bool {
 /// One input, and the options that the command has.
 pub fn parse(command: &Command, words: &[OsString]) -> Result<Arguments, Failure> {
     let wrong = |what: String| Failure::Usage(format!("{what}\nUsage: spatecanter {}", command.usage));
-    let mut arguments = Arguments { input: OsString::new(), output: None, widths: None, folder: None };
+    let mut arguments = Arguments { input: OsString::new(), output: None, widths: None, folder: None, page: None };
     let mut inputs = Vec::new();
     let mut words = words.iter();
     while let Some(word) = words.next() {
@@ -61,6 +63,7 @@ impl Arguments {
             "-o" => Some(&mut self.output),
             "--widths" => Some(&mut self.widths),
             "-d" => Some(&mut self.folder),
+            "--page" => Some(&mut self.page),
             _ => None,
         }
     }

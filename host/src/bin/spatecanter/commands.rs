@@ -6,9 +6,11 @@ use crate::files::{self, Output, NO_LIMIT};
 use crate::summary::Summary;
 use crate::text::{self, grouped};
 use crate::{explain, help, plot, progress};
+use spatecanter::galley::characters;
 use spatecanter::{sheet, Reprint, DVI_LIMIT, GALLEY_LIMIT, TAPE_LIMIT};
 use std::ffi::OsStr;
 use std::fs;
+use std::ops::Range;
 use std::path::{Path, PathBuf};
 
 pub struct Command {
@@ -41,8 +43,8 @@ pub const COMMANDS: [Command; 8] = [
     },
     Command {
         name: "plot",
-        usage: "plot TAPE|GALLEY [-o SVG]",
-        options: &["-o"],
+        usage: "plot TAPE|GALLEY [--page N] [-o SVG]",
+        options: &["--page", "-o"],
         help: help::PLOT,
         run: draw,
     },
@@ -53,7 +55,7 @@ fn read(arguments: &Arguments) -> Result<(), Failure> {
     let tape = files::read(&arguments.input, TAPE_LIMIT)?;
     let galley = galley_of(&arguments.input, &tape)?;
     output.write(&galley)?;
-    output.tell(&format!("{} characters", grouped(galley.len() / 9)));
+    output.tell(&format!("{} characters", grouped(characters(&galley).count())));
     Ok(())
 }
 
@@ -148,7 +150,7 @@ fn draw(arguments: &Arguments) -> Result<(), Failure> {
     let output = Output::choose(arguments.output.as_deref(), &[&arguments.input], "svg")?;
     let bytes = files::read(&arguments.input, GALLEY_LIMIT)?;
     let galley = match bytes.first() {
-        Some(1 | 2) => {
+        Some(1 | 2 | 6) => {
             spatecanter::check_galley(&bytes)
                 .map_err(|refusal| explain::galley(&arguments.input, &bytes, refusal))?;
             bytes
@@ -156,10 +158,27 @@ fn draw(arguments: &Arguments) -> Result<(), Failure> {
         _ => galley_of(&arguments.input, &bytes)?,
     };
     let name = files::shown(&arguments.input);
-    let picture = progress::during("drawing", || plot::picture(&name, &galley));
+    let pages = plot::pages(&galley);
+    let shown = chosen(arguments.page.as_deref(), pages.len())?;
+    let picture = progress::during("drawing", || plot::picture(&name, &pages, shown.clone()));
     output.write(picture.as_bytes())?;
-    output.tell(&format!("{} characters", grouped(galley.len() / 9)));
+    output.tell(&format!("{} characters", grouped(plot::count(&pages[shown]))));
     Ok(())
+}
+
+/// The pages to draw, counted from 0: the one that --page names, or all.
+fn chosen(page: Option<&OsStr>, pages: usize) -> Result<Range<usize>, Failure> {
+    let Some(word) = page else {
+        return Ok(0..pages);
+    };
+    match word.to_str().and_then(|text| text.parse::<usize>().ok()) {
+        Some(number) if (1..=pages).contains(&number) => Ok(number - 1..number),
+        _ => Err(Failure::Usage(format!(
+            "--page {} is no page: there are {}, counted from 1",
+            word.to_string_lossy(),
+            grouped(pages)
+        ))),
+    }
 }
 
 fn galley_of(name: &OsStr, tape: &[u8]) -> Result<Vec<u8>, Failure> {

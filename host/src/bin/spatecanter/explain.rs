@@ -3,8 +3,8 @@
 use crate::failure::Failure;
 use crate::files::shown;
 use crate::text::grouped;
-use spatecanter::galley::characters;
-use spatecanter::{number, Refusal};
+use spatecanter::galley::{characters, items};
+use spatecanter::{number, Refusal, ITEM_LIMIT};
 use std::ffi::OsStr;
 
 pub fn tape(name: &OsStr, tape: &[u8], refusal: Refusal) -> Failure {
@@ -70,10 +70,11 @@ fn code_in_words(code: u8) -> String {
         0x48 => "escape backward",
         0x49 => "stop",
         0x4A => "lead forward",
+        0x4B => "a cut",
         0x4C => "lead backward",
         0x4E => "tilt up",
         0x4F => "tilt down",
-        0x4B | 0x4D | 0x5F | 0xFF => "which means nothing to the machine",
+        0x4D | 0x5F | 0xFF => "which means nothing to the machine",
         0x50..=0x5E => "a size",
         0x60..=0x7F => return format!("a lead of {} quanta", lead_size(code)),
         0x80..=0xFE => return format!("an escape of {} units", escape_size(code)),
@@ -91,7 +92,7 @@ fn escape_size(code: u8) -> i32 {
 
 fn expected_code(tape: &[u8], refusal: Refusal) -> String {
     let words = match refusal.number {
-        number::ILLEGAL_CODE => "any code but 4B, 4D, 5F and FF",
+        number::ILLEGAL_CODE => "any code but 4D, 5F and FF",
         number::BEFORE_INITIALIZE => "initialize (40), after nothing but 00",
         number::AFTER_STOP => "nothing but 00, since stop was read",
         number::PARKED => "an escape of 16 (EF), forward, since the carriage is parked",
@@ -99,6 +100,7 @@ fn expected_code(tape: &[u8], refusal: Refusal) -> String {
         number::OUT_OF_RANGE => return expected_motion(tape, refusal.place),
         number::UPPER_HALF => "a flash of at most 45 (2D), or lower half (45) before it",
         number::NO_STOP => "stop (49)",
+        number::AFTER_CUT => "initialize (40), after nothing but 00, since a cut was read",
         _ => "nothing else",
     };
     words.into()
@@ -132,13 +134,18 @@ fn standing(start: &[u8]) -> Option<(i32, i32)> {
 
 /// What is wrong with the first bad field of a galley.
 fn expected_field(galley: &[u8], place: usize) -> String {
-    let count = place / 9;
-    match &galley[place.min(galley.len())..] {
-        _ if !place.is_multiple_of(9) => "the end of the file, since End was read".into(),
-        [2, 0, 4, _, _, _, _, ..] => format!("an End that counts {} characters", grouped(count)),
+    let (before, rest) = galley.split_at(place.min(galley.len()));
+    let (items, characters) = (items(before).count(), characters(before).count());
+    let cuts = items - characters;
+    match rest {
+        _ if 9 * characters + 3 * cuts < before.len() => "the end of the file, since End was read".into(),
+        [2, 0, 4, _, _, _, _, ..] => format!("an End that counts {} characters", grouped(characters)),
+        _ if items == ITEM_LIMIT => {
+            format!("End (02 00 04 ...), after {} characters and cuts", grouped(items))
+        }
         [1, 0, 6, _, _, _, _, font_number, code, ..] => expected_character(*font_number, *code).into(),
         [1, 0, 6, ..] | [2, 0, 4, ..] => "the rest of the field, which is cut short".into(),
-        _ => "a character (01 00 06 ...) or End (02 00 04 ...)".into(),
+        _ => "a character (01 00 06 ...), a cut (06 00 00) or End (02 00 04 ...)".into(),
     }
 }
 

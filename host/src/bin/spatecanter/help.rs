@@ -13,7 +13,7 @@ Usage: spatecanter COMMAND ...
   show DVI [--widths FILE] [-o SHEET]   a DVI file to a sheet
   sheet SHEET                           a sheet as text
   reprint TAPE -d FOLDER                a tape to galley, DVI file and sheet, with a summary
-  plot TAPE|GALLEY [-o SVG]             a picture of the page
+  plot TAPE|GALLEY [--page N] [-o SVG]  a picture of the pages
 
   COMMAND --help                        more about a command
   --version                             the version
@@ -28,7 +28,8 @@ its place. 2: wrong usage, or a file that cannot be read or written.
 ";
 
 pub const READ: &str = "\
-Reads a C/A/T tape and writes its galley: every character with its place, font and size.
+Reads a C/A/T tape and writes its galley: every character with its place, font and size, and
+every cut between pages.
 
 Usage: spatecanter read TAPE [-o GALLEY]
 
@@ -37,7 +38,7 @@ place, the byte there and its offset in hexadecimal, and what was expected.
 
 Numbers, at the place of the byte unless another is said:
    1  the tape is longer than that; at 0
-   2  illegal code (4B, 4D, 5F, FF)
+   2  illegal code (4D, 5F, FF)
    3  a code other than 00 before the first initialize
    4  a code other than 00 after stop
    5  while parked, a flash or an escape other than 16 forward
@@ -45,6 +46,8 @@ Numbers, at the place of the byte unless another is said:
    7  the carriage would leave 0 to 3,239, or the height 0 to 65,535
    8  a flash above 45 in the upper half
    9  the tape ends without stop; at its length
+  10  after a cut, a code other than 00 and initialize; or the tape ends there, then at its
+      length
 
 Without -o the galley of page.tape is page.galley.
 ";
@@ -57,21 +60,22 @@ Usage: spatecanter check GALLEY
 Numbers:
   40  the galley is longer than 9,437,191 bytes; at 0
   41  it is malformed; at the first bad field, at the first byte after End, or at the length
-      if End is missing
+      if End is missing. More than 1,048,576 characters and cuts together are malformed too
 ";
 
 pub const LIST: &str = "\
-Lists a galley as text: a line for each character, then their number.
+Lists a galley as text: a line for each character and each cut, then the number of
+characters.
 
 Usage: spatecanter list GALLEY
 
 The columns are x (units of 1/432 inch), y (the height, in quanta of 1/144 inch), font (1 to
-8), size (points) and char (1 to 108). The text goes to standard output. Refusals are those
-of check.
+8), size (points) and char (1 to 108); the line of a cut is just cut. The text goes to
+standard output. Refusals are those of check.
 ";
 
 pub const SET: &str = "\
-Writes a galley as a DVI file of 1980, on one page.
+Writes a galley as a DVI file of 1980. Each cut ends a page and starts the next.
 
 Usage: spatecanter set GALLEY [-o DVI]
 
@@ -131,15 +135,16 @@ Refusals are those of read.
 ";
 
 pub const PLOT: &str = "\
-Draws the page as an SVG picture: a small mark for each character at its place, without
-letter shapes.
+Draws the pages below one another as an SVG picture: a small mark for each character at its
+place, without letter shapes.
 
-Usage: spatecanter plot TAPE|GALLEY [-o SVG]
+Usage: spatecanter plot TAPE|GALLEY [--page N] [-o SVG]
 
 Font 1 is blue and upright, font 2 orange and slanted, other fonts grey; marks of double
-sizes are larger. The legend tells how many there are. A file that begins with byte 01 or 02
-is read as a galley, any other as a tape; no tape and no galley is taken for the other.
+sizes are larger. The legend tells how many there are. A file that begins with byte 01, 02 or
+06 is read as a galley, any other as a tape; no tape and no galley is taken for the other.
 Refusals are those of read and check.
 
-Without -o the picture of page.tape is page.svg.
+With --page only that page is drawn, counted from 1. Without -o the picture of page.tape is
+page.svg.
 ";

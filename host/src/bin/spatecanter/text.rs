@@ -2,7 +2,7 @@
 
 use crate::failure::Failure;
 use crate::files::on_standard_output;
-use spatecanter::galley::characters;
+use spatecanter::galley::{items, Item};
 use spatecanter::sheet::{fields, Field};
 use std::io::{self, stdout, BufWriter, Write};
 
@@ -24,9 +24,14 @@ pub fn print_galley(galley: &[u8]) -> Result<(), Failure> {
     on_standard_out(|out| {
         writeln!(out, "x y font size char")?;
         let mut count = 0;
-        for it in characters(galley) {
-            writeln!(out, "{} {} {} {} {}", it.x, it.height, it.font(), it.points(), it.code)?;
-            count += 1;
+        for item in items(galley) {
+            match item {
+                Item::Character(it) => {
+                    writeln!(out, "{} {} {} {} {}", it.x, it.height, it.font(), it.points(), it.code)?;
+                    count += 1;
+                }
+                Item::Cut => writeln!(out, "cut")?,
+            }
         }
         writeln!(out, "{count} glyphs")
     })

@@ -1,6 +1,6 @@
 //! DVI files with their width tables.
 
-use super::damaged;
+use super::{damaged, valid_galley_with_cuts};
 use crate::plain;
 use spatecanter::sample::Random;
 
@@ -10,11 +10,12 @@ pub struct DviFile {
     pub widths: Vec<i32>,
 }
 
-/// A file of any kind: valid, with slips, damaged, or of any bytes.
+/// A file of any kind: valid, with slips, written from a galley, damaged, or of any bytes.
 pub fn dvi_file(random: &mut Random) -> DviFile {
-    let mut file = match random.below(10) {
+    let mut file = match random.below(11) {
         0..=3 => made(random, false),
         4..=6 => made(random, true),
+        7 => written(random),
         _ => valid_dvi_file(random),
     };
     if random.one_in(3) {
@@ -40,13 +41,20 @@ pub fn valid_dvi_file(random: &mut Random) -> DviFile {
     file
 }
 
+/// The file of a galley with cuts: several pages, some of them empty.
+fn written(random: &mut Random) -> DviFile {
+    let items = random.below(12);
+    let galley = valid_galley_with_cuts(random, items, 3);
+    DviFile { bytes: plain::write_dvi(&galley).unwrap(), widths: vec![] }
+}
+
 /// Pages of commands and a postamble; with `slips`, now and then a command that is out of place.
 fn made(random: &mut Random, slips: bool) -> DviFile {
     let fonts = random.pick(&[0, 1, 1, 2, 2, 3, 4]);
     let fonts = if random.one_in(200) { 70 } else { fonts };
     let mut writer = Writer { bytes: vec![], fonts, depth: 0, has_font: false, slips };
     let mut last = -1;
-    for _ in 0..random.between(1, 3) {
+    for _ in 0..random.pick(&[1, 1, 2, 2, 3, 5]) {
         let bop = writer.bytes.len() as i32;
         writer.page(random, last);
         last = bop;
@@ -82,7 +90,8 @@ struct Writer {
 impl Writer {
     fn page(&mut self, random: &mut Random, previous: i32) {
         let wrong = self.slips && random.one_in(30);
-        self.command(129, &[amount(random), if wrong { previous + 1 } else { previous }]);
+        let wrong_previous = random.pick(&[previous + 1, -1, 0, self.bytes.len() as i32]);
+        self.command(129, &[amount(random), if wrong { wrong_previous } else { previous }]);
         self.has_font = false;
         if random.one_in(20) {
             self.deep(random);

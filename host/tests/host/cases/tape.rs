@@ -3,15 +3,16 @@
 use super::damaged;
 use spatecanter::sample::Random;
 
-/// A tape of any kind: valid, damaged, of likely codes, or of any bytes.
+/// A tape of any kind: valid, damaged, with a bad cut, of likely codes, or of any bytes.
 pub fn tape(random: &mut Random) -> Vec<u8> {
-    match random.below(10) {
+    match random.below(11) {
         0 => {
             let length = random.below(30);
             random.bytes(length)
         }
         1 | 2 => likely_codes(random),
         3..=5 => valid_tape(random),
+        6 => with_a_cut(random),
         _ => {
             let tape = valid_tape(random);
             damaged(random, tape)
@@ -31,6 +32,25 @@ fn likely_codes(random: &mut Random) -> Vec<u8> {
         });
     }
     tape.push(0x49);
+    tape
+}
+
+/// A valid tape with a cut put in anywhere: before initialize, after a cut, after stop. Some 00 and mostly
+/// another code than initialize come after it, or the end.
+fn with_a_cut(random: &mut Random) -> Vec<u8> {
+    let mut tape = valid_tape(random);
+    let rest = tape.split_off(random.below(tape.len() + 1));
+    tape.push(0x4B);
+    tape.extend(vec![0; random.pick(&[0, 0, 1, 3])]);
+    match random.below(8) {
+        0 => return tape,
+        1 => tape.push(0x4B),
+        2 => tape.push(random.pick(&[0x4D, 0x5F, 0xFF])),
+        3 => tape.push(random.byte()),
+        4 => tape.extend([0x40, 0xEF]),
+        _ => {}
+    }
+    tape.extend(rest);
     tape
 }
 
@@ -80,6 +100,14 @@ impl Walk {
         self.lead_backward = false;
     }
 
+    /// A cut, and the initialize that it asks for.
+    fn cut(&mut self, random: &mut Random) {
+        self.tape.push(0x4B);
+        self.height = 0;
+        self.nothing(random);
+        self.initialize();
+    }
+
     /// Near the right switch.
     fn near_the_right(&mut self, random: &mut Random) {
         self.tape.extend([0xEF, 0x52]);
@@ -103,6 +131,7 @@ impl Walk {
             1..=4 => self.mode(random),
             5 | 6 => self.lead(random.between(0, 31)),
             7 if random.one_in(8) => self.initialize(),
+            8 if random.one_in(3) => self.cut(random),
             7..=12 => self.motion(random),
             _ => self.flash(random),
         }

@@ -11,7 +11,7 @@ pub struct Character {
 }
 
 impl Character {
-    pub fn field(&self) -> Vec<u8> {
+    fn field(&self) -> Vec<u8> {
         let mut body = Vec::new();
         body.extend((self.x as i16).to_be_bytes());
         body.extend((self.height as u16).to_be_bytes());
@@ -36,24 +36,57 @@ impl Character {
     }
 }
 
-pub fn end_field(count: usize) -> Vec<u8> {
-    field(2, &(count as u32).to_be_bytes())
+/// What stands in a galley before End.
+#[derive(Clone, Copy)]
+pub enum Item {
+    Character(Character),
+    Cut,
+}
+
+impl Item {
+    fn field(&self) -> Vec<u8> {
+        match self {
+            Item::Character(character) => character.field(),
+            Item::Cut => field(6, &[]),
+        }
+    }
+}
+
+/// The galley of these items; End counts the characters.
+pub fn galley_of(items: &[Item]) -> Vec<u8> {
+    let mut galley = Vec::new();
+    for item in items {
+        galley.extend(item.field());
+    }
+    let count = characters(items).len() as u32;
+    galley.extend(field(2, &count.to_be_bytes()));
+    galley
 }
 
 /// The number of characters.
 pub fn check_galley(galley: &[u8]) -> Result<usize, Refused> {
-    characters(galley).map(|characters| characters.len())
+    Ok(characters(&items(galley)?).len())
 }
 
 pub fn read_back(galley: &[u8], n: usize) -> Result<Character, Refused> {
-    characters(galley)?.get(n).copied().ok_or((11, 0))
+    characters(&items(galley)?).get(n).copied().ok_or((11, 0))
 }
 
-pub fn characters(galley: &[u8]) -> Result<Vec<Character>, Refused> {
+fn characters(items: &[Item]) -> Vec<Character> {
+    let mut characters = Vec::new();
+    for item in items {
+        if let Item::Character(character) = item {
+            characters.push(*character);
+        }
+    }
+    characters
+}
+
+pub fn items(galley: &[u8]) -> Result<Vec<Item>, Refused> {
     if galley.len() > 9_437_191 {
         return Err((40, 0));
     }
-    let mut characters = Vec::new();
+    let mut items = Vec::new();
     let mut place = 0;
     loop {
         let bad = Err((41, place));
@@ -67,21 +100,26 @@ pub fn characters(galley: &[u8]) -> Result<Vec<Character>, Refused> {
         }
         let body = &rest[3..3 + length];
         place += 3 + length;
+        if items.len() == 1_048_576 && tag != 2 {
+            return bad;
+        }
         if tag == 1 && length == 6 {
             let character = Character::of(body);
             if !character.is_valid() {
                 return bad;
             }
-            characters.push(character);
+            items.push(Item::Character(character));
+        } else if tag == 6 && length == 0 {
+            items.push(Item::Cut);
         } else if tag == 2 && length == 4 {
             let count = u32::from_be_bytes([body[0], body[1], body[2], body[3]]);
-            if count as usize != characters.len() {
+            if count as usize != characters(&items).len() {
                 return bad;
             }
             if place < galley.len() {
                 return Err((41, place));
             }
-            return Ok(characters);
+            return Ok(items);
         } else {
             return bad;
         }

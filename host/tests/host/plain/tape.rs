@@ -1,10 +1,12 @@
 //! A tape becomes a galley.
 
-use super::galley::{end_field, Character};
+use super::galley::{galley_of, Character, Item};
 use super::Refused;
 
 struct Machine {
     begun: bool,
+    /// After a cut, until the next initialize.
+    cut: bool,
     stopped: bool,
     parked: bool,
     carriage: i32,
@@ -24,6 +26,7 @@ pub fn read_tape(tape: &[u8]) -> Result<Vec<u8>, Refused> {
     }
     let mut machine = Machine {
         begun: false,
+        cut: false,
         stopped: false,
         parked: false,
         carriage: 0,
@@ -36,42 +39,43 @@ pub fn read_tape(tape: &[u8]) -> Result<Vec<u8>, Refused> {
         tilt_down: false,
         size_index: None,
     };
-    let mut characters: Vec<Character> = Vec::new();
+    let mut items: Vec<Item> = Vec::new();
     for (place, &code) in tape.iter().enumerate() {
         match machine.take(code) {
             Ok(None) => {}
-            Ok(Some(character)) => characters.push(character),
+            Ok(Some(item)) => items.push(item),
             Err(number) => return Err((number, place)),
         }
+    }
+    if machine.cut {
+        return Err((10, tape.len()));
     }
     if !machine.stopped {
         return Err((9, tape.len()));
     }
-    let mut galley = Vec::new();
-    for character in &characters {
-        galley.extend(character.field());
-    }
-    galley.extend(end_field(characters.len()));
-    Ok(galley)
+    Ok(galley_of(&items))
 }
 
 impl Machine {
-    /// The effect of one code: a character, nothing, or a refusal's number.
-    fn take(&mut self, code: u8) -> Result<Option<Character>, usize> {
+    /// The effect of one code: a character or a cut, nothing, or a refusal's number.
+    fn take(&mut self, code: u8) -> Result<Option<Item>, usize> {
         if code == 0x00 {
             return Ok(None);
         }
-        if matches!(code, 0x4B | 0x4D | 0x5F | 0xFF) {
+        if matches!(code, 0x4D | 0x5F | 0xFF) {
             return Err(2);
         }
         if !self.begun && code != 0x40 {
             return Err(3);
         }
+        if self.cut && code != 0x40 {
+            return Err(10);
+        }
         if self.stopped {
             return Err(4);
         }
         match code {
-            0x01..=0x3F => return self.flash(code.into()).map(Some),
+            0x01..=0x3F => return Ok(Some(Item::Character(self.flash(code.into())?))),
             0x40 => self.initialize(),
             0x41 => self.upper_rail = false,
             0x42 => self.upper_rail = true,
@@ -83,19 +87,25 @@ impl Machine {
             0x48 => self.escape_backward = true,
             0x49 => self.stopped = true,
             0x4A => self.lead_backward = false,
+            0x4B => {
+                self.cut = true;
+                self.height = 0;
+                return Ok(Some(Item::Cut));
+            }
             0x4C => self.lead_backward = true,
             0x4E => self.tilt_down = false,
             0x4F => self.tilt_down = true,
             0x50..=0x5E => self.size_index = Some((code - 0x50).into()),
             0x60..=0x7F => self.lead(31 - i32::from(code - 0x60))?,
             0x80..=0xFE => self.escape(127 - i32::from(code - 0x80))?,
-            0x00 | 0x4B | 0x4D | 0x5F | 0xFF => unreachable!(),
+            0x00 | 0x4D | 0x5F | 0xFF => unreachable!(),
         }
         Ok(None)
     }
 
     fn initialize(&mut self) {
         self.begun = true;
+        self.cut = false;
         self.parked = true;
         self.escape_backward = false;
         self.lead_backward = false;

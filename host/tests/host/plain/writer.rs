@@ -1,6 +1,6 @@
 //! A galley becomes a DVI file.
 
-use super::galley::characters;
+use super::galley::{items, Item};
 use super::Refused;
 use std::collections::BTreeSet;
 
@@ -8,35 +8,42 @@ const POINTS: [&str; 15] =
     ["07", "08", "10", "11", "12", "14", "18", "09", "06", "16", "20", "22", "24", "28", "36"];
 
 pub fn write_dvi(galley: &[u8]) -> Result<Vec<u8>, Refused> {
-    let characters = characters(galley)?;
-    let mut dvi = vec![129];
-    dvi.extend(1_i32.to_be_bytes());
-    dvi.extend((-1_i32).to_be_bytes());
-
-    let (mut x, mut y) = (0, 0);
+    let mut dvi = Vec::new();
+    let mut last_bop = -1_i32;
     let (mut widest, mut deepest) = (0, 0);
-    let mut last_font = None;
     let mut fonts = BTreeSet::new();
-    for character in characters {
-        let font = character.font_number;
-        if last_font != Some(font) {
-            dvi.extend(font_command(font));
+    let items = items(galley)?;
+    for (index, page) in items.split(|item| matches!(item, Item::Cut)).enumerate() {
+        let bop = dvi.len() as i32;
+        dvi.push(129);
+        dvi.extend((index as i32 + 1).to_be_bytes());
+        dvi.extend(last_bop.to_be_bytes());
+        last_bop = bop;
+
+        let (mut x, mut y) = (0, 0);
+        let mut last_font = None;
+        for item in page {
+            let Item::Character(character) = item else { unreachable!() };
+            let font = character.font_number;
+            if last_font != Some(font) {
+                dvi.extend(font_command(font));
+            }
+            let (to_x, to_y) = (target(character.x), 32_768 * character.height);
+            dvi.extend(move_command([144, 143, 142], to_x - x));
+            dvi.extend(move_command([148, 147, 146], to_y - y));
+            dvi.extend([136, character.code as u8]);
+            (x, y) = (to_x, to_y);
+            widest = widest.max(x);
+            deepest = deepest.max(y);
+            last_font = Some(font);
+            fonts.insert(font);
         }
-        let (to_x, to_y) = (target(character.x), 32_768 * character.height);
-        dvi.extend(move_command([144, 143, 142], to_x - x));
-        dvi.extend(move_command([148, 147, 146], to_y - y));
-        dvi.extend([136, character.code as u8]);
-        (x, y) = (to_x, to_y);
-        widest = widest.max(x);
-        deepest = deepest.max(y);
-        last_font = Some(font);
-        fonts.insert(font);
+        dvi.push(130);
     }
-    dvi.push(130);
 
     let postamble = dvi.len() as i32;
     dvi.push(131);
-    for number in [0, deepest, widest] {
+    for number in [last_bop, deepest, widest] {
         dvi.extend(number.to_be_bytes());
     }
     for font in fonts {

@@ -1,25 +1,24 @@
--- `dvi_writer::extents::extents_of` meets its contract. The extents and the pen are those of the first i characters; what is left of the
--- count falls.
+-- `dvi_writer::extents::extents_of` meets its contract. The extents and the pen are those of the items behind; what is left of the galley
+-- falls.
 -- Assumes nothing.
-use mathlib.Core.Path.{_≡_, ap, _∙_}
-use Prim.Native.Nat.{ℕ, _-_, _≤_, _<_}
+use mathlib.Core.Path.{_≡_, refl, sym, ap, subst, _∙_}
+use mathlib.Core.Bool.{true}
+use Prim.Native.Nat.{ℕ, _+_, _-_, _≤_, _<_}
 use native.Mathlib.Omega.{arith}
 use borrow.Author.Needs.{needs}
-use lib.ListN.{take}
-use Rattle.dvi_writer.specs.Result.{charactersOf}
-use Rattle.dvi_writer.specs.Pen.{PenAfter}
-use Rattle.dvi_writer.specs.Extents.{ExtentsAre}
-use Rattle.dvi_writer.proofs.Galleys.{few, room-at, all-taken}
-use Rattle.dvi_writer.proofs.Passes.{short, valid-next, pen-step, extents-step}
+use lib.ListN.{length}
+use Rattle.galley_file.specs.Item.{validItem, itemSize, itemAt}
+use Rattle.galley_file.specs.ItemLaws.{size-least}
+use Rattle.dvi_writer.proofs.Galleys.{few, within}
+use Rattle.dvi_writer.proofs.Passes.{Measured, measured-start, measured-room, measured-inside, measured-valid, measured-size, measured-short, measured-next, measured-end}
 use Rattle.dvi_writer.proofs.extents.extents_of.Statement.{statement}
 use Rattle.dvi_writer.proofs.extents.extents_of.Tie as tie
 
 abbrev Inv-loop : tie.InvT-loop
-Inv-loop g count e₀ last₀ i₀ e last i =
-    (i ≤ count) × (ExtentsAre e (take i (charactersOf g)) × PenAfter last (take i (charactersOf g)))
+Inv-loop g count e₀ last₀ at₀ e last at = Measured g at e last
 
 abbrev μ-loop : tie.MeasureT-loop
-μ-loop g count e₀ last₀ i₀ e last i = count - i
+μ-loop g count e₀ last₀ at₀ e last at = length g - at
 
 none-requires : tie.Need-none-requires Inv-loop μ-loop
 none-requires c κs = search needs
@@ -28,59 +27,47 @@ new-pen-requires : tie.Need-new-pen-requires Inv-loop μ-loop
 new-pen-requires c κs = search needs
 
 loop-holds : tie.Need-loop-holds Inv-loop μ-loop
-loop-holds c = (omega arith, (c .before .none .ensures, c .new-pen .ensures))
+loop-holds c = measured-start _ _ (c .before .before .before .pre) _ _ (c .before .none .ensures) (c .new-pen .ensures)
 
-mul-character-at : tie.Need-mul-character-at Inv-loop μ-loop
-mul-character-at c = omega (arith, few _ _ (c .before .before .before .before .before .pre))
+add-loop : tie.Need-add-loop Inv-loop μ-loop
+add-loop c = omega (arith, measured-inside _ _ _ _ (c .loop .inv), within _ _ (c .before .before .before .before .pre))
 
-character-at-requires : tie.Need-character-at-requires Inv-loop μ-loop
-character-at-requires c κs = omega (arith, room-at _ _ (c .before .before .before .before .before .pre) (c .before .loop .i) (omega arith))
+item-at-requires : tie.Need-item-at-requires Inv-loop μ-loop
+item-at-requires c κs = measured-room _ _ _ _ (c .before .loop .inv) (c .loop-test .taken)
 
-pen-at-requires : tie.Need-pen-at-requires Inv-loop μ-loop
-pen-at-requires c κs = valid-next _ _ (c .before .before .before .before .before .before .pre) (c .before .before .loop .i) (omega arith) _ (c .character-at .ensures)
+pen-after-requires : tie.Need-pen-after-requires Inv-loop μ-loop
+pen-after-requires c κs = ap validItem (c .item-at .ensures) ∙ measured-valid _ _ _ _ (c .before .before .loop .inv) (c .before .loop-test .taken)
 
-extended-requires : tie.Need-extended-requires Inv-loop μ-loop
-extended-requires c κs =
-    let l = c .before .before .before .loop .inv .1 in
-    (omega (arith, l .0 .length-is, short _ _ (c .before .before .before .before .before .before .before .pre) (c .before .before .before .loop .i)), (l .1 .on-page, c .pen-at .ensures))
+with-item-requires : tie.Need-with-item-requires Inv-loop μ-loop
+with-item-requires c κs =
+    let l = c .before .before .before .loop .inv in
+    let v = ap validItem (c .before .item-at .ensures) ∙ measured-valid _ _ _ _ l (c .before .before .loop-test .taken) in
+    ((omega (arith, measured-short _ _ _ _ l (few _ _ (c .before .before .before .before .before .before .before .pre))), v), (l .pen .on-page, c .pen-after .ensures))
 
-add-i : tie.Need-add-i Inv-loop μ-loop
-add-i c = omega (arith, few _ _ (c .before .before .before .before .before .before .before .before .pre))
+item-size-requires : tie.Need-item-size-requires Inv-loop μ-loop
+item-size-requires c κs = search needs
+
+-- the next place is in the galley
+inside : (c : tie.After-item-size Inv-loop μ-loop) → c .before .before .before .before .before .loop .at + c .item-size .result + 7 ≤ length (c .before .before .before .before .before .before .before .before .before .args .g .now)
+inside c =
+    omega (arith, measured-size _ _ _ _ (c .before .before .before .before .before .loop .inv) (c .before .before .before .before .loop-test .taken), c .item-size .ensures, ap itemSize (c .before .before .before .item-at .ensures))
+
+add-at : tie.Need-add-at Inv-loop μ-loop
+add-at c = omega (arith, inside c, within _ _ (c .before .before .before .before .before .before .before .before .before .pre))
 
 loop-less : tie.Need-loop-less Inv-loop μ-loop
-loop-less c = omega arith
+loop-less c = omega (arith, inside c, c .item-size .ensures, size-least (c .before .before .before .item-at .result))
 
 loop-again : tie.Need-loop-again Inv-loop μ-loop
 loop-again c =
-    let s = c .before .before .before .before .before .before .before .before in
-    let l = c .before .before .before .before .loop in
-    let h : l .i < s .args .count = omega arith in
-    let e = c .before .before .character-at .ensures in (
-      omega arith,
-      (extents-step _ _ (s .pre) (l .i) h _ e _ (l .inv .1 .1) _ _ (l .inv .1 .0) (c .extended .ensures), pen-step _ _ (s .pre) (l .i) h _ e _ (c .before .pen-at .ensures)),
-    )
+    rw (c .item-size .ensures)
+    (measured-next _ _ _ _ (c .before .before .before .before .before .loop .inv) (c .before .before .before .before .loop-test .taken) _ (c .before .before .before .item-at .ensures) _ _ (c .before .with-item .ensures) (c .before .before .pen-after .ensures))
 
 returns : tie.Need-returns Inv-loop μ-loop
-returns c =
-    let s = c .before .before .before .before .before in
-    let l = c .before .loop in
-    let e : l .i ≡ s .args .count = omega arith in
-    rw (ap (λ (n : ℕ). take n (charactersOf (s .args .g .now))) e ∙ all-taken _ _ (s .pre)) at (l .inv .1 .0)
+returns c = measured-end _ _ _ _ (c .before .loop .inv) (c .loop-test .left)
 
 pub extents-of-spec : {M : Type 1} → statement M
 extents-of-spec =
     tie.close
-    (tie.spec
-    Inv-loop
-    μ-loop
-    none-requires
-    new-pen-requires
-    loop-holds
-    mul-character-at
-    character-at-requires
-    pen-at-requires
-    extended-requires
-    add-i
-    loop-less
-    loop-again
-    returns)
+    (tie.spec Inv-loop μ-loop none-requires new-pen-requires loop-holds add-loop item-at-requires pen-after-requires with-item-requires
+    item-size-requires add-at loop-less loop-again returns)

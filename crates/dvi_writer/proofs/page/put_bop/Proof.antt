@@ -6,7 +6,7 @@ use Rattle.integers.specs.Parts.{plain}
 use Rattle.octets.specs.Octets.{bytes, signedBytes}
 use Rattle.octets.specs.OctetsLaws.{signedBytes-pos}
 use Rattle.octets.specs.Write.{then, named, room-after}
-use Rattle.dvi_writer.specs.Page.{bopBytes}
+use Rattle.dvi.specs.Writer.{bopBytes}
 use Rattle.dvi_writer.proofs.page.put_bop.Statement.{statement}
 use Rattle.dvi_writer.proofs.page.put_bop.Tie as tie
 

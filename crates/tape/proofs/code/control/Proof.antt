@@ -48,7 +48,10 @@ returns-14 : tie.Need-returns-14
 returns-14 c = rw (c .match .keys14)
 
 returns-15 : tie.Need-returns-15
-returns-15 c = rest-illegal (c .before .args .low) (c .match .rest)
+returns-15 c = rw (c .match .keys15)
+
+returns-16 : tie.Need-returns-16
+returns-16 c = rest-illegal (c .before .args .low) (c .match .rest)
 
 pub control-spec : {M : Type 1} → statement M
 control-spec =
@@ -68,4 +71,5 @@ control-spec =
     returns-12
     returns-13
     returns-14
-    returns-15)
+    returns-15
+    returns-16)

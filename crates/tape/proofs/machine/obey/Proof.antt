@@ -36,6 +36,9 @@ enum-known-o-8 c = search needs
 enum-told : tie.Need-enum-told
 enum-told c = search needs
 
+enum-told-2 : tie.Need-enum-told-2
+enum-told-2 c = search needs
+
 enum-known-o-9 : tie.Need-enum-known-o-9
 enum-known-o-9 c = search needs
 
@@ -86,11 +89,15 @@ returns-9 c = ap (orderOf (c .before .before .args .s)) (sym (c .enum-told .give
 
 returns-10 : tie.Need-returns-10
 unfolding orderOf
-returns-10 c = c .lead .ensures ∙ ap (orderOf (c .before .before .before .before .args .s)) (sym (c .before .before .o9 .given .1))
+returns-10 c = ap (orderOf (c .before .before .args .s)) (sym (c .enum-told2 .given .1))
 
 returns-11 : tie.Need-returns-11
 unfolding orderOf
-returns-11 c = c .escape .ensures ∙ ap (orderOf (c .before .before .before .before .args .s)) (sym (c .before .before .o10 .given .1))
+returns-11 c = c .lead .ensures ∙ ap (orderOf (c .before .before .before .before .args .s)) (sym (c .before .before .o9 .given .1))
+
+returns-12 : tie.Need-returns-12
+unfolding orderOf
+returns-12 c = c .escape .ensures ∙ ap (orderOf (c .before .before .before .before .args .s)) (sym (c .before .before .o10 .given .1))
 
 pub obey-spec : {M : Type 1} → statement M
 obey-spec =
@@ -106,6 +113,7 @@ obey-spec =
     enum-known-o-7
     enum-known-o-8
     enum-told
+    enum-told-2
     enum-known-o-9
     lead-requires
     enum-known-o-10
@@ -120,4 +128,5 @@ obey-spec =
     returns-8
     returns-9
     returns-10
-    returns-11)
+    returns-11
+    returns-12)

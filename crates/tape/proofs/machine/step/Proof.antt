@@ -3,7 +3,7 @@
 use borrow.Author.Needs.{needs}
 use mathlib.Core.Path.{sym, ap, _∙_}
 use Rattle.tape.specs.declared.machine.Effect.the-variants.{Moved}
-use Rattle.tape.proofs.Steps.{step-ignored, step-illegal, initialize-stopped, initialize-taken, order-early, order-stopped, order-taken}
+use Rattle.tape.proofs.Steps.{step-ignored, step-illegal, initialize-stopped, initialize-taken, order-early, order-cut, order-stopped, order-taken}
 use Rattle.tape.proofs.machine.step.Statement.{statement}
 use Rattle.tape.proofs.machine.step.Tie as tie
 
@@ -51,15 +51,20 @@ returns-4 c =
 returns-5 : tie.Need-returns-5
 returns-5 c =
     let a = c .before .before .before .before .before .before .args in
-    order-stopped (a .s) (a .b) (sym (c .before .before .before .before .before .classify .ensures) ∙ c .before .before .before .o .given .1) (c .before .if2 .taken) (c .if3 .taken)
+    order-cut (a .s) (a .b) (sym (c .before .before .before .before .before .classify .ensures) ∙ c .before .before .before .o .given .1) (c .before .if2 .taken) (c .if3 .taken)
 
 returns-6 : tie.Need-returns-6
 returns-6 c =
     let a = c .before .before .before .before .before .before .before .args in
-    c .obey .ensures ∙ order-taken (a .s) (a .b) (sym (c .before .before .before .before .before .before .classify .ensures) ∙ c .before .before .before .before .o .given .1) (c .before .before .if2 .taken) (c .before .if3 .left)
+    order-stopped (a .s) (a .b) (sym (c .before .before .before .before .before .before .classify .ensures) ∙ c .before .before .before .before .o .given .1) (c .before .before .if2 .taken) (c .before .if3 .left) (c .if4 .taken)
 
 returns-7 : tie.Need-returns-7
 returns-7 c =
+    let a = c .before .before .before .before .before .before .before .before .args in
+    c .obey .ensures ∙ order-taken (a .s) (a .b) (sym (c .before .before .before .before .before .before .before .classify .ensures) ∙ c .before .before .before .before .before .o .given .1) (c .before .before .before .if2 .taken) (c .before .before .if3 .left) (c .before .if4 .left)
+
+returns-8 : tie.Need-returns-8
+returns-8 c =
     let a = c .before .before .before .before .before .args in
     order-early (a .s) (a .b) (sym (c .before .before .before .before .classify .ensures) ∙ c .before .before .o .given .1) (c .if2 .left)
 
@@ -80,4 +85,5 @@ step-spec =
     returns-4
     returns-5
     returns-6
-    returns-7)
+    returns-7
+    returns-8)

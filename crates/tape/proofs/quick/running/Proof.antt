@@ -10,10 +10,13 @@ returns : tie.Need-returns
 returns c = λ h. absurd (true≢false (sym h))
 
 returns-2 : tie.Need-returns-2
-returns-2 c = λ h. record { begun = c .before .before .if1 .taken; unstopped = c .before .if2 .left; unparked = not-true _ h }
+returns-2 c = λ h. absurd (true≢false (sym h))
 
 returns-3 : tie.Need-returns-3
-returns-3 c = λ h. absurd (true≢false (sym h))
+returns-3 c = λ h. record { begun = c .before .before .before .if1 .taken; uncut = c .before .before .if2 .left; unstopped = c .before .if3 .left; unparked = not-true _ h }
+
+returns-4 : tie.Need-returns-4
+returns-4 c = λ h. absurd (true≢false (sym h))
 
 pub running-spec : {M : Type 1} → statement M
-running-spec = tie.close (tie.spec returns returns-2 returns-3)
+running-spec = tie.close (tie.spec returns returns-2 returns-3 returns-4)

@@ -18,27 +18,37 @@ use Rattle.tape.proofs.Passes.{further-start, further-moved, further-fl
 use Rattle.tape.proofs.quick.write_stretch.Statement.{statement}
 use Rattle.tape.proofs.quick.write_stretch.Tie as tie
 
-record Kept (tape first : List ℕ) (s : State) (before from : ℕ) (r : Stretch) (out : List ℕ) : Type 0 where
-  pub further : Further true tape first s before from r out
+record Kept (tape first : List ℕ) (s : State) (before cuts from : ℕ) (r : Stretch) (out : List ℕ) : Type 0 where
+  pub further : Further true tape first s before cuts from r out
   pub few : r .count ≤ r .next
   pub sound : Sound (placed s (r .carriage))
   pub same : length out ≡ length first
 
 abbrev Inv-loop : tie.InvT-loop
-Inv-loop s d tape from before out₀ room r₀ out r = Kept tape out₀ s before from r out
+Inv-loop s d tape from before cuts out₀ r₀ room out r = Kept tape out₀ s before cuts from r out
 
 abbrev μ-loop : tie.MeasureT-loop
-μ-loop s d tape from before out₀ room r₀ out r = length tape - r .next
+μ-loop s d tape from before cuts out₀ r₀ room out r = length tape - r .next
 
 at-state-requires : tie.Need-at-state-requires Inv-loop μ-loop
 at-state-requires c κs = search needs
 
-loop-holds : tie.Need-loop-holds Inv-loop μ-loop
-loop-holds c =
+-- no code yet
+begun : (c : tie.After-at-state Inv-loop μ-loop) → Kept (c .before .before .before .args .tape .now) (c .before .before .before .args .out .now) (c .before .before .before .args .s) (c .before .before .before .args .before) (c .before .before .before .args .cuts) (c .before .before .before .args .from) (c .at-state .result) (c .before .before .before .args .out .now)
+begun c =
     let start = c .before .before .before in
     let a = start .args in
-    subst (λ (r : Stretch). Kept (a .tape .now) (a .out .now) (a .s) (a .before) (a .from) r (a .out .now)) (sym (c .at-state .ensures))
-    (record { further = further-start true (a .tape .now) (a .out .now) (a .s) (a .before) (a .from); few = start .pre .1; sound = start .pre .0 .0; same = refl })
+    subst (λ (r : Stretch). Kept (a .tape .now) (a .out .now) (a .s) (a .before) (a .cuts) (a .from) r (a .out .now)) (sym (c .at-state .ensures))
+    (record { further = further-start true (a .tape .now) (a .out .now) (a .s) (a .before) (a .cuts) (a .from); few = start .pre .1; sound = start .pre .0 .0; same = refl })
+
+returns : tie.Need-returns Inv-loop μ-loop
+returns c = begun (c .before) .further
+
+sub-room : tie.Need-sub-room Inv-loop μ-loop
+sub-room c = c .if1 .left
+
+loop-holds : tie.Need-loop-holds Inv-loop μ-loop
+loop-holds c = begun (c .before)
 
 with-carriage-requires : tie.Need-with-carriage-requires Inv-loop μ-loop
 with-carriage-requires c κs = search needs
@@ -49,13 +59,13 @@ shared-slice-read-quick-step c = search needs
 quick-step-requires : tie.Need-quick-step-requires Inv-loop μ-loop
 quick-step-requires c κs =
     let l = c .before .before .before .before .loop in
-    let start = c .before .before .before .before .before .before .before .before in
+    let start = c .before .before .before .before .before .before .before .before .before in
     subst (λ (t : State). Sound t × DerivedFrom t (start .args .d)) (sym (c .before .with-carriage .ensures))
     (l .inv .sound, still-derived (start .args .s) (l .r .carriage) (start .pre .0 .1))
 
 -- what the quick step says of the state with its carriage
-said : (c : tie.After-quick-step Inv-loop μ-loop) → Quickly (placed (c .before .before .before .before .before .before .before .before .before .args .s) (c .before .before .before .before .before .loop .r .carriage)) (getD (c .before .before .before .before .before .before .before .before .before .args .tape .now) (c .before .before .before .before .before .loop .r .next) 0) (c .quick-step .result)
-said c = subst (λ (t : State). Quickly t (getD (c .before .before .before .before .before .before .before .before .before .args .tape .now) (c .before .before .before .before .before .loop .r .next) 0) (c .quick-step .result)) (c .before .before .with-carriage .ensures) (c .quick-step .ensures)
+said : (c : tie.After-quick-step Inv-loop μ-loop) → Quickly (placed (c .before .before .before .before .before .before .before .before .before .before .args .s) (c .before .before .before .before .before .loop .r .carriage)) (getD (c .before .before .before .before .before .before .before .before .before .before .args .tape .now) (c .before .before .before .before .before .loop .r .next) 0) (c .quick-step .result)
+said c = subst (λ (t : State). Quickly t (getD (c .before .before .before .before .before .before .before .before .before .before .args .tape .now) (c .before .before .before .before .before .loop .r .next) 0) (c .quick-step .result)) (c .before .before .with-carriage .ensures) (c .quick-step .ensures)
 
 enum-known-c : tie.Need-enum-known-c Inv-loop μ-loop
 enum-known-c c = search needs
@@ -63,34 +73,37 @@ enum-known-c c = search needs
 same-length : tie.Need-same-length Inv-loop μ-loop
 same-length c = c .before .before .before .before .before .before .before .before .before .before .loop .inv .same
 
-returns : tie.Need-returns Inv-loop μ-loop
-returns c = c .before .before .before .before .before .before .before .before .before .before .loop .inv .further
+returns-2 : tie.Need-returns-2 Inv-loop μ-loop
+returns-2 c = c .before .before .before .before .before .before .before .before .before .before .loop .inv .further
 
 mul-put-character : tie.Need-mul-put-character Inv-loop μ-loop
-mul-put-character c = omega (arith, c .before .before .if2 .left, c .before .before .before .before .before .before .before .before .before .before .before .before .before .before .before .before .good)
+mul-put-character c = omega (arith, c .before .before .if3 .left, c .before .before .before .before .before .before .before .before .before .before .before .before .before .before .before .before .before .good)
+
+add-put-character : tie.Need-add-put-character Inv-loop μ-loop
+add-put-character c = omega (arith, c .before .before .if3 .left, c .before .before .before .before .before .before .before .before .before .before .before .before .before .if1 .left, c .before .before .before .before .before .before .before .before .before .before .before .before .before .before .before .before .before .good)
 
 put-character-requires : tie.Need-put-character-requires Inv-loop μ-loop
-put-character-requires c κs = omega (arith, c .before .before .if2 .left, c .before .before .before .before .before .before .before .before .before .before .before .before .loop .inv .same)
+put-character-requires c κs = omega (arith, c .before .before .if3 .left, c .before .before .before .before .before .before .before .before .before .before .before .before .loop .inv .same)
 
 add-r : tie.Need-add-r Inv-loop μ-loop
-add-r c = omega (arith, c .before .before .before .before .before .before .before .before .before .before .before .before .before .before .before .before .loop .inv .few, c .before .before .before .before .before .before .before .before .before .before .before .before .before .before .if1 .taken, c .before .before .before .before .before .before .before .before .before .before .before .before .before .before .before .before .before .before .before .before .good)
+add-r c = omega (arith, c .before .before .before .before .before .before .before .before .before .before .before .before .before .before .before .before .loop .inv .few, c .before .before .before .before .before .before .before .before .before .before .before .before .before .before .if2 .taken, c .before .before .before .before .before .before .before .before .before .before .before .before .before .before .before .before .before .before .before .before .before .good)
 
 add-r-2 : tie.Need-add-r-2 Inv-loop μ-loop
-add-r-2 c = omega (arith, c .before .before .before .before .before .before .before .before .before .before .before .before .before .before .before .if1 .taken, c .before .before .before .before .before .before .before .before .before .before .before .before .before .before .before .before .before .before .before .before .before .good)
+add-r-2 c = omega (arith, c .before .before .before .before .before .before .before .before .before .before .before .before .before .before .before .if2 .taken, c .before .before .before .before .before .before .before .before .before .before .before .before .before .before .before .before .before .before .before .before .before .before .good)
 
 loop-less : tie.Need-loop-less Inv-loop μ-loop
-loop-less c = omega (arith, c .before .before .before .before .before .before .before .before .before .before .before .before .before .before .before .if1 .taken)
+loop-less c = omega (arith, c .before .before .before .before .before .before .before .before .before .before .before .before .before .before .before .if2 .taken)
 
 loop-again : tie.Need-loop-again Inv-loop μ-loop
 loop-again c =
-    let a = c .before .before .before .before .before .before .before .before .before .before .before .before .before .before .before .before .before .before .before .before .before .args in
+    let a = c .before .before .before .before .before .before .before .before .before .before .before .before .before .before .before .before .before .before .before .before .before .before .args in
     let l = c .before .before .before .before .before .before .before .before .before .before .before .before .before .before .before .before .before .loop in
     let r = l .r in
     let k = c .before .before .before .before .before .before .before .before .before .before .c .given in
     let p = c .before .before .before .before .put-character in
     let e = subst (Quickly (placed (a .s) (r .carriage)) (getD (a .tape .now) (r .next) 0)) (k .1) (said (c .before .before .before .before .before .before .before .before .before .before .before .before)) in
     record {
-      further = further-flashed true (a .tape .now) (a .out .now) (a .s) (a .before) (a .from) r (l .out) (l .inv .further) (c .before .before .before .before .before .before .before .before .before .before .before .before .before .before .before .if1 .taken) (k .0 .0) e (p .last .0) (p .kept .0) (p .ensures .buffer-is);
+      further = further-flashed true (a .tape .now) (a .out .now) (a .s) (a .before) (a .cuts) (a .from) r (l .out) (l .inv .further) (c .before .before .before .before .before .before .before .before .before .before .before .before .before .before .before .if2 .taken) (k .0 .0) e (p .last .0) (p .kept .0) (p .ensures .buffer-is);
       few = omega (arith, l .inv .few);
       sound = l .inv .sound;
       same = p .kept .0 ∙ l .inv .same;
@@ -100,21 +113,21 @@ enum-known-c-2 : tie.Need-enum-known-c-2 Inv-loop μ-loop
 enum-known-c-2 c = search needs
 
 add-r-3 : tie.Need-add-r-3 Inv-loop μ-loop
-add-r-3 c = omega (arith, c .before .before .before .before .before .before .before .if1 .taken, c .before .before .before .before .before .before .before .before .before .before .before .before .before .good)
+add-r-3 c = omega (arith, c .before .before .before .before .before .before .before .if2 .taken, c .before .before .before .before .before .before .before .before .before .before .before .before .before .before .good)
 
 loop-less-2 : tie.Need-loop-less-2 Inv-loop μ-loop
-loop-less-2 c = omega (arith, c .before .before .before .before .before .before .before .if1 .taken)
+loop-less-2 c = omega (arith, c .before .before .before .before .before .before .before .if2 .taken)
 
 loop-again-2 : tie.Need-loop-again-2 Inv-loop μ-loop
 loop-again-2 c =
-    let a = c .before .before .before .before .before .before .before .before .before .before .before .before .before .args in
+    let a = c .before .before .before .before .before .before .before .before .before .before .before .before .before .before .args in
     let l = c .before .before .before .before .before .before .before .before .before .loop in
     let r = l .r in
     let k = c .before .before .c2 .given in
     let code = getD (a .tape .now) (r .next) 0 in
     let e = subst (Quickly (placed (a .s) (r .carriage)) code) (k .1) (said (c .before .before .before .before)) in
     record {
-      further = further-moved true (a .tape .now) (a .out .now) (a .s) (a .before) (a .from) r (l .out) (l .inv .further) (c .before .before .before .before .before .before .before .if1 .taken) (k .0 .0) e;
+      further = further-moved true (a .tape .now) (a .out .now) (a .s) (a .before) (a .cuts) (a .from) r (l .out) (l .inv .further) (c .before .before .before .before .before .before .before .if2 .taken) (k .0 .0) e;
       few = omega (arith, l .inv .few);
       sound = stays-sound (placed (a .s) (r .carriage)) (l .inv .sound) code e;
       same = l .inv .same;
@@ -126,14 +139,14 @@ enum-told c = search needs
 same-length-2 : tie.Need-same-length-2 Inv-loop μ-loop
 same-length-2 c = c .before .before .before .before .before .before .before .loop .inv .same
 
-returns-2 : tie.Need-returns-2 Inv-loop μ-loop
-returns-2 c = c .before .before .before .before .before .before .before .loop .inv .further
+returns-3 : tie.Need-returns-3 Inv-loop μ-loop
+returns-3 c = c .before .before .before .before .before .before .before .loop .inv .further
 
 same-length-3 : tie.Need-same-length-3 Inv-loop μ-loop
 same-length-3 c = c .before .before .loop .inv .same
 
-returns-3 : tie.Need-returns-3 Inv-loop μ-loop
-returns-3 c = c .before .before .loop .inv .further
+returns-4 : tie.Need-returns-4 Inv-loop μ-loop
+returns-4 c = c .before .before .loop .inv .further
 
 pub write-stretch-spec : {M : Type 1} → statement M
 write-stretch-spec =
@@ -142,14 +155,17 @@ write-stretch-spec =
     Inv-loop
     μ-loop
     at-state-requires
+    returns
+    sub-room
     loop-holds
     with-carriage-requires
     shared-slice-read-quick-step
     quick-step-requires
     enum-known-c
     same-length
-    returns
+    returns-2
     mul-put-character
+    add-put-character
     put-character-requires
     add-r
     add-r-2
@@ -161,6 +177,6 @@ write-stretch-spec =
     loop-again-2
     enum-told
     same-length-2
-    returns-2
+    returns-3
     same-length-3
-    returns-3)
+    returns-4)

@@ -1,12 +1,12 @@
--- `dvi_writer::extents::extended` meets its contract: each of the four is kept by itself.
+-- `dvi_writer::extents::with_character` meets its contract: each of the four is kept by itself.
 -- Assumes nothing.
 use mathlib.Core.Path.{ap, _∙_}
 use Prim.Native.Nat.{ℕ, _+_}
 use borrow.Author.Needs.{needs}
 use Rattle.integers.specs.Parts.{maxZ}
 use Rattle.dvi_writer.proofs.Pens.{font-valid, x-at, y-at}
-use Rattle.dvi_writer.proofs.extents.extended.Statement.{statement}
-use Rattle.dvi_writer.proofs.extents.extended.Tie as tie
+use Rattle.dvi_writer.proofs.extents.with_character.Statement.{statement}
+use Rattle.dvi_writer.proofs.extents.with_character.Tie as tie
 
 commands-length-requires : tie.Need-commands-length-requires
 commands-length-requires c κs = search needs
@@ -35,8 +35,8 @@ returns c =
       high-is = c .with-font .ensures .1;
     }
 
-pub extended-spec : {M : Type 1} → statement M
-extended-spec =
+pub with-character-spec : {M : Type 1} → statement M
+with-character-spec =
     tie.close
     (tie.spec
     commands-length-requires

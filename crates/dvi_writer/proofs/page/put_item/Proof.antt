@@ -1,0 +1,62 @@
+-- `dvi_writer::page::put_item` meets its contract, by the kinds of item.
+-- Assumes nothing.
+use mathlib.Core.Path.{_≡_, sym, ap, _∙_}
+use mathlib.Core.Bool.{true}
+use native.Mathlib.Omega.{arith}
+use borrow.Author.Needs.{needs}
+use lib.ListN.{length}
+use Rattle.galley_file.specs.declared.item.Item.{Item}
+use Rattle.galley_file.specs.Item.{validItem}
+use Rattle.dvi.specs.Writer.{itemBytes}
+use Rattle.dvi_writer.specs.Press.{pressOf}
+use Rattle.dvi_writer.proofs.Pens.{pen-kind}
+use Rattle.dvi_writer.proofs.Passes.{length-cut, wrote-kind}
+use Rattle.dvi_writer.proofs.page.put_item.Statement.{statement}
+use Rattle.dvi_writer.proofs.page.put_item.Tie as tie
+
+pen-after-requires : tie.Need-pen-after-requires
+pen-after-requires c κs = search needs
+
+enum-known-i : tie.Need-enum-known-i
+enum-known-i c = search needs
+
+put-character-requires : tie.Need-put-character-requires
+unfolding pressOf itemBytes
+put-character-requires c κs =
+    let s = c .before .before .before .before .before .before in
+    let e = c .before .before .i .given .1 in
+    let n = pen-kind _ e (c .before .before .before .before .pen-after .ensures) in
+    let l = ap (λ (i : Item). length (itemBytes (pressOf (s .args .p)) i)) e in
+    (omega (arith, l, s .pre .0 .0), (s .pre .1 .1 .0, record { is-valid = sym (ap validItem e) ∙ s .pre .1 .1 .1; pen-is = n .pen-is }))
+
+enum-told : tie.Need-enum-told
+enum-told c = search needs
+
+put-cut-requires : tie.Need-put-cut-requires
+put-cut-requires c κs =
+    let s = c .before .before .before .before .before in
+    let e = c .before .enum-told .given .1 in
+    let n = pen-kind _ e (c .before .before .before .pen-after .ensures) in
+    let l = ap (λ (i : Item). length (itemBytes (pressOf (s .args .p)) i)) e ∙ length-cut (pressOf (s .args .p)) in
+    ((omega (arith, l, s .pre .0 .0), s .pre .0 .1), (s .pre .1 .0, n))
+
+same-length : tie.Need-same-length
+same-length c = search needs
+
+returns : tie.Need-returns
+returns c =
+    let p = c .before .before .before .before .before .before .before .before .before .args .p in
+    wrote-kind _ p _ _ (sym (c .before .before .before .before .before .i .given .1)) (c .before .before .put-character .ensures)
+
+same-length-2 : tie.Need-same-length-2
+same-length-2 c = search needs
+
+returns-2 : tie.Need-returns-2
+returns-2 c =
+    let p = c .before .before .before .before .before .before .before .before .args .p in
+    wrote-kind _ p _ _ (sym (c .before .before .before .before .enum-told .given .1)) (c .before .before .put-cut .ensures)
+
+pub put-item-spec : {M : Type 1} → statement M
+put-item-spec =
+    tie.close
+    (tie.spec pen-after-requires enum-known-i put-character-requires enum-told put-cut-requires same-length returns same-length-2 returns-2)

@@ -1,0 +1,25 @@
+-- `galley_file::item::item_at` meets its contract.
+use mathlib.Core.Path.{ap, _∙_, sym}
+use borrow.Author.Needs.{needs}
+use borrow.Author.Tests.{eq-eqb, ne-eqb}
+use Rattle.galley_file.specs.declared.item.Item.the-variants.{Placed}
+use Rattle.galley_file.specs.Item.{itemAt}
+use Rattle.galley_file.proofs.item.item_at.Statement.{statement}
+use Rattle.galley_file.proofs.item.item_at.Tie as tie
+
+shared-slice-read-if1 : tie.Need-shared-slice-read-if1
+shared-slice-read-if1 c = search needs
+
+returns : tie.Need-returns
+unfolding itemAt
+returns c = rw (eq-eqb _ _ (c .if1 .taken))
+
+character-at-requires : tie.Need-character-at-requires
+character-at-requires c κs = search needs
+
+returns-2 : tie.Need-returns-2
+unfolding itemAt
+returns-2 c = rw (ne-eqb _ _ (c .before .if1 .left)) (ap Placed (c .character-at .ensures))
+
+pub item-at-spec : {M : Type 1} → statement M
+item-at-spec = tie.close (tie.spec shared-slice-read-if1 returns character-at-requires returns-2)

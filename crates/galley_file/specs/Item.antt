@@ -1,0 +1,59 @@
+-- What a galley lists: characters, and the cuts between pages (document 02, "Software cuts").
+--     cutField       a cut's field
+--     validItem      a character is valid; a cut always is
+--     itemField      an item's field, and itemSize its bytes
+--     nextItem       the item whose whole field the bytes start with
+--     itemAt         the item whose field starts at a place
+--     charactersOf   the characters of a list of items, and cutsOf the number of its cuts
+use Prim.Native.Nat.{ℕ, _+_}
+use mathlib.Core.Bool.{Bool, true, cond}
+use mathlib.Core.List.{List, [], _∷_}
+use mathlib.Core.Option.{Option, none, some}
+use lib.Dec.{eqb}
+use lib.ListN.{getD}
+use Rattle.octets.specs.Field.{field, startsField}
+use Rattle.galley_file.specs.declared.character.Character.{Character}
+use Rattle.galley_file.specs.declared.item.Item.{Item}
+use Rattle.galley_file.specs.declared.item.Item.the-variants.{Placed, Cut}
+use Rattle.galley_file.specs.Character.{valid, characterField, characterAt, isCharacter}
+
+-- tag 6, length 0
+unfoldable pub cutField : List ℕ
+cutField = field 6 []
+
+unfoldable pub isCut : List ℕ → Bool
+isCut s = startsField 6 0 s
+
+abbrev pub validItem : Item → Bool
+validItem (Placed c) = valid c
+validItem Cut = true
+
+abbrev pub itemField : Item → List ℕ
+itemField (Placed c) = characterField c
+itemField Cut = cutField
+
+abbrev pub itemSize : Item → ℕ
+itemSize (Placed c) = 9
+itemSize Cut = 3
+
+unfoldable pub nextItem : List ℕ → Option Item
+nextItem s = cond (isCharacter s) (some (Placed (characterAt s 0))) (cond (isCut s) (some Cut) none)
+
+-- by the tag alone
+unfoldable pub itemAt : List ℕ → ℕ → Item
+itemAt s i = cond (eqb (getD s i 0) 6) Cut (Placed (characterAt s i))
+
+-- a character counts 1, and a cut 0
+abbrev pub tally : Item → ℕ
+tally (Placed c) = 1
+tally Cut = 0
+
+unfoldable pub charactersOf : List Item → List Character
+charactersOf [] = []
+charactersOf (Placed c ∷ is) = c ∷ charactersOf is
+charactersOf (Cut ∷ is) = charactersOf is
+
+unfoldable pub cutsOf : List Item → ℕ
+cutsOf [] = 0
+cutsOf (Placed c ∷ is) = cutsOf is
+cutsOf (Cut ∷ is) = cutsOf is + 1

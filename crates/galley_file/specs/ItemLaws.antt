@@ -1,0 +1,169 @@
+-- An item's field and back, said once for characters and cuts.
+--     next-field        the bytes that start with the field of a valid item have it as their next item
+--     next-none         bytes with another tag have none
+--     Next, next-is     what a next item tells of the bytes
+--     field-next        bytes that have a next item are its field and what follows
+--     next-itemAt       the item at the place where one comes next
+-- Assumes nothing.
+use mathlib.Core.Path.{_≡_, refl, sym, ap, _∙_}
+use mathlib.Core.Bool.{Bool, true, false, cond, _&&_}
+use mathlib.Core.List.{List, [], _∷_, _++_}
+use mathlib.Core.Option.{Option, none, some}
+use Prim.Native.Nat.{ℕ, _+_, _*_, _≤_, _<_}
+use native.Mathlib.Nat.{add-assoc}
+use native.Mathlib.Omega.{arith}
+use borrow.Author.Tests.{ne-eqb, eq-eqb}
+use lib.Dec.{leb, eqb}
+use lib.ListN.{length, getD, take, drop, length-append}
+use lib.Seq.{getD-drop, drop-drop}
+use Rattle.octets.specs.Octets.{Bytes, natAt, bytes}
+use Rattle.octets.specs.Field.{field, startsField, endField}
+use Rattle.octets.specs.FieldLaws.{length-field, field-starts, starts, starts-field}
+use Rattle.galley_file.specs.declared.character.Character.{Character}
+use Rattle.galley_file.specs.declared.item.Item.{Item}
+use Rattle.galley_file.specs.declared.item.Item.the-variants.{Placed, Cut}
+use Rattle.galley_file.specs.Character.{valid, characterField, characterAt, isCharacter}
+use Rattle.galley_file.specs.CharacterLaws.{length-characterField, characterAt-field, field-isCharacter, drop-field, read-character, isCharacter-field}
+use Rattle.galley_file.specs.Item.{cutField, isCut, validItem, itemField, itemSize, nextItem, itemAt, tally, charactersOf, cutsOf}
+
+pub length-itemField : (i : Item) → length (itemField i) ≡ itemSize i
+unfolding cutField field bytes
+length-itemField (Placed c) = length-characterField c
+length-itemField Cut = refl
+
+pub size-least : (i : Item) → 3 ≤ itemSize i
+size-least (Placed c) = omega arith
+size-least Cut = omega arith
+
+pub size-most : (i : Item) → itemSize i ≤ 9
+size-most (Placed c) = omega arith
+size-most Cut = omega arith
+
+pub drop-itemField : (i : Item) → validItem i ≡ true → (rest : List ℕ) → drop (itemSize i) (itemField i ++ rest) ≡ rest
+unfolding cutField field bytes
+drop-itemField (Placed c) v rest = drop-field c v rest
+drop-itemField Cut v rest = refl
+
+-- ---- another tag
+
+other-tag : (tag len : ℕ) (s : List ℕ) → (getD s 0 0 ≡ tag → ⊥) → startsField tag len s ≡ false
+unfolding startsField
+other-tag tag len s h = rw (ne-eqb _ _ h) (go (leb (3 + len) (length s)))
+  where
+    go : (t : Bool) → (t && false && eqb (natAt 2 1 s) len) ≡ false
+    go true = refl
+    go false = refl
+
+no-character : (s : List ℕ) → (getD s 0 0 ≡ 1 → ⊥) → isCharacter s ≡ false
+unfolding isCharacter
+no-character s h = rw (other-tag 1 6 s h)
+
+pub next-none : (s : List ℕ) → (getD s 0 0 ≡ 1 → ⊥) → (getD s 0 0 ≡ 6 → ⊥) → nextItem s ≡ none
+unfolding nextItem isCut
+next-none s h k = rw (no-character s h, other-tag 6 0 s k)
+
+-- ---- a field, and what it holds
+
+cut-tag : (rest : List ℕ) → getD (cutField ++ rest) 0 0 ≡ 1 → ⊥
+unfolding cutField field
+cut-tag rest e = omega arith
+
+cut-starts : (rest : List ℕ) → startsField 6 0 (cutField ++ rest) ≡ true
+unfolding cutField
+cut-starts rest = field-starts 6 [] rest 0 refl (omega arith)
+
+pub next-field : (i : Item) → validItem i ≡ true → (rest : List ℕ) → nextItem (itemField i ++ rest) ≡ some i
+unfolding nextItem isCut
+next-field (Placed c) v rest = rw (field-isCharacter c v rest, characterAt-field c v rest)
+next-field Cut v rest = rw (no-character (cutField ++ rest) (cut-tag rest), cut-starts rest)
+
+pub record Next (s : List ℕ) (i : Item) : Type 0 where
+  pub is-valid : validItem i ≡ true
+  pub long : itemSize i ≤ length s
+  pub here : itemAt s 0 ≡ i
+
+-- the three cases of `nextItem`
+module _ (s : List ℕ) (P : Option Item → Type 0) (character : isCharacter s ≡ true → P (some (Placed (characterAt s 0))))
+    (cut : isCharacter s ≡ false → isCut s ≡ true → P (some Cut)) (neither : isCharacter s ≡ false → isCut s ≡ false → P none) where
+  pub next-cases : P (nextItem s)
+  unfolding nextItem
+  next-cases = go (isCharacter s) refl (isCut s) refl
+    where
+      go : (t : Bool) → isCharacter s ≡ t → (u : Bool) → isCut s ≡ u → P (cond t (some (Placed (characterAt s 0))) (cond u (some Cut) none))
+      go true e u f = character e
+      go false e true f = cut e f
+      go false e false f = neither e f
+
+pub cut-long : (s : List ℕ) → isCut s ≡ true → 3 ≤ length s
+unfolding isCut
+cut-long s e = omega (arith, starts e .long)
+
+cut-field : (s : List ℕ) → Bytes s → isCut s ≡ true → s ≡ cutField ++ drop 3 s
+unfolding isCut cutField
+cut-field s b e = starts-field 6 0 s b e
+
+tag-cut : (s : List ℕ) → isCut s ≡ true → getD s 0 0 ≡ 6
+unfolding isCut
+tag-cut s e = starts e .tag-is
+
+tag-character : (s : List ℕ) → isCharacter s ≡ true → getD s 0 0 ≡ 1
+tag-character s e = starts (read-character s e .head) .tag-is
+
+pub next-is : (s : List ℕ) (i : Item) → nextItem s ≡ some i → Next s i
+unfolding itemAt
+next-is s i =
+    next-cases s (λ o. o ≡ some i → Next s i)
+    (λ e q.
+    let w : Placed (characterAt s 0) ≡ i = cc in
+    let r = read-character s e in
+    let t : (getD s 0 0 ≡ 6 → ⊥) = λ z. let y = tag-character s e in omega arith in
+    rw (← w) (record { is-valid = r .is-valid; long = r .long; here = rw (ne-eqb _ _ t) }))
+    (λ e f q.
+    let w : Cut ≡ i = cc in
+    rw (← w) (record { is-valid = refl; long = cut-long s f; here = rw (eq-eqb _ _ (tag-cut s f)) }))
+    (λ e f q. let z : _≡_ {A = ℕ} 0 1 = cc in absurd (omega arith))
+
+-- bytes that have a next item are its field and what follows
+pub field-next : (s : List ℕ) (i : Item) → Bytes s → nextItem s ≡ some i → s ≡ itemField i ++ drop (itemSize i) s
+field-next s i b =
+    next-cases s (λ o. o ≡ some i → s ≡ itemField i ++ drop (itemSize i) s)
+    (λ e q. let w : Placed (characterAt s 0) ≡ i = cc in rw (← w) (isCharacter-field s b e))
+    (λ e f q. let w : Cut ≡ i = cc in rw (← w) (cut-field s b f))
+    (λ e f q. let z : _≡_ {A = ℕ} 0 1 = cc in absurd (omega arith))
+
+shift : (s : List ℕ) (at i : ℕ) → itemAt (drop at s) i ≡ itemAt s (at + i)
+unfolding itemAt characterAt
+shift s at i = simp (drop-drop, getD-drop, add-assoc)
+
+pub next-itemAt : (s : List ℕ) (at : ℕ) (i : Item) → nextItem (drop at s) ≡ some i → itemAt s at ≡ i
+next-itemAt s at i e = let z : at + 0 ≡ at = omega arith in ap (itemAt s) (sym z) ∙ sym (shift s at 0) ∙ next-is (drop at s) i e .here
+
+-- ---- counting
+
+pub tally-few : (i : Item) → tally i ≤ 1
+tally-few (Placed c) = omega arith
+tally-few Cut = omega arith
+
+pub count-item : (i : Item) (is : List Item) → length (charactersOf (i ∷ is)) ≡ tally i + length (charactersOf is)
+unfolding charactersOf
+count-item (Placed c) is = omega arith
+count-item Cut is = omega arith
+
+-- characters and cuts are all
+pub all-counted : (is : List Item) → length (charactersOf is) + cutsOf is ≡ length is
+unfolding charactersOf cutsOf
+all-counted [] = refl
+all-counted (Placed c ∷ is) = omega (arith, all-counted is)
+all-counted (Cut ∷ is) = omega (arith, all-counted is)
+
+pub characters-append : (is js : List Item) → charactersOf (is ++ js) ≡ charactersOf is ++ charactersOf js
+unfolding charactersOf
+characters-append [] js = refl
+characters-append (Placed c ∷ is) js = ap (λ (l : List Character). c ∷ l) (characters-append is js)
+characters-append (Cut ∷ is) js = characters-append is js
+
+pub cuts-append : (is js : List Item) → cutsOf (is ++ js) ≡ cutsOf is + cutsOf js
+unfolding cutsOf
+cuts-append [] js = omega arith
+cuts-append (Placed c ∷ is) js = cuts-append is js
+cuts-append (Cut ∷ is) js = omega (arith, cuts-append is js)

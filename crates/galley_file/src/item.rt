@@ -1,0 +1,68 @@
+// What a galley lists: characters, and the cuts between pages (document 02, "Software cuts").
+use crate::character;
+use crate::character::Character;
+use octets::field;
+ghost use mathlib.Core.Path.{_≡_};
+ghost use Prim.Native.Nat.{_+_, _≤_};
+ghost use lib.ListN.{length};
+ghost use Rattle.octets.specs.Write.{Wrote};
+ghost use Rattle.galley_file.specs.Item.{cutField, isCut, itemField, itemSize, itemAt};
+
+pub enum Item {
+    Placed(Character),
+    Cut,
+}
+
+const CUT_TAG: u8 = 6;
+
+const CUT_LENGTH: u32 = 0;
+
+// The bytes of a whole cut field.
+pub const CUT_FIELD: usize = field::HEAD;
+
+// Whether s starts with a cut field.
+pub fn is_cut(s: &[u8]) -> bool
+    ensures { λ r. ⌜ r ≡ isCut (now (s .entry)) ⌝ }
+{
+    field::starts_field(s, CUT_TAG, CUT_LENGTH)
+}
+
+// The bytes of an item's field.
+pub fn item_size(i: Item) -> usize
+    ensures { λ r. ⌜ r ≡ itemSize i ⌝ }
+{
+    match i {
+        Item::Placed(_) => character::FIELD,
+        Item::Cut => CUT_FIELD,
+    }
+}
+
+// The item whose field starts at `at`, where one does.
+pub fn item_at(s: &[u8], at: usize) -> Item
+    requires { ⌜ at + 9 ≤ length (now s) ⌝ }
+    ensures { λ r. ⌜ r ≡ itemAt (now (s .entry)) at ⌝ }
+{
+    if s[at] == CUT_TAG {
+        return Item::Cut;
+    }
+    Item::Placed(character::character_at(s, at))
+}
+
+// Writes a cut field; gives the place after it.
+pub fn put_cut(out: &mut [u8], at: usize) -> usize
+    requires { ⌜ at + 3 ≤ length (now out) ⌝ }
+    ensures { λ r. ⌜ Wrote (now (out .entry)) at cutField (now (out .exit)) r ⌝ }
+{
+    field::put_head(out, at, CUT_TAG, CUT_LENGTH)
+}
+
+// Writes an item's field; gives the place after it.
+pub fn put_item(out: &mut [u8], at: usize, i: Item) -> usize
+    requires { ⌜ at + itemSize i ≤ length (now out) ⌝ }
+    ensures { λ r. ⌜ Wrote (now (out .entry)) at (itemField i) (now (out .exit)) r ⌝ }
+{
+    match i {
+        Item::Placed(c) => character::put_character(out, at, c),
+        Item::Cut => put_cut(out, at),
+    }
+}
