@@ -4,7 +4,7 @@
 mod quick;
 
 use spatecanter::sample::{book, book_widths, yearbook};
-use spatecanter::{DVI_LIMIT, GALLEY_LIMIT, TAPE_LIMIT};
+use spatecanter::{Machine, DVI_LIMIT, GALLEY_LIMIT, TAPE_LIMIT};
 use std::hint::black_box;
 use std::time::{Duration, Instant};
 
@@ -41,8 +41,10 @@ fn processor() -> String {
 fn print_operations() {
     println!("| operation | input | bytes | library MB/s | quick MB/s | copy MB/s | to quick | to copy |");
     println!("|---|---|--:|--:|--:|--:|--:|--:|");
-    let tape = yearbook(SEED, TAPE_LIMIT);
-    print_row("read a tape", "yearbook", &tape, &mut read_tape(&tape));
+    let four = yearbook(Machine::Four, SEED, TAPE_LIMIT);
+    print_row("read a tape", "yearbook, 4 fonts", &four, &mut read_tape(&four, Machine::Four));
+    let tape = yearbook(Machine::Eight, SEED, TAPE_LIMIT);
+    print_row("read a tape", "yearbook", &tape, &mut read_tape(&tape, Machine::Eight));
     let galley = galley_of_length(&tape, GALLEY_LIMIT);
     print_row("check a galley", "yearbook", &galley, &mut check_galley(&galley));
     print_row("read back the last character", "yearbook", &galley, &mut read_back(&galley));
@@ -61,10 +63,10 @@ fn print_growth() {
     println!("| operation | bytes | library ns/byte | quick ns/byte | ratio |");
     println!("|---|--:|--:|--:|--:|");
     for length in lengths(TAPE_LIMIT) {
-        let tape = yearbook(SEED, length);
-        print_growth_row("read a tape", &tape, &mut read_tape(&tape));
+        let tape = yearbook(Machine::Eight, SEED, length);
+        print_growth_row("read a tape", &tape, &mut read_tape(&tape, Machine::Eight));
     }
-    let tape = yearbook(SEED, TAPE_LIMIT);
+    let tape = yearbook(Machine::Eight, SEED, TAPE_LIMIT);
     for length in lengths(GALLEY_LIMIT) {
         let galley = galley_of_length(&tape, length);
         print_growth_row("check a galley", &galley, &mut check_galley(&galley));
@@ -84,9 +86,9 @@ fn lengths(limit: usize) -> impl Iterator<Item = usize> {
     std::iter::successors(Some(SMALLEST), move |length| (*length < limit).then_some((4 * length).min(limit)))
 }
 
-/// A galley of at most so many bytes: the characters of a tape, over and over.
+/// A galley of at most so many bytes: the characters of an 8-font tape, over and over.
 fn galley_of_length(tape: &[u8], length: usize) -> Vec<u8> {
-    let page = spatecanter::read_tape(tape).unwrap();
+    let page = spatecanter::read_tape(tape, Machine::Eight).unwrap();
     let fields = &page[..page.len() - 7];
     let count = (length - 7) / 9;
     let mut galley: Vec<u8> = fields.iter().copied().cycle().take(9 * count).collect();
@@ -101,12 +103,12 @@ struct Contest<'a> {
     quick: Box<dyn FnMut() + 'a>,
 }
 
-fn read_tape(tape: &[u8]) -> Contest<'_> {
-    let room = spatecanter::read_tape(tape).unwrap().len();
+fn read_tape(tape: &[u8], machine: Machine) -> Contest<'_> {
+    let room = spatecanter::read_tape(tape, machine).unwrap().len();
     contest_of_one(
         room,
-        move |galley| spatecanter::read_tape_into(tape, galley).unwrap(),
-        move |galley| quick::read_tape(tape, galley),
+        move |galley| spatecanter::read_tape_into(tape, machine, galley).unwrap(),
+        move |galley| quick::read_tape(tape, machine.fonts(), galley),
     )
 }
 

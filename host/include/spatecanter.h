@@ -28,6 +28,7 @@
  *           A font number is 15 x (font - 1) + size index, 0 to 119; fonts are 1 to 8, and the size
  *           indices 0 to 14 stand for 7 8 10 11 12 14 18 9 6 16 20 22 24 28 36 points. From index 9
  *           on sizes are double, with x from -55 to 3,184; in single sizes x is 0 to 3,239.
+ *           A galley does not record its tape's machine; the 4-font machine's fonts are 1 to 4.
  *   sheet   a run of fields as above. Places and sides are in rsu, 1/65536 of a point of 1/72 inch.
  *           page       tag 5, length 4: its number
  *           character  tag 3, length 13: x, y, font (4 each), character (1)
@@ -62,7 +63,8 @@ enum sp_number {
 
     /* Tapes */
     SP_TAPE_TOO_LONG     = 1,  /* tape over SP_TAPE_LIMIT; 0 */
-    SP_ILLEGAL_CODE      = 2,  /* 4D, 5F or FF (hexadecimal); the byte's offset */
+    SP_ILLEGAL_CODE      = 2,  /* 4D, 5F or FF (hexadecimal), on the 4-font machine 4E or 4F too; the
+                                  byte's offset */
     SP_BEFORE_INITIALIZE = 3,  /* before the first initialize, another code than 00; the byte's offset */
     SP_AFTER_STOP        = 4,  /* after stop, another code than 00; the byte's offset */
     SP_PARKED            = 5,  /* parked: a flash, or an escape not forward 16; the byte's offset */
@@ -74,6 +76,7 @@ enum sp_number {
     SP_AFTER_CUT         = 10, /* after a cut (4B), another code than 00 and initialize; the byte's offset.
                                   The tape ends after a cut and 00 alone; the tape's length */
     SP_GALLEY_ROOM       = 12, /* galley buffer too short; the bytes needed */
+    SP_NO_MACHINE        = 50, /* a machine other than 4 or 8; 0 */
 
     /* DVI files */
     SP_DVI_TOO_LONG      = 20, /* file over SP_DVI_LIMIT; 0 */
@@ -102,11 +105,19 @@ enum sp_number {
 };
 
 /*
- * Reads a tape and writes its galley.
- * Refusals: 1; then 2 to 10, of which the earliest place decides, and at one place the first of 2, 3, 10, 4,
- * 5, 6, 7, 8, 9; then 12. A galley has at most 9 bytes for each byte of tape, and 7.
+ * Reads a tape and writes its galley. `machine` is 4 or 8, the number of fonts of the machine that the tape
+ * was made for; the tape does not say. Rail and mag choose the font, on the 8-font machine with tilt:
+ *
+ *     rail   mag    4 fonts  8 fonts, tilt up and down
+ *     lower  lower  1        1 and 2
+ *     upper  lower  2        3 and 4
+ *     lower  upper  3        5 and 6
+ *     upper  upper  4        7 and 8
+ *
+ * Refusals: 1; then 50; then 2 to 10, of which the earliest place decides, and at one place the first of 2,
+ * 3, 10, 4, 5, 6, 7, 8, 9; then 12. A galley has at most 9 bytes for each byte of tape, and 7.
  */
-void sp_read_tape(const uint8_t *tape, size_t tape_len,
+void sp_read_tape(const uint8_t *tape, size_t tape_len, uint32_t machine,
                   uint8_t *galley, size_t galley_len,
                   size_t answer[3]);
 

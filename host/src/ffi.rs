@@ -7,6 +7,7 @@ extern "C" {
     pub fn sp_read_tape(
         tape: *const u8,
         tape_len: usize,
+        machine: u32,
         galley: *mut u8,
         galley_len: usize,
         answer: *mut [usize; 3],

@@ -5,11 +5,13 @@
 
 pub mod ffi;
 pub mod galley;
+mod machine;
 mod operations;
 mod refusal;
 pub mod sample;
 pub mod sheet;
 
+pub use machine::Machine;
 pub use operations::{
     check_galley, read_back, read_dvi, read_dvi_into, read_tape, read_tape_into, reprint, reprint_into,
     write_dvi, write_dvi_into, Reprint, DVI_LIMIT, GALLEY_LIMIT, ITEM_LIMIT, TAPE_LIMIT, WIDTHS_PER_FONT,

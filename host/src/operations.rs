@@ -2,6 +2,7 @@
 
 use crate::ffi;
 use crate::galley::Character;
+use crate::machine::Machine;
 use crate::refusal::{number, Outcome, Refusal};
 
 /// The longest tape, galley and DVI file that are taken, in bytes.
@@ -22,20 +23,27 @@ pub struct Reprint {
     pub sheet: Vec<u8>,
 }
 
-/// Reads a tape into a galley; the length is the galley's.
-pub fn read_tape_into(tape: &[u8], galley: &mut [u8]) -> Outcome {
+/// Reads a tape of this machine into a galley; the length is the galley's.
+pub fn read_tape_into(tape: &[u8], machine: Machine, galley: &mut [u8]) -> Outcome {
     let mut answer = [0; 3];
     // SAFETY: every pointer comes from a live slice, with its length.
     unsafe {
-        ffi::sp_read_tape(tape.as_ptr(), tape.len(), galley.as_mut_ptr(), galley.len(), &mut answer);
+        ffi::sp_read_tape(
+            tape.as_ptr(),
+            tape.len(),
+            machine.fonts(),
+            galley.as_mut_ptr(),
+            galley.len(),
+            &mut answer,
+        );
     }
     outcome(answer)
 }
 
-/// The galley of a tape.
-pub fn read_tape(tape: &[u8]) -> Result<Vec<u8>, Refusal> {
+/// The galley of a tape of this machine.
+pub fn read_tape(tape: &[u8], machine: Machine) -> Result<Vec<u8>, Refusal> {
     let enough = 9 * tape.len().min(TAPE_LIMIT) + 7;
-    filled(enough, number::GALLEY_ROOM, |galley| read_tape_into(tape, galley))
+    filled(enough, number::GALLEY_ROOM, |galley| read_tape_into(tape, machine, galley))
 }
 
 /// Checks a galley; the length is its number of characters.

@@ -41,6 +41,7 @@ pub mod number {
     pub const GALLEY_TOO_LONG: usize = 40;
     pub const GALLEY_MALFORMED: usize = 41;
     pub const DVI_ROOM: usize = 42;
+    pub const NO_MACHINE: usize = 50;
 }
 
 impl Refusal {
@@ -74,6 +75,7 @@ impl Refusal {
             number::GALLEY_TOO_LONG => "the galley is longer than 9,437,191 bytes",
             number::GALLEY_MALFORMED => "the galley is malformed",
             number::DVI_ROOM => "the buffer for the DVI file is too short",
+            number::NO_MACHINE => "the machine is neither the 4-font nor the 8-font machine",
             _ => "an unknown refusal",
         }
     }

@@ -11,6 +11,9 @@ ghost use mathlib.Core.Path.{_≡_};
 ghost use Prim.Native.Nat.{_≤_};
 ghost use lib.IntN.{natAbs};
 
+// The cabinet's 8-font machine.
+const MACHINE: u32 = 8;
+
 // The longest tape that is read.
 const MAX_TAPE: usize = 2_048;
 
@@ -83,7 +86,7 @@ fn write_refusal(number: u8, place: usize) {
 
 // Reads a tape into the lent buffer, and lists it or says why not.
 fn list(tape: &[u8], galley: &mut [u8]) {
-    let answer = tape::read_tape(tape, galley);
+    let answer = tape::read_tape(tape, MACHINE, galley);
     match answer {
         Answer::Refused(number, place) => write_refusal(number, place),
         Answer::Accepted(length) => write_galley(&galley[..length]),

@@ -95,6 +95,9 @@ noCharacter = 11
 abbrev pub noDviRoom : ℕ
 noDviRoom = 42
 
+abbrev pub noMachine : ℕ
+noMachine = 50
+
 -- ---- outcomes
 
 pub data Outcome : Type 0 where

@@ -59,3 +59,5 @@ pub const GALLEY_MALFORMED: u8 = 41;
 pub const NO_CHARACTER: u8 = 11;
 
 pub const NO_DVI_ROOM: u8 = 42;
+
+pub const NO_MACHINE: u8 = 50;

@@ -24,7 +24,7 @@ use Rattle.tape.specs.Tape.{run, readResult, tapeResult}
 
 -- a row of the sheet: what is given, and what comes of it
 pub data Case : Type 0 where
-  -- a tape, and its result with a buffer of 32 bytes
+  -- a tape of the 8-font machine, and its result with a buffer of 32 bytes
   tapeCase : List ℕ → Result → Case
   -- a galley, and the x, height, font number and character of each of its characters
   galleyCase : List ℕ → Reading → Case
@@ -97,7 +97,7 @@ cases =
 
 -- a row with what the definitions give in place of what the sheet says
 abbrev given : Case → Case
-given (tapeCase tape r) = tapeCase tape (tapeResult tape 32)
+given (tapeCase tape r) = tapeCase tape (tapeResult tape 8 32)
 given (galleyCase g r) = galleyCase g (readGalley g)
 given (targetCase x t) = targetCase x (xTarget x)
 given (fileCase g r) = fileCase g (dviResult g 64)

@@ -41,12 +41,17 @@ fn found_character(f: Found) -> [i32; 4]
     }
 }
 
-// Reads a tape into a galley.
+// Reads a tape of the machine with so many fonts, 4 or 8, into a galley.
 #[no_mangle]
-pub extern "C" fn sp_read_tape(tape: &[u8], galley: &mut [u8], answer: &mut [usize; 3])
-    ensures { λ _. ⌜ (now (answer .exit) ≡ numbersOf (outcome (tapeResult (now (tape .entry)) (length (now (galley .entry)))))) × (now (galley .exit) ≡ after (now (galley .entry)) (tapeResult (now (tape .entry)) (length (now (galley .entry))))) ⌝ }
+pub extern "C" fn sp_read_tape(
+    tape: &[u8],
+    machine: u32,
+    galley: &mut [u8],
+    answer: &mut [usize; 3],
+)
+    ensures { λ _. ⌜ (now (answer .exit) ≡ numbersOf (outcome (tapeResult (now (tape .entry)) machine (length (now (galley .entry)))))) × (now (galley .exit) ≡ after (now (galley .entry)) (tapeResult (now (tape .entry)) machine (length (now (galley .entry))))) ⌝ }
 {
-    let a = tape::read_tape(tape, galley);
+    let a = tape::read_tape(tape, machine, galley);
     *answer = numbers(a);
 }
 

@@ -9,6 +9,8 @@ use native.Mathlib.Omega.{arith}
 use lib.Bits.{bitAnd, and-mask}
 use lib.Dec.{eqb}
 use lib.ListN.{getD}
+use Rattle.tape.specs.declared.code.Machine.{Machine}
+use Rattle.tape.specs.declared.code.Machine.the-variants.{Four, Eight}
 use Rattle.tape.specs.declared.code.Code.{Code}
 use Rattle.tape.specs.declared.code.Code.the-variants.{Ignored, Illegal, Ordered}
 use Rattle.tape.specs.declared.code.Order.the-variants.{Flash, Size, Lead, Escape}
@@ -35,40 +37,41 @@ agree f g d n e i h =
     ap f (sym (zero-add i)) ∙ sym (at-number f d n 0 i h) ∙ ap (λ (l : List _). getD l i d) e ∙ at-number g d n 0 i h ∙ ap g (zero-add i)
 
 -- a code sorted by its top bits, as the code sorts it
-abbrev pub sorted : ℕ → Code
-sorted b =
+abbrev pub sorted : Machine → ℕ → Code
+sorted machine b =
     cond (eqb b 0) Ignored
     (cond (eqb b 255) Illegal
     (cond (eqb (b / 128) 1) (Ordered (Escape (127 - b % 128)))
     (cond (eqb (b / 64) 0) (Ordered (Flash b))
     (cond (eqb (b / 32) 3) (Ordered (Lead (31 - b % 32)))
-    (cond (eqb (b / 16) 4) (getD controls (b % 16) Illegal)
+    (cond (eqb (b / 16) 4) (getD (controls machine) (b % 16) Illegal)
     (cond (eqb b 95) Illegal
     (Ordered (Size (b % 16)))))))))
 
-all-codes : map sorted (numbers 0 256) ≡ map codeOf (numbers 0 256)
+all-codes : (machine : Machine) → map (sorted machine) (numbers 0 256) ≡ map (codeOf machine) (numbers 0 256)
 unfolding codeOf
-all-codes = refl
+all-codes Four = refl
+all-codes Eight = refl
 
-pub sorted-is : (b : ℕ) → b < 256 → sorted b ≡ codeOf b
-sorted-is b h = agree sorted codeOf Illegal 256 all-codes b h
+pub sorted-is : (machine : Machine) (b : ℕ) → b < 256 → sorted machine b ≡ codeOf machine b
+sorted-is machine b h = agree (sorted machine) (codeOf machine) Illegal 256 (all-codes machine) b h
 
 -- what the control codes' match leaves is illegal
-pub rest-illegal : (x : ℕ) → (((((((((((((((Unit {0}) × (x ≡ 0 → ⊥)) × (x ≡ 1 → ⊥)) × (x ≡ 2 → ⊥)) × (x ≡ 3 → ⊥)) × (x ≡ 4 → ⊥)) × (x ≡ 5 → ⊥)) × (x ≡ 6 → ⊥)) × (x ≡ 7 → ⊥)) × (x ≡ 8 → ⊥)) × (x ≡ 9 → ⊥)) × (x ≡ 10 → ⊥)) × (x ≡ 11 → ⊥)) × (x ≡ 12 → ⊥)) × (x ≡ 14 → ⊥)) × (x ≡ 15 → ⊥) → Illegal ≡ getD controls x Illegal
-rest-illegal zero r = absurd (r .0 .0 .0 .0 .0 .0 .0 .0 .0 .0 .0 .0 .0 .0 .1 refl)
-rest-illegal (suc zero) r = absurd (r .0 .0 .0 .0 .0 .0 .0 .0 .0 .0 .0 .0 .0 .1 refl)
-rest-illegal (suc (suc zero)) r = absurd (r .0 .0 .0 .0 .0 .0 .0 .0 .0 .0 .0 .0 .1 refl)
-rest-illegal (suc (suc (suc zero))) r = absurd (r .0 .0 .0 .0 .0 .0 .0 .0 .0 .0 .0 .1 refl)
-rest-illegal (suc (suc (suc (suc zero)))) r = absurd (r .0 .0 .0 .0 .0 .0 .0 .0 .0 .0 .1 refl)
-rest-illegal (suc (suc (suc (suc (suc zero))))) r = absurd (r .0 .0 .0 .0 .0 .0 .0 .0 .0 .1 refl)
-rest-illegal (suc (suc (suc (suc (suc (suc zero)))))) r = absurd (r .0 .0 .0 .0 .0 .0 .0 .0 .1 refl)
-rest-illegal (suc (suc (suc (suc (suc (suc (suc zero))))))) r = absurd (r .0 .0 .0 .0 .0 .0 .0 .1 refl)
-rest-illegal (suc (suc (suc (suc (suc (suc (suc (suc zero)))))))) r = absurd (r .0 .0 .0 .0 .0 .0 .1 refl)
-rest-illegal (suc (suc (suc (suc (suc (suc (suc (suc (suc zero))))))))) r = absurd (r .0 .0 .0 .0 .0 .1 refl)
-rest-illegal (suc (suc (suc (suc (suc (suc (suc (suc (suc (suc zero)))))))))) r = absurd (r .0 .0 .0 .0 .1 refl)
-rest-illegal (suc (suc (suc (suc (suc (suc (suc (suc (suc (suc (suc zero))))))))))) r = absurd (r .0 .0 .0 .1 refl)
-rest-illegal (suc (suc (suc (suc (suc (suc (suc (suc (suc (suc (suc (suc zero)))))))))))) r = absurd (r .0 .0 .1 refl)
-rest-illegal (suc (suc (suc (suc (suc (suc (suc (suc (suc (suc (suc (suc (suc zero))))))))))))) r = refl
-rest-illegal (suc (suc (suc (suc (suc (suc (suc (suc (suc (suc (suc (suc (suc (suc zero)))))))))))))) r = absurd (r .0 .1 refl)
-rest-illegal (suc (suc (suc (suc (suc (suc (suc (suc (suc (suc (suc (suc (suc (suc (suc zero))))))))))))))) r = absurd (r .1 refl)
-rest-illegal (suc (suc (suc (suc (suc (suc (suc (suc (suc (suc (suc (suc (suc (suc (suc (suc x)))))))))))))))) r = refl
+pub rest-illegal : (machine : Machine) (x : ℕ) → (((((((((((((((Unit {0}) × (x ≡ 0 → ⊥)) × (x ≡ 1 → ⊥)) × (x ≡ 2 → ⊥)) × (x ≡ 3 → ⊥)) × (x ≡ 4 → ⊥)) × (x ≡ 5 → ⊥)) × (x ≡ 6 → ⊥)) × (x ≡ 7 → ⊥)) × (x ≡ 8 → ⊥)) × (x ≡ 9 → ⊥)) × (x ≡ 10 → ⊥)) × (x ≡ 11 → ⊥)) × (x ≡ 12 → ⊥)) × (x ≡ 14 → ⊥)) × (x ≡ 15 → ⊥) → Illegal ≡ getD (controls machine) x Illegal
+rest-illegal machine zero r = absurd (r .0 .0 .0 .0 .0 .0 .0 .0 .0 .0 .0 .0 .0 .0 .1 refl)
+rest-illegal machine (suc zero) r = absurd (r .0 .0 .0 .0 .0 .0 .0 .0 .0 .0 .0 .0 .0 .1 refl)
+rest-illegal machine (suc (suc zero)) r = absurd (r .0 .0 .0 .0 .0 .0 .0 .0 .0 .0 .0 .0 .1 refl)
+rest-illegal machine (suc (suc (suc zero))) r = absurd (r .0 .0 .0 .0 .0 .0 .0 .0 .0 .0 .0 .1 refl)
+rest-illegal machine (suc (suc (suc (suc zero)))) r = absurd (r .0 .0 .0 .0 .0 .0 .0 .0 .0 .0 .1 refl)
+rest-illegal machine (suc (suc (suc (suc (suc zero))))) r = absurd (r .0 .0 .0 .0 .0 .0 .0 .0 .0 .1 refl)
+rest-illegal machine (suc (suc (suc (suc (suc (suc zero)))))) r = absurd (r .0 .0 .0 .0 .0 .0 .0 .0 .1 refl)
+rest-illegal machine (suc (suc (suc (suc (suc (suc (suc zero))))))) r = absurd (r .0 .0 .0 .0 .0 .0 .0 .1 refl)
+rest-illegal machine (suc (suc (suc (suc (suc (suc (suc (suc zero)))))))) r = absurd (r .0 .0 .0 .0 .0 .0 .1 refl)
+rest-illegal machine (suc (suc (suc (suc (suc (suc (suc (suc (suc zero))))))))) r = absurd (r .0 .0 .0 .0 .0 .1 refl)
+rest-illegal machine (suc (suc (suc (suc (suc (suc (suc (suc (suc (suc zero)))))))))) r = absurd (r .0 .0 .0 .0 .1 refl)
+rest-illegal machine (suc (suc (suc (suc (suc (suc (suc (suc (suc (suc (suc zero))))))))))) r = absurd (r .0 .0 .0 .1 refl)
+rest-illegal machine (suc (suc (suc (suc (suc (suc (suc (suc (suc (suc (suc (suc zero)))))))))))) r = absurd (r .0 .0 .1 refl)
+rest-illegal machine (suc (suc (suc (suc (suc (suc (suc (suc (suc (suc (suc (suc (suc zero))))))))))))) r = refl
+rest-illegal machine (suc (suc (suc (suc (suc (suc (suc (suc (suc (suc (suc (suc (suc (suc zero)))))))))))))) r = absurd (r .0 .1 refl)
+rest-illegal machine (suc (suc (suc (suc (suc (suc (suc (suc (suc (suc (suc (suc (suc (suc (suc zero))))))))))))))) r = absurd (r .1 refl)
+rest-illegal machine (suc (suc (suc (suc (suc (suc (suc (suc (suc (suc (suc (suc (suc (suc (suc (suc x)))))))))))))))) r = refl

@@ -18,6 +18,7 @@ use Rattle.measure.specs.PlaceLaws.{carriage-in}
 use Rattle.measure.specs.Target.{xOf}
 use Rattle.galley_file.specs.declared.character.Character.{Character}
 use Rattle.galley_file.specs.Font.{isDouble}
+use Rattle.tape.specs.declared.code.Machine.{Machine}
 use Rattle.tape.specs.declared.code.Order.the-variants.{Flash, Lead, Escape}
 use Rattle.tape.specs.declared.code.Code.the-variants.{Ignored, Ordered}
 use Rattle.tape.specs.declared.machine.State.{State}
@@ -35,24 +36,24 @@ half-taken false v h = (omega arith, refl)
 not-zero : (b : ℕ) → 1 ≤ b → b ≡ 0 → ⊥
 not-zero b h e = omega arith
 
-code-flash : (b : ℕ) → 1 ≤ b → b < 64 → codeOf b ≡ Ordered (Flash b)
+code-flash : (machine : Machine) (b : ℕ) → 1 ≤ b → b < 64 → codeOf machine b ≡ Ordered (Flash b)
 unfolding codeOf
-code-flash b h k = rw (ne-eqb b 0 (not-zero b h), lt-ltb _ _ k)
+code-flash machine b h k = rw (ne-eqb b 0 (not-zero b h), lt-ltb _ _ k)
 
-code-escape : (b : ℕ) → 128 ≤ b → b < 255 → codeOf b ≡ Ordered (Escape (127 - b % 128))
+code-escape : (machine : Machine) (b : ℕ) → 128 ≤ b → b < 255 → codeOf machine b ≡ Ordered (Escape (127 - b % 128))
 unfolding codeOf
-code-escape b h k =
+code-escape machine b h k =
     rw (ne-eqb b 0 (not-zero b (omega arith)), le-ltb b 64 (omega arith), le-ltb b 80 (omega arith), le-ltb b 95 (omega arith), le-ltb b 96 (omega arith), le-ltb b 128 h, lt-ltb b 255 k)
 
-code-lead : (b : ℕ) → 96 ≤ b → b < 128 → codeOf b ≡ Ordered (Lead (31 - b % 32))
+code-lead : (machine : Machine) (b : ℕ) → 96 ≤ b → b < 128 → codeOf machine b ≡ Ordered (Lead (31 - b % 32))
 unfolding codeOf
-code-lead b h k =
+code-lead machine b h k =
     rw (ne-eqb b 0 (not-zero b (omega arith)), le-ltb b 64 (omega arith), le-ltb b 80 (omega arith), le-ltb b 95 (omega arith), le-ltb b 96 h, lt-ltb b 128 k)
 
 module _ (s : State) (b : ℕ) where
   pub quick-led : Running s → 96 ≤ b → b < 128 → (r : Height) → heightAt (s .height .0 +ℤ directedBy (s .modes .«lead_back») (31 - b % 32)) ≡ r → Leads s b r
   unfolding orderOf
-  quick-led r h k (height.At t) e = sym (lead-to s (31 - b % 32) e ∙ order-taken s b (code-lead b h k) (r .begun) (r .uncut) (r .unstopped))
+  quick-led r h k (height.At t) e = sym (lead-to s (31 - b % 32) e ∙ order-taken s b (code-lead (s .machine) b h k) (r .begun) (r .uncut) (r .unstopped))
   quick-led r h k height.Outside e = tt
 
   pub quick-ignored : b ≡ 0 → effectOf s b ≡ Moved (placed s (s .carriage))
@@ -66,13 +67,13 @@ module _ (s : State) (b : ℕ) where
       let t = half-taken (s .modes .«upper_half») b (omega (arith, f .last)) in
       sym
       (flash-set s b (f .runs .unparked) (lt-leb _ _ (f .sized)) (t .1) x (d .font) k ex (f .number) ek
-      ∙ order-taken s b (code-flash b h (t .0)) (f .runs .begun) (f .runs .uncut) (f .runs .unstopped))
+      ∙ order-taken s b (code-flash (s .machine) b h (t .0)) (f .runs .begun) (f .runs .uncut) (f .runs .unstopped))
 
   pub quick-at : Running s → 128 ≤ b → b < 255 → (c : Units) → carriageAt (s .carriage .0 +ℤ directedBy (s .modes .«escape_back») (127 - b % 128)) ≡ carriage.At c
       → effectOf s b ≡ Moved (placed s c)
   unfolding orderOf
   quick-at r h k c e =
-      sym (escape-at s (127 - b % 128) (r .unparked) c e ∙ order-taken s b (code-escape b h k) (r .begun) (r .uncut) (r .unstopped))
+      sym (escape-at s (127 - b % 128) (r .unparked) c e ∙ order-taken s b (code-escape (s .machine) b h k) (r .begun) (r .uncut) (r .unstopped))
 
 -- ---- codes that are counted
 

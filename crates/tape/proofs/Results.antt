@@ -3,12 +3,13 @@
 use mathlib.Core.Path.{_≡_, refl, sym, ap, _∙_}
 use mathlib.Core.Bool.{Bool, true, false, cond}
 use mathlib.Core.List.{List, _++_}
+use mathlib.Core.Option.{Option, none, some}
 use Prim.Native.Nat.{ℕ, _+_, _*_, _≤_, _<_}
 use native.Mathlib.Omega.{arith}
 use borrow.Author.Tests.{lt-ltb, le-ltb}
 use lib.ListN.{length, drop}
 use lib.Seq.{sets}
-use Rattle.octets.specs.Answer.{Result, refusal, written, ifRoom, after, tapeTooLong, afterCut, noStop, noGalleyRoom}
+use Rattle.octets.specs.Answer.{Result, refusal, written, ifRoom, after, tapeTooLong, afterCut, noStop, noGalleyRoom, noMachine}
 use Rattle.octets.specs.AnswerLaws.{room-refused, room-short, room-enough}
 use Rattle.octets.specs.Field.{endField}
 use Rattle.octets.specs.Write.{sets-append, sets-start}
@@ -16,19 +17,27 @@ use Rattle.galley_file.specs.declared.item.Item.{Item}
 use Rattle.galley_file.specs.Item.{charactersOf, cutsOf}
 use Rattle.galley_file.specs.Galley.{fields, galley}
 use Rattle.galley_file.specs.GalleyLaws.{length-fields, length-galley}
+use Rattle.tape.specs.declared.code.Machine.{Machine}
 use Rattle.tape.specs.declared.machine.State.{State}
 use Rattle.tape.specs.declared.Ending.{Ending}
 use Rattle.tape.specs.declared.Ending.the-variants.{Reached, Fault}
 use Rattle.tape.specs.Machine.{start}
-use Rattle.tape.specs.Tape.{maxTape, run, closing, readResult, tapeResult}
+use Rattle.tape.specs.Tape.{maxTape, run, closing, readResult, machineOf, onMachine, tapeResult}
 
-pub long-tape : (tape : List ℕ) (room : ℕ) → maxTape < length tape → tapeResult tape room ≡ refusal tapeTooLong 0
+pub long-tape : (tape : List ℕ) (machine room : ℕ) → maxTape < length tape → tapeResult tape machine room ≡ refusal tapeTooLong 0
 unfolding tapeResult
-long-tape tape room h = rw (lt-ltb _ _ h)
+long-tape tape machine room h = rw (lt-ltb _ _ h)
 
-pub fit-tape : (tape : List ℕ) (room : ℕ) → length tape ≤ maxTape → tapeResult tape room ≡ readResult start tape room
-unfolding tapeResult
-fit-tape tape room h = rw (le-ltb _ _ h)
+module _ (tape : List ℕ) (machine room : ℕ) (fits : length tape ≤ maxTape) where
+  fit-tape : {k : Option Machine} → machineOf machine ≡ k → tapeResult tape machine room ≡ onMachine tape room k
+  unfolding tapeResult
+  fit-tape e = rw (le-ltb _ _ fits) (ap (onMachine tape room) e)
+
+  pub other-machine : machineOf machine ≡ none → tapeResult tape machine room ≡ refusal noMachine 0
+  other-machine e = fit-tape e
+
+  pub on-machine : {kind : Machine} → machineOf machine ≡ some kind → {s : State} → s ≡ start kind → tapeResult tape machine room ≡ readResult s tape room
+  on-machine e q = fit-tape e ∙ sym (ap (λ (s : State). readResult s tape room) q)
 
 module _ (s : State) (tape : List ℕ) (room : ℕ) where
   by-ending : {e : Ending} → run s 0 tape .ending ≡ e → readResult s tape room ≡ ifRoom noGalleyRoom room (closing (length tape) (run s 0 tape .items) e)

@@ -23,7 +23,7 @@ use Rattle.tape.specs.Quick.{placed}
 
 -- a flash that no rule refuses
 pub flash-set : (s : State) (v : ℕ) → s .parked ≡ false → leb noSizeYet (s .size) ≡ false → pastHalf (s .modes .«upper_half») v ≡ false
-    → (x : Units) (n k : ℕ) → x .0 ≡ xOf (s .carriage .0) (isDouble (s .size)) → n ≡ fontNumber (fontIn (s .modes)) (s .size) → k ≡ codeIn (s .modes .«upper_half») v
+    → (x : Units) (n k : ℕ) → x .0 ≡ xOf (s .carriage .0) (isDouble (s .size)) → n ≡ fontNumber (fontIn (s .machine) (s .modes)) (s .size) → k ≡ codeIn (s .modes .«upper_half») v
     → Flashed (record { x = x; height = s .height; font = n; code = k }) ≡ flashOf s v
 unfolding flashOf
 flash-set s v p z a x n k ex en ek =
@@ -45,39 +45,39 @@ module _ (s : State) (n : ℕ) where
 
     pub escape-at : (c : Units) → carriageAt (s .carriage .0 +ℤ directedBy (s .modes .«escape_back») n) ≡ carriage.At c → Moved (placed s c) ≡ escapeOf s n
     escape-at c e =
-        (λ i. Moved (record { initialized = s .initialized; parked = free i; stopped = s .stopped; cut = s .cut; modes = s .modes; size = s .size; carriage = c; height = s .height }))
+        (λ i. Moved (record { machine = s .machine; initialized = s .initialized; parked = free i; stopped = s .stopped; cut = s .cut; modes = s .modes; size = s .size; carriage = c; height = s .height }))
         ∙ escape-to e
 
 -- a step by the class of its code
 module _ (s : State) (b : ℕ) where
-  pub step-ignored : codeOf b ≡ Ignored → Moved s ≡ effectOf s b
+  pub step-ignored : codeOf (s .machine) b ≡ Ignored → Moved s ≡ effectOf s b
   unfolding effectOf codeEffect
   step-ignored e = rw e
 
-  pub step-illegal : codeOf b ≡ Illegal → Refused illegalCode ≡ effectOf s b
+  pub step-illegal : codeOf (s .machine) b ≡ Illegal → Refused illegalCode ≡ effectOf s b
   unfolding effectOf codeEffect
   step-illegal e = rw e
 
-  pub initialize-stopped : codeOf b ≡ Initialize → s .stopped ≡ true → Refused afterStop ≡ effectOf s b
+  pub initialize-stopped : codeOf (s .machine) b ≡ Initialize → s .stopped ≡ true → Refused afterStop ≡ effectOf s b
   unfolding effectOf codeEffect
   initialize-stopped e t = rw (e, t)
 
-  pub initialize-taken : codeOf b ≡ Initialize → s .stopped ≡ false → Moved (initializedOf s) ≡ effectOf s b
+  pub initialize-taken : codeOf (s .machine) b ≡ Initialize → s .stopped ≡ false → Moved (initializedOf s) ≡ effectOf s b
   unfolding effectOf codeEffect
   initialize-taken e t = rw (e, t)
 
-  pub order-early : {o : Order} → codeOf b ≡ Ordered o → s .initialized ≡ false → Refused notInitialized ≡ effectOf s b
+  pub order-early : {o : Order} → codeOf (s .machine) b ≡ Ordered o → s .initialized ≡ false → Refused notInitialized ≡ effectOf s b
   unfolding effectOf codeEffect
   order-early e i = rw (e, i)
 
-  pub order-cut : {o : Order} → codeOf b ≡ Ordered o → s .initialized ≡ true → s .cut ≡ true → Refused afterCut ≡ effectOf s b
+  pub order-cut : {o : Order} → codeOf (s .machine) b ≡ Ordered o → s .initialized ≡ true → s .cut ≡ true → Refused afterCut ≡ effectOf s b
   unfolding effectOf codeEffect
   order-cut e i k = rw (e, i, k)
 
-  pub order-stopped : {o : Order} → codeOf b ≡ Ordered o → s .initialized ≡ true → s .cut ≡ false → s .stopped ≡ true → Refused afterStop ≡ effectOf s b
+  pub order-stopped : {o : Order} → codeOf (s .machine) b ≡ Ordered o → s .initialized ≡ true → s .cut ≡ false → s .stopped ≡ true → Refused afterStop ≡ effectOf s b
   unfolding effectOf codeEffect
   order-stopped e i k t = rw (e, i, k, t)
 
-  pub order-taken : {o : Order} → codeOf b ≡ Ordered o → s .initialized ≡ true → s .cut ≡ false → s .stopped ≡ false → orderOf s o ≡ effectOf s b
+  pub order-taken : {o : Order} → codeOf (s .machine) b ≡ Ordered o → s .initialized ≡ true → s .cut ≡ false → s .stopped ≡ false → orderOf s o ≡ effectOf s b
   unfolding effectOf codeEffect
   order-taken e i k t = rw (e, i, k, t)

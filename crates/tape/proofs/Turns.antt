@@ -3,6 +3,9 @@
 use mathlib.Core.Path.{_≡_, refl, sym, ap, _∙_, subst}
 use Prim.Native.Nat.{ℕ, zero, suc, _+_, _-_, _≤_}
 use native.Mathlib.Omega.{arith}
+use lib.Dec.{lit≤}
+use Rattle.tape.specs.declared.code.Machine.{Machine}
+use Rattle.tape.specs.declared.code.Machine.the-variants.{Eight}
 use Rattle.tape.specs.declared.machine.Modes.{Modes}
 use Rattle.tape.specs.declared.machine.State.{State}
 use Rattle.tape.specs.declared.machine.Effect.the-variants.{Moved}
@@ -12,45 +15,45 @@ use Rattle.tape.specs.Quick.{Running, Turn, modesAfter, sizeAfter, settl
 use Rattle.tape.proofs.Steps.{order-taken}
 
 module _ (s : State) (r : Running s) where
-  turn-at : (k : ℕ) → k ≤ 29 → (k ≡ 8 → ⊥) → (k ≡ 10 → ⊥) → (k ≡ 12 → ⊥) → effectOf s (65 + k) ≡ Moved (settled s (modesAfter (s .modes) (65 + k)) (sizeAfter (s .size) (65 + k)))
+  turn-at : (k : ℕ) → k ≤ 29 → (k ≡ 8 → ⊥) → (k ≡ 10 → ⊥) → (k ≡ 12 → ⊥) → (13 ≤ k → k ≤ 14 → s .machine ≡ Eight) → effectOf s (65 + k) ≡ Moved (settled s (modesAfter (s .modes) (65 + k)) (sizeAfter (s .size) (65 + k)))
   unfolding codeOf orderOf
-  turn-at zero h a c e = sym (order-taken s 65 refl (r .begun) (r .uncut) (r .unstopped))
-  turn-at (suc zero) h a c e = sym (order-taken s 66 refl (r .begun) (r .uncut) (r .unstopped))
-  turn-at (suc (suc zero)) h a c e = sym (order-taken s 67 refl (r .begun) (r .uncut) (r .unstopped))
-  turn-at (suc (suc (suc zero))) h a c e = sym (order-taken s 68 refl (r .begun) (r .uncut) (r .unstopped))
-  turn-at (suc (suc (suc (suc zero)))) h a c e = sym (order-taken s 69 refl (r .begun) (r .uncut) (r .unstopped))
-  turn-at (suc (suc (suc (suc (suc zero))))) h a c e = sym (order-taken s 70 refl (r .begun) (r .uncut) (r .unstopped))
-  turn-at (suc (suc (suc (suc (suc (suc zero)))))) h a c e = sym (order-taken s 71 refl (r .begun) (r .uncut) (r .unstopped))
-  turn-at (suc (suc (suc (suc (suc (suc (suc zero))))))) h a c e = sym (order-taken s 72 refl (r .begun) (r .uncut) (r .unstopped))
-  turn-at (suc (suc (suc (suc (suc (suc (suc (suc zero)))))))) h a c e = absurd (a refl)
-  turn-at (suc (suc (suc (suc (suc (suc (suc (suc (suc zero))))))))) h a c e = sym (order-taken s 74 refl (r .begun) (r .uncut) (r .unstopped))
-  turn-at (suc (suc (suc (suc (suc (suc (suc (suc (suc (suc zero)))))))))) h a c e = absurd (c refl)
-  turn-at (suc (suc (suc (suc (suc (suc (suc (suc (suc (suc (suc zero))))))))))) h a c e = sym (order-taken s 76 refl (r .begun) (r .uncut) (r .unstopped))
-  turn-at (suc (suc (suc (suc (suc (suc (suc (suc (suc (suc (suc (suc zero)))))))))))) h a c e = absurd (e refl)
-  turn-at (suc (suc (suc (suc (suc (suc (suc (suc (suc (suc (suc (suc (suc zero))))))))))))) h a c e = sym (order-taken s 78 refl (r .begun) (r .uncut) (r .unstopped))
-  turn-at (suc (suc (suc (suc (suc (suc (suc (suc (suc (suc (suc (suc (suc (suc zero)))))))))))))) h a c e = sym (order-taken s 79 refl (r .begun) (r .uncut) (r .unstopped))
-  turn-at (suc (suc (suc (suc (suc (suc (suc (suc (suc (suc (suc (suc (suc (suc (suc zero))))))))))))))) h a c e = sym (order-taken s 80 refl (r .begun) (r .uncut) (r .unstopped))
-  turn-at (suc (suc (suc (suc (suc (suc (suc (suc (suc (suc (suc (suc (suc (suc (suc (suc zero)))))))))))))))) h a c e = sym (order-taken s 81 refl (r .begun) (r .uncut) (r .unstopped))
-  turn-at (suc (suc (suc (suc (suc (suc (suc (suc (suc (suc (suc (suc (suc (suc (suc (suc (suc zero))))))))))))))))) h a c e = sym (order-taken s 82 refl (r .begun) (r .uncut) (r .unstopped))
-  turn-at (suc (suc (suc (suc (suc (suc (suc (suc (suc (suc (suc (suc (suc (suc (suc (suc (suc (suc zero)))))))))))))))))) h a c e = sym (order-taken s 83 refl (r .begun) (r .uncut) (r .unstopped))
-  turn-at (suc (suc (suc (suc (suc (suc (suc (suc (suc (suc (suc (suc (suc (suc (suc (suc (suc (suc (suc zero))))))))))))))))))) h a c e = sym (order-taken s 84 refl (r .begun) (r .uncut) (r .unstopped))
-  turn-at (suc (suc (suc (suc (suc (suc (suc (suc (suc (suc (suc (suc (suc (suc (suc (suc (suc (suc (suc (suc zero)))))))))))))))))))) h a c e = sym (order-taken s 85 refl (r .begun) (r .uncut) (r .unstopped))
-  turn-at (suc (suc (suc (suc (suc (suc (suc (suc (suc (suc (suc (suc (suc (suc (suc (suc (suc (suc (suc (suc (suc zero))))))))))))))))))))) h a c e = sym (order-taken s 86 refl (r .begun) (r .uncut) (r .unstopped))
-  turn-at (suc (suc (suc (suc (suc (suc (suc (suc (suc (suc (suc (suc (suc (suc (suc (suc (suc (suc (suc (suc (suc (suc zero)))))))))))))))))))))) h a c e = sym (order-taken s 87 refl (r .begun) (r .uncut) (r .unstopped))
-  turn-at (suc (suc (suc (suc (suc (suc (suc (suc (suc (suc (suc (suc (suc (suc (suc (suc (suc (suc (suc (suc (suc (suc (suc zero))))))))))))))))))))))) h a c e = sym (order-taken s 88 refl (r .begun) (r .uncut) (r .unstopped))
-  turn-at (suc (suc (suc (suc (suc (suc (suc (suc (suc (suc (suc (suc (suc (suc (suc (suc (suc (suc (suc (suc (suc (suc (suc (suc zero)))))))))))))))))))))))) h a c e = sym (order-taken s 89 refl (r .begun) (r .uncut) (r .unstopped))
-  turn-at (suc (suc (suc (suc (suc (suc (suc (suc (suc (suc (suc (suc (suc (suc (suc (suc (suc (suc (suc (suc (suc (suc (suc (suc (suc zero))))))))))))))))))))))))) h a c e = sym (order-taken s 90 refl (r .begun) (r .uncut) (r .unstopped))
-  turn-at (suc (suc (suc (suc (suc (suc (suc (suc (suc (suc (suc (suc (suc (suc (suc (suc (suc (suc (suc (suc (suc (suc (suc (suc (suc (suc zero)))))))))))))))))))))))))) h a c e = sym (order-taken s 91 refl (r .begun) (r .uncut) (r .unstopped))
-  turn-at (suc (suc (suc (suc (suc (suc (suc (suc (suc (suc (suc (suc (suc (suc (suc (suc (suc (suc (suc (suc (suc (suc (suc (suc (suc (suc (suc zero))))))))))))))))))))))))))) h a c e = sym (order-taken s 92 refl (r .begun) (r .uncut) (r .unstopped))
-  turn-at (suc (suc (suc (suc (suc (suc (suc (suc (suc (suc (suc (suc (suc (suc (suc (suc (suc (suc (suc (suc (suc (suc (suc (suc (suc (suc (suc (suc zero)))))))))))))))))))))))))))) h a c e = sym (order-taken s 93 refl (r .begun) (r .uncut) (r .unstopped))
-  turn-at (suc (suc (suc (suc (suc (suc (suc (suc (suc (suc (suc (suc (suc (suc (suc (suc (suc (suc (suc (suc (suc (suc (suc (suc (suc (suc (suc (suc (suc zero))))))))))))))))))))))))))))) h a c e = sym (order-taken s 94 refl (r .begun) (r .uncut) (r .unstopped))
-  turn-at (suc (suc (suc (suc (suc (suc (suc (suc (suc (suc (suc (suc (suc (suc (suc (suc (suc (suc (suc (suc (suc (suc (suc (suc (suc (suc (suc (suc (suc (suc k)))))))))))))))))))))))))))))) h a c e = absurd (omega arith)
+  turn-at zero h a c e t = sym (order-taken s 65 refl (r .begun) (r .uncut) (r .unstopped))
+  turn-at (suc zero) h a c e t = sym (order-taken s 66 refl (r .begun) (r .uncut) (r .unstopped))
+  turn-at (suc (suc zero)) h a c e t = sym (order-taken s 67 refl (r .begun) (r .uncut) (r .unstopped))
+  turn-at (suc (suc (suc zero))) h a c e t = sym (order-taken s 68 refl (r .begun) (r .uncut) (r .unstopped))
+  turn-at (suc (suc (suc (suc zero)))) h a c e t = sym (order-taken s 69 refl (r .begun) (r .uncut) (r .unstopped))
+  turn-at (suc (suc (suc (suc (suc zero))))) h a c e t = sym (order-taken s 70 refl (r .begun) (r .uncut) (r .unstopped))
+  turn-at (suc (suc (suc (suc (suc (suc zero)))))) h a c e t = sym (order-taken s 71 refl (r .begun) (r .uncut) (r .unstopped))
+  turn-at (suc (suc (suc (suc (suc (suc (suc zero))))))) h a c e t = sym (order-taken s 72 refl (r .begun) (r .uncut) (r .unstopped))
+  turn-at (suc (suc (suc (suc (suc (suc (suc (suc zero)))))))) h a c e t = absurd (a refl)
+  turn-at (suc (suc (suc (suc (suc (suc (suc (suc (suc zero))))))))) h a c e t = sym (order-taken s 74 refl (r .begun) (r .uncut) (r .unstopped))
+  turn-at (suc (suc (suc (suc (suc (suc (suc (suc (suc (suc zero)))))))))) h a c e t = absurd (c refl)
+  turn-at (suc (suc (suc (suc (suc (suc (suc (suc (suc (suc (suc zero))))))))))) h a c e t = sym (order-taken s 76 refl (r .begun) (r .uncut) (r .unstopped))
+  turn-at (suc (suc (suc (suc (suc (suc (suc (suc (suc (suc (suc (suc zero)))))))))))) h a c e t = absurd (e refl)
+  turn-at (suc (suc (suc (suc (suc (suc (suc (suc (suc (suc (suc (suc (suc zero))))))))))))) h a c e t = sym (order-taken s 78 (ap (λ (m : Machine). codeOf m 78) (t (lit≤ tt) (lit≤ tt))) (r .begun) (r .uncut) (r .unstopped))
+  turn-at (suc (suc (suc (suc (suc (suc (suc (suc (suc (suc (suc (suc (suc (suc zero)))))))))))))) h a c e t = sym (order-taken s 79 (ap (λ (m : Machine). codeOf m 79) (t (lit≤ tt) (lit≤ tt))) (r .begun) (r .uncut) (r .unstopped))
+  turn-at (suc (suc (suc (suc (suc (suc (suc (suc (suc (suc (suc (suc (suc (suc (suc zero))))))))))))))) h a c e t = sym (order-taken s 80 refl (r .begun) (r .uncut) (r .unstopped))
+  turn-at (suc (suc (suc (suc (suc (suc (suc (suc (suc (suc (suc (suc (suc (suc (suc (suc zero)))))))))))))))) h a c e t = sym (order-taken s 81 refl (r .begun) (r .uncut) (r .unstopped))
+  turn-at (suc (suc (suc (suc (suc (suc (suc (suc (suc (suc (suc (suc (suc (suc (suc (suc (suc zero))))))))))))))))) h a c e t = sym (order-taken s 82 refl (r .begun) (r .uncut) (r .unstopped))
+  turn-at (suc (suc (suc (suc (suc (suc (suc (suc (suc (suc (suc (suc (suc (suc (suc (suc (suc (suc zero)))))))))))))))))) h a c e t = sym (order-taken s 83 refl (r .begun) (r .uncut) (r .unstopped))
+  turn-at (suc (suc (suc (suc (suc (suc (suc (suc (suc (suc (suc (suc (suc (suc (suc (suc (suc (suc (suc zero))))))))))))))))))) h a c e t = sym (order-taken s 84 refl (r .begun) (r .uncut) (r .unstopped))
+  turn-at (suc (suc (suc (suc (suc (suc (suc (suc (suc (suc (suc (suc (suc (suc (suc (suc (suc (suc (suc (suc zero)))))))))))))))))))) h a c e t = sym (order-taken s 85 refl (r .begun) (r .uncut) (r .unstopped))
+  turn-at (suc (suc (suc (suc (suc (suc (suc (suc (suc (suc (suc (suc (suc (suc (suc (suc (suc (suc (suc (suc (suc zero))))))))))))))))))))) h a c e t = sym (order-taken s 86 refl (r .begun) (r .uncut) (r .unstopped))
+  turn-at (suc (suc (suc (suc (suc (suc (suc (suc (suc (suc (suc (suc (suc (suc (suc (suc (suc (suc (suc (suc (suc (suc zero)))))))))))))))))))))) h a c e t = sym (order-taken s 87 refl (r .begun) (r .uncut) (r .unstopped))
+  turn-at (suc (suc (suc (suc (suc (suc (suc (suc (suc (suc (suc (suc (suc (suc (suc (suc (suc (suc (suc (suc (suc (suc (suc zero))))))))))))))))))))))) h a c e t = sym (order-taken s 88 refl (r .begun) (r .uncut) (r .unstopped))
+  turn-at (suc (suc (suc (suc (suc (suc (suc (suc (suc (suc (suc (suc (suc (suc (suc (suc (suc (suc (suc (suc (suc (suc (suc (suc zero)))))))))))))))))))))))) h a c e t = sym (order-taken s 89 refl (r .begun) (r .uncut) (r .unstopped))
+  turn-at (suc (suc (suc (suc (suc (suc (suc (suc (suc (suc (suc (suc (suc (suc (suc (suc (suc (suc (suc (suc (suc (suc (suc (suc (suc zero))))))))))))))))))))))))) h a c e t = sym (order-taken s 90 refl (r .begun) (r .uncut) (r .unstopped))
+  turn-at (suc (suc (suc (suc (suc (suc (suc (suc (suc (suc (suc (suc (suc (suc (suc (suc (suc (suc (suc (suc (suc (suc (suc (suc (suc (suc zero)))))))))))))))))))))))))) h a c e t = sym (order-taken s 91 refl (r .begun) (r .uncut) (r .unstopped))
+  turn-at (suc (suc (suc (suc (suc (suc (suc (suc (suc (suc (suc (suc (suc (suc (suc (suc (suc (suc (suc (suc (suc (suc (suc (suc (suc (suc (suc zero))))))))))))))))))))))))))) h a c e t = sym (order-taken s 92 refl (r .begun) (r .uncut) (r .unstopped))
+  turn-at (suc (suc (suc (suc (suc (suc (suc (suc (suc (suc (suc (suc (suc (suc (suc (suc (suc (suc (suc (suc (suc (suc (suc (suc (suc (suc (suc (suc zero)))))))))))))))))))))))))))) h a c e t = sym (order-taken s 93 refl (r .begun) (r .uncut) (r .unstopped))
+  turn-at (suc (suc (suc (suc (suc (suc (suc (suc (suc (suc (suc (suc (suc (suc (suc (suc (suc (suc (suc (suc (suc (suc (suc (suc (suc (suc (suc (suc (suc zero))))))))))))))))))))))))))))) h a c e t = sym (order-taken s 94 refl (r .begun) (r .uncut) (r .unstopped))
+  turn-at (suc (suc (suc (suc (suc (suc (suc (suc (suc (suc (suc (suc (suc (suc (suc (suc (suc (suc (suc (suc (suc (suc (suc (suc (suc (suc (suc (suc (suc (suc k)))))))))))))))))))))))))))))) h a c e t = absurd (omega arith)
 
-  pub turn-taken : (b : ℕ) → Turn b → (m : Modes) → m ≡ modesAfter (s .modes) b → (z : ℕ) → z ≡ sizeAfter (s .size) b → effectOf s b ≡ Moved (settled s m z)
+  pub turn-taken : (b : ℕ) → Turn (s .machine) b → (m : Modes) → m ≡ modesAfter (s .modes) b → (z : ℕ) → z ≡ sizeAfter (s .size) b → effectOf s b ≡ Moved (settled s m z)
   turn-taken b t m em z ez =
       let low = t .low in
       let high = t .high in
       let from : 65 + (b - 65) ≡ b = omega arith in
       subst (λ (c : ℕ). effectOf s c ≡ Moved (settled s (modesAfter (s .modes) c) (sizeAfter (s .size) c))) from
-      (turn-at (b - 65) (omega arith) (λ e. t .not-stop (omega arith)) (λ e. t .not-4B (omega arith)) (λ e. t .not-4D (omega arith)))
+      (turn-at (b - 65) (omega arith) (λ e. t .not-stop (omega arith)) (λ e. t .not-4B (omega arith)) (λ e. t .not-4D (omega arith)) (λ l k. t .tilting (omega arith) (omega arith)))
       ∙ (λ i. Moved (settled s (sym em i) (sym ez i)))

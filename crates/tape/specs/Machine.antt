@@ -1,13 +1,13 @@
--- The machine of document 01, "Tape codes", and document 02, "Software cuts": its state, and what one code does to it.
+-- The machine of document 01, "Tape codes", and document 02, "The other machine" and "Software cuts": its state, and what one code does to it.
 --     start           the state before the first code
 --     initializedOf   a state after initialize
---     fontIn          the font in force, 1 to 8
+--     fontIn          the font in force, 1 to 4 or 1 to 8
 --     characterIn     the character that a flash sets
 --     flashOf         the effect of a flash, and so on: escapeOf, leadOf
 --     orderOf         the effect of a code other than 00 and initialize, on an initialized machine before stop
 --     codeEffect      the effect of a code, by its class
 --     effectOf        the effect of a byte
-use Prim.Native.Nat.{ℕ, _+_}
+use Prim.Native.Nat.{ℕ, _+_, _*_}
 use mathlib.Core.Bool.{Bool, true, false, cond}
 use lib.Dec.{leb, ltb, eqb}
 use lib.IntN.{pos, _+ℤ_}
@@ -22,6 +22,8 @@ use Rattle.measure.specs.Place.{directedBy, carriageAt, heightAt}
 use Rattle.measure.specs.Target.{xOf}
 use Rattle.galley_file.specs.declared.character.Character.{Character}
 use Rattle.galley_file.specs.Font.{fontNumber, isDouble}
+use Rattle.tape.specs.declared.code.Machine.{Machine}
+use Rattle.tape.specs.declared.code.Machine.the-variants.{Four, Eight}
 use Rattle.tape.specs.declared.code.Order.{Order}
 use Rattle.tape.specs.declared.code.Order.the-variants.{Flash, Rail, Mag, Half, EscapeWay, LeadWay, Tilt, Size, Stop, Cut, Lead, Escape}
 use Rattle.tape.specs.declared.code.Code.{Code}
@@ -55,23 +57,23 @@ withTilt m b = record { «escape_back» = m .«escape_back»; «lead_back» = m 
 
 -- a state with other modes, size, place or height
 abbrev pub withModes : State → Modes → State
-withModes s m = record { initialized = s .initialized; parked = s .parked; stopped = s .stopped; cut = s .cut; modes = m; size = s .size; carriage = s .carriage; height = s .height }
+withModes s m = record { machine = s .machine; initialized = s .initialized; parked = s .parked; stopped = s .stopped; cut = s .cut; modes = m; size = s .size; carriage = s .carriage; height = s .height }
 
 abbrev pub withSize : State → ℕ → State
-withSize s n = record { initialized = s .initialized; parked = s .parked; stopped = s .stopped; cut = s .cut; modes = s .modes; size = n; carriage = s .carriage; height = s .height }
+withSize s n = record { machine = s .machine; initialized = s .initialized; parked = s .parked; stopped = s .stopped; cut = s .cut; modes = s .modes; size = n; carriage = s .carriage; height = s .height }
 
 abbrev pub withStop : State → State
-withStop s = record { initialized = s .initialized; parked = s .parked; stopped = true; cut = s .cut; modes = s .modes; size = s .size; carriage = s .carriage; height = s .height }
+withStop s = record { machine = s .machine; initialized = s .initialized; parked = s .parked; stopped = true; cut = s .cut; modes = s .modes; size = s .size; carriage = s .carriage; height = s .height }
 
 abbrev pub withCarriage : State → Units → State
-withCarriage s c = record { initialized = s .initialized; parked = false; stopped = s .stopped; cut = s .cut; modes = s .modes; size = s .size; carriage = c; height = s .height }
+withCarriage s c = record { machine = s .machine; initialized = s .initialized; parked = false; stopped = s .stopped; cut = s .cut; modes = s .modes; size = s .size; carriage = c; height = s .height }
 
 abbrev pub withHeight : State → Quanta → State
-withHeight s h = record { initialized = s .initialized; parked = s .parked; stopped = s .stopped; cut = s .cut; modes = s .modes; size = s .size; carriage = s .carriage; height = h }
+withHeight s h = record { machine = s .machine; initialized = s .initialized; parked = s .parked; stopped = s .stopped; cut = s .cut; modes = s .modes; size = s .size; carriage = s .carriage; height = h }
 
 -- a cut: height 0, and initialize has to come
 abbrev pub withCut : State → State
-withCut s = record { initialized = s .initialized; parked = s .parked; stopped = s .stopped; cut = true; modes = s .modes; size = s .size; carriage = s .carriage; height = record { 0 = pos 0 } }
+withCut s = record { machine = s .machine; initialized = s .initialized; parked = s .parked; stopped = s .stopped; cut = true; modes = s .modes; size = s .size; carriage = s .carriage; height = record { 0 = pos 0 } }
 
 -- ---- the start, and initialize
 
@@ -89,30 +91,32 @@ abbrev pub noSizeYet : ℕ
 noSizeYet = 15
 
 -- height 0
-abbrev pub start : State
-start =
-    record { initialized = false; parked = false; stopped = false; cut = false; modes = firstModes; size = noSizeYet; carriage = origin; height = record { 0 = pos 0 } }
+abbrev pub start : Machine → State
+start machine =
+    record { machine = machine; initialized = false; parked = false; stopped = false; cut = false; modes = firstModes; size = noSizeYet; carriage = origin; height = record { 0 = pos 0 } }
 
 -- initialize: the modes above, parked at the left switch; size and height stay, and a cut is done with
 abbrev pub initializedOf : State → State
 initializedOf s =
-    record { initialized = true; parked = true; stopped = s .stopped; cut = false; modes = firstModes; size = s .size; carriage = origin; height = s .height }
+    record { machine = s .machine; initialized = true; parked = true; stopped = s .stopped; cut = false; modes = firstModes; size = s .size; carriage = origin; height = s .height }
 
 -- ---- flashes
 
--- by upper rail, upper mag and tilt down
-abbrev pub fontAt : Bool → Bool → Bool → ℕ
-fontAt false false false = 1
-fontAt false false true = 2
-fontAt true false false = 3
-fontAt true false true = 4
-fontAt false true false = 5
-fontAt false true true = 6
-fontAt true true false = 7
-fontAt true true true = 8
+-- the four pairs of upper rail and upper mag, in the order of document 01
+abbrev pub pairOf : Bool → Bool → ℕ
+pairOf false false = 0
+pairOf true false = 1
+pairOf false true = 2
+pairOf true true = 3
 
-abbrev pub fontIn : Modes → ℕ
-fontIn m = fontAt (m .«upper_rail») (m .«upper_mag») (m .«tilt_down»)
+-- a pair is a font of the 4-font machine, and two of the 8-font machine: tilt up, and tilt down
+abbrev pub fontAt : Machine → Bool → Bool → Bool → ℕ
+fontAt Four rail mag tilt = pairOf rail mag + 1
+fontAt Eight rail mag false = 2 * pairOf rail mag + 1
+fontAt Eight rail mag true = 2 * pairOf rail mag + 2
+
+abbrev pub fontIn : Machine → Modes → ℕ
+fontIn machine m = fontAt machine (m .«upper_rail») (m .«upper_mag») (m .«tilt_down»)
 
 -- upper half flash above 45
 abbrev pub pastHalf : Bool → ℕ → Bool
@@ -130,7 +134,7 @@ characterIn s v =
     record {
       x = record { 0 = xOf (s .carriage .0) (isDouble (s .size)) };
       height = s .height;
-      font = fontNumber (fontIn (s .modes)) (s .size);
+      font = fontNumber (fontIn (s .machine) (s .modes)) (s .size);
       code = codeIn (s .modes .«upper_half») v;
     }
 
@@ -197,4 +201,4 @@ codeEffect s (Ordered o) =
     (Refused notInitialized)
 
 unfoldable pub effectOf : State → ℕ → Effect
-effectOf s b = codeEffect s (codeOf b)
+effectOf s b = codeEffect s (codeOf (s .machine) b)

@@ -7,6 +7,8 @@ use Rattle.measure.specs.declared.Units.{Units}
 use Rattle.measure.specs.declared.Height.{Height}
 use Rattle.measure.specs.declared.Height.the-variants as height
 use Rattle.galley_file.specs.Font.{fontNumber}
+use Rattle.tape.specs.declared.code.Machine.{Machine}
+use Rattle.tape.specs.declared.code.Machine.the-variants.{Eight}
 use Rattle.tape.specs.declared.machine.Modes.{Modes}
 use Rattle.tape.specs.declared.machine.State.{State}
 use Rattle.tape.specs.declared.machine.Effect.the-variants.{Moved, Flashed}
@@ -33,7 +35,7 @@ pub record Flashing (s : State) (d : Derived) : Type 0 where
   pub runs : Running s
   pub sized : s .size < 15
   pub last : d .«last_flash» ≡ halfSize (s .modes .«upper_half»)
-  pub number : d .font ≡ fontNumber (fontIn (s .modes)) (s .size)
+  pub number : d .font ≡ fontNumber (fontIn (s .machine) (s .modes)) (s .size)
 
 -- what is derived from a state: nothing of it is about the carriage or the height
 pub record DerivedFrom (s : State) (d : Derived) : Type 0 where
@@ -55,7 +57,7 @@ flashesIn b = cond (eqb b 0) 0 (1 - b / 128)
 
 -- a state with its carriage elsewhere
 abbrev pub placed : State → Units → State
-placed s c = record { initialized = s .initialized; parked = s .parked; stopped = s .stopped; cut = s .cut; modes = s .modes; size = s .size; carriage = c; height = s .height }
+placed s c = record { machine = s .machine; initialized = s .initialized; parked = s .parked; stopped = s .stopped; cut = s .cut; modes = s .modes; size = s .size; carriage = c; height = s .height }
 
 -- what `quick_step` says of a code; of Slow it says nothing
 abbrev pub Quickly : State → ℕ → Quick → Type 0
@@ -69,13 +71,14 @@ stretchAt s i n = record { next = i; carriage = s .carriage; count = n }
 
 -- ---- the codes that turn a mode or set a size
 
--- 0x41 to 0x5E but stop, the cut and the illegal one
-pub record Turn (b : ℕ) : Type 0 where
+-- 0x41 to 0x5E but stop, the cut and the illegal one; a tilt only where there is one
+pub record Turn (machine : Machine) (b : ℕ) : Type 0 where
   pub low : 0x41 ≤ b
   pub high : b ≤ 0x5E
   pub not-stop : b ≡ 0x49 → ⊥
   pub not-4B : b ≡ 0x4B → ⊥
   pub not-4D : b ≡ 0x4D → ⊥
+  pub tilting : 0x4E ≤ b → b ≤ 0x4F → machine ≡ Eight
 
 -- a mode after a code, by the codes that set and clear it
 abbrev pub turnedBy : ℕ → ℕ → ℕ → Bool → Bool
@@ -97,7 +100,7 @@ sizeAfter size b = cond (ltb b 0x50) size (b - 0x50)
 
 -- a state with other modes and another size
 abbrev pub settled : State → Modes → ℕ → State
-settled s m z = record { initialized = s .initialized; parked = s .parked; stopped = s .stopped; cut = s .cut; modes = m; size = z; carriage = s .carriage; height = s .height }
+settled s m z = record { machine = s .machine; initialized = s .initialized; parked = s .parked; stopped = s .stopped; cut = s .cut; modes = m; size = z; carriage = s .carriage; height = s .height }
 
 -- ---- leads
 

@@ -24,6 +24,8 @@ use Rattle.galley_file.specs.Font.{fontNumber, sizeIndex, isDouble}
 use Rattle.galley_file.specs.Character.{validX, valid}
 use Rattle.galley_file.specs.CharacterLaws.{parts-valid}
 use Rattle.galley_file.specs.Galley.{AllValid, nil, more}
+use Rattle.tape.specs.declared.code.Machine.{Machine}
+use Rattle.tape.specs.declared.code.Machine.the-variants.{Four, Eight}
 use Rattle.tape.specs.declared.code.Order.{Order}
 use Rattle.tape.specs.declared.code.Order.the-variants.{Flash, Rail, Mag, Half, EscapeWay, LeadWay, Tilt, Size, Stop, Cut, Lead, Escape}
 use Rattle.tape.specs.declared.code.Code.{Code}
@@ -31,8 +33,8 @@ use Rattle.tape.specs.declared.code.Code.the-variants.{Ignored, Illegal,
 use Rattle.tape.specs.declared.machine.State.{State}
 use Rattle.tape.specs.declared.machine.Effect.{Effect}
 use Rattle.tape.specs.declared.machine.Effect.the-variants.{Moved, Flashed, Parted, Refused}
-use Rattle.tape.specs.Code.{codeOf, controls}
-use Rattle.tape.specs.Machine.{start, noSizeYet, origin, initializedOf, fontAt, fontIn, pastHalf, codeIn, characterIn, leavesSwitch, withCarriage, toCarriage, toHeight, flashOf, escapeOf, leadOf, orderOf, codeEffect, effectOf}
+use Rattle.tape.specs.Code.{tiltOf, codeOf, controls}
+use Rattle.tape.specs.Machine.{start, noSizeYet, origin, initializedOf, pairOf, fontAt, fontIn, pastHalf, codeIn, characterIn, leavesSwitch, withCarriage, toCarriage, toHeight, flashOf, escapeOf, leadOf, orderOf, codeEffect, effectOf}
 use Rattle.tape.specs.Tape.{Run, run}
 use Rattle.tape.specs.Sound.{Sound}
 
@@ -71,19 +73,23 @@ fine-at [] f i = tt
 fine-at (k ∷ ks) f zero = f .0
 fine-at (k ∷ ks) f (suc i) = fine-at ks (f .1) i
 
-fine-code : (b : ℕ) → Fine (codeOf b)
+fine-tilt : (machine : Machine) (down : Bool) → Fine (tiltOf machine down)
+fine-tilt Four down = tt
+fine-tilt Eight down = tt
+
+fine-code : (machine : Machine) (b : ℕ) → Fine (codeOf machine b)
 unfolding codeOf
-fine-code b =
+fine-code machine b =
     let f = cond (ltb b 0xFF) (Ordered (Escape (127 - b % 128))) Illegal in
     let e = cond (ltb b 0x80) (Ordered (Lead (31 - b % 32))) f in
     let d = cond (ltb b 0x60) Illegal e in
     let c = cond (ltb b 0x5F) (Ordered (Size (b - 0x50))) d in
-    let a = cond (ltb b 0x50) (getD controls (b - 0x40) Illegal) c in
+    let a = cond (ltb b 0x50) (getD (controls machine) (b - 0x40) Illegal) c in
     fine-cond (eqb b 0x00) Ignored (cond (ltb b 0x40) (Ordered (Flash b)) a) (λ _. tt) (λ z.
     fine-cond (ltb b 0x40) (Ordered (Flash b)) a
     (λ l. let ne = eqb-false b 0 z in let lt = ltb-true b 0x40 l in (omega arith, omega arith)) (λ _.
-    fine-cond (ltb b 0x50) (getD controls (b - 0x40) Illegal) c
-    (λ _. fine-at controls (tt, (tt, (tt, (tt, (tt, (tt, (tt, (tt, (tt, (tt, (tt, (tt, (tt, (tt, (tt, (tt, tt)))))))))))))))) (b - 0x40)) (λ _.
+    fine-cond (ltb b 0x50) (getD (controls machine) (b - 0x40) Illegal) c
+    (λ _. fine-at (controls machine) (tt, (tt, (tt, (tt, (tt, (tt, (tt, (tt, (tt, (tt, (tt, (tt, (tt, (tt, (fine-tilt machine false, (fine-tilt machine true, tt)))))))))))))))) (b - 0x40)) (λ _.
     fine-cond (ltb b 0x5F) (Ordered (Size (b - 0x50))) d (λ _. tt) (λ _.
     fine-cond (ltb b 0x60) Illegal e (λ _. tt) (λ _.
     fine-cond (ltb b 0x80) (Ordered (Lead (31 - b % 32))) f (λ _. tt) (λ _.
@@ -91,15 +97,16 @@ fine-code b =
 
 -- ---- a flash that is taken sets a valid character
 
-font-range : (rail mag tilt : Bool) → (1 ≤ fontAt rail mag tilt) × (fontAt rail mag tilt ≤ 8)
-font-range false false false = (lit≤ tt, lit≤ tt)
-font-range false false true = (lit≤ tt, lit≤ tt)
-font-range true false false = (lit≤ tt, lit≤ tt)
-font-range true false true = (lit≤ tt, lit≤ tt)
-font-range false true false = (lit≤ tt, lit≤ tt)
-font-range false true true = (lit≤ tt, lit≤ tt)
-font-range true true false = (lit≤ tt, lit≤ tt)
-font-range true true true = (lit≤ tt, lit≤ tt)
+pair-range : (rail mag : Bool) → pairOf rail mag ≤ 3
+pair-range false false = lit≤ tt
+pair-range true false = lit≤ tt
+pair-range false true = lit≤ tt
+pair-range true true = lit≤ tt
+
+font-range : (machine : Machine) (rail mag tilt : Bool) → (1 ≤ fontAt machine rail mag tilt) × (fontAt machine rail mag tilt ≤ 8)
+font-range Four rail mag tilt = let p = pair-range rail mag in (omega arith, omega arith)
+font-range Eight rail mag false = let p = pair-range rail mag in (omega arith, omega arith)
+font-range Eight rail mag true = let p = pair-range rail mag in (omega arith, omega arith)
 
 code-range : (up : Bool) (v : ℕ) → (1 ≤ v) × (v ≤ 63) → pastHalf up v ≡ false → (1 ≤ codeIn up v) × (codeIn up v ≤ 108)
 code-range false v r e = (r .0, omega arith)
@@ -119,9 +126,9 @@ in-range-within end z r = rw (true-leZ (pos 0) z (omega (integers, r .low)), tru
 set-valid : (s : State) → Sound s → (v : ℕ) → (1 ≤ v) × (v ≤ 63) → s .size < 15 → pastHalf (s .modes .«upper_half») v ≡ false → valid (characterIn s v) ≡ true
 set-valid s r v fv z a =
     let m = s .modes in
-    let f = font-range (m .«upper_rail») (m .«upper_mag») (m .«tilt_down») in
+    let f = font-range (s .machine) (m .«upper_rail») (m .«upper_mag») (m .«tilt_down») in
     let c = code-range (m .«upper_half») v fv a in
-    let index : sizeIndex (fontNumber (fontIn m) (s .size)) ≡ s .size = omega arith in
+    let index : sizeIndex (fontNumber (fontIn (s .machine) m) (s .size)) ≡ s .size = omega arith in
     parts-valid (record {
       font = omega (arith, f);
       first = c .0;
@@ -211,7 +218,7 @@ module _ (s : State) (r : Sound s) where
 
   good : (b : ℕ) → Good (effectOf s b)
   unfolding effectOf
-  good b = good-code (codeOf b) (fine-code b)
+  good b = good-code (codeOf (s .machine) b) (fine-code (s .machine) b)
 
   pub stays-sound : (b : ℕ) {t : State} → effectOf s b ≡ Moved t → Sound t
   stays-sound b e = subst Good e (good b)
@@ -222,8 +229,8 @@ module _ (s : State) (r : Sound s) where
   pub flashed-valid : (b : ℕ) {c : Character} → effectOf s b ≡ Flashed c → valid c ≡ true
   flashed-valid b e = subst Good e (good b)
 
-pub start-sound : Sound start
-start-sound =
+pub start-sound : (machine : Machine) → Sound (start machine)
+start-sound machine =
     record { carriage-in = record { low = omega integers; high = omega integers }; height-in = record { low = omega integers; high = omega integers } }
 
 -- ---- runs

@@ -2,16 +2,20 @@
 --     Run            a run over some bytes: the characters flashed and the cuts, in order, and the state reached or the first refusal
 --     run            from a state, with the next byte at a place
 --     readResult     a tape within the limit, read from a state into a buffer of so many bytes
---     tapeResult     any tape, read from the start
+--     machineOf      the machine that a number of fonts names
+--     tapeResult     any tape, read from the start of the machine of so many fonts
 use Prim.Native.Nat.{ℕ, suc}
 use mathlib.Core.Bool.{cond}
 use mathlib.Core.List.{List, [], _∷_}
-use lib.Dec.{ltb}
+use mathlib.Core.Option.{Option, none, some}
+use lib.Dec.{ltb, eqb}
 use lib.ListN.{length}
-use Rattle.octets.specs.Answer.{Result, refusal, written, ifRoom, tapeTooLong, afterCut, noStop, noGalleyRoom}
+use Rattle.octets.specs.Answer.{Result, refusal, written, ifRoom, tapeTooLong, afterCut, noStop, noGalleyRoom, noMachine}
 use Rattle.galley_file.specs.declared.item.Item.{Item}
 use Rattle.galley_file.specs.declared.item.Item.the-variants.{Placed, Cut}
 use Rattle.galley_file.specs.Galley.{galley}
+use Rattle.tape.specs.declared.code.Machine.{Machine}
+use Rattle.tape.specs.declared.code.Machine.the-variants.{Four, Eight}
 use Rattle.tape.specs.declared.machine.State.{State}
 use Rattle.tape.specs.declared.machine.Effect.{Effect}
 use Rattle.tape.specs.declared.machine.Effect.the-variants.{Moved, Flashed, Parted, Refused}
@@ -49,6 +53,15 @@ closing len is (Fault n place) = refusal n place
 unfoldable pub readResult : State → List ℕ → ℕ → Result
 readResult s tape room = ifRoom noGalleyRoom room (closing (length tape) (run s 0 tape .items) (run s 0 tape .ending))
 
+-- the machine of this number of fonts
+abbrev pub machineOf : ℕ → Option Machine
+machineOf n = cond (eqb n 4) (some Four) (cond (eqb n 8) (some Eight) none)
+
+-- 50 at place 0 for another machine
+abbrev pub onMachine : List ℕ → ℕ → Option Machine → Result
+onMachine tape room (some machine) = readResult (start machine) tape room
+onMachine tape room none = refusal noMachine 0
+
 -- 1 first
-unfoldable pub tapeResult : List ℕ → ℕ → Result
-tapeResult tape room = cond (ltb maxTape (length tape)) (refusal tapeTooLong 0) (readResult start tape room)
+unfoldable pub tapeResult : List ℕ → ℕ → ℕ → Result
+tapeResult tape machine room = cond (ltb maxTape (length tape)) (refusal tapeTooLong 0) (onMachine tape room (machineOf machine))

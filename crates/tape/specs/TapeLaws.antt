@@ -3,85 +3,106 @@
 use mathlib.Core.Path.{_≡_, refl, sym, ap, _∙_}
 use mathlib.Core.Bool.{Bool, true, false, cond}
 use mathlib.Core.List.{List}
+use mathlib.Core.Option.{Option, none, some}
 use Prim.Native.Nat.{ℕ, _+_, _*_, _≤_}
 use native.Mathlib.Omega.{arith}
 use borrow.Author.Tests.{ltb-false}
 use lib.Dec.{ltb}
 use lib.ListN.{length}
-use Rattle.octets.specs.Answer.{Result, refusal, written, outcome, ifRoom, accepted, tapeTooLong, afterCut, noStop, noGalleyRoom}
+use Rattle.octets.specs.Answer.{Result, refusal, written, outcome, ifRoom, accepted, tapeTooLong, afterCut, noStop, noGalleyRoom, noMachine}
 use Rattle.octets.specs.AnswerLaws.{accepted-room}
 use Rattle.galley_file.specs.declared.item.Item.{Item}
 use Rattle.galley_file.specs.Item.{charactersOf}
 use Rattle.galley_file.specs.Galley.{maxGalley, maxItems, AllValid, galley, whole, readGalley}
 use Rattle.galley_file.specs.GalleyLaws.{length-galley, fields-few, accepts, accepts-check}
 use Rattle.galley_file.specs.Outcome.{checkOutcome}
+use Rattle.tape.specs.declared.code.Machine.{Machine}
 use Rattle.tape.specs.declared.Ending.{Ending}
 use Rattle.tape.specs.declared.Ending.the-variants.{Reached, Fault}
+use Rattle.tape.specs.declared.machine.State.{State}
 use Rattle.tape.specs.Machine.{start}
-use Rattle.tape.specs.Tape.{maxTape, run, closing, readResult, tapeResult}
+use Rattle.tape.specs.Tape.{maxTape, run, closing, readResult, machineOf, onMachine, tapeResult}
 use Rattle.tape.specs.RunLaws.{run-length}
 use Rattle.tape.specs.SoundLaws.{start-sound, run-valid}
 
--- the characters that a tape flashes, and its cuts
-abbrev pub itemsOn : List ℕ → List Item
-itemsOn tape = run start 0 tape .items
+-- the characters that a tape flashes on a machine, and its cuts
+abbrev pub itemsOn : Machine → List ℕ → List Item
+itemsOn kind tape = run (start kind) 0 tape .items
 
-pub record AcceptedTape (tape bs : List ℕ) : Type 0 where
+pub record AcceptedTape (tape : List ℕ) (machine : ℕ) (bs : List ℕ) : Type 0 where
+  pub kind : Machine
+  pub named : machineOf machine ≡ some kind
   pub short-enough : length tape ≤ maxTape
-  pub bytes-are : bs ≡ galley (itemsOn tape)
-  pub valid : AllValid (itemsOn tape)
-  pub read-as : readGalley bs ≡ whole (itemsOn tape)
-  pub checked : checkOutcome bs ≡ accepted (length (charactersOf (itemsOn tape)))
+  pub bytes-are : bs ≡ galley (itemsOn kind tape)
+  pub valid : AllValid (itemsOn kind tape)
+  pub read-as : readGalley bs ≡ whole (itemsOn kind tape)
+  pub checked : checkOutcome bs ≡ accepted (length (charactersOf (itemsOn kind tape)))
   pub size : length bs ≤ maxGalley
 
--- an accepted result is the galley, of a tape within the limit
-galley-of : (tape : List ℕ) (room : ℕ) (bs : List ℕ) → tapeResult tape room ≡ written bs → (bs ≡ galley (itemsOn tape)) × (length tape ≤ maxTape)
-unfolding tapeResult readResult ifRoom
-galley-of tape room bs q = go (ltb maxTape (length tape)) refl (run start 0 tape .ending) q
+never : {n p : ℕ} {bs : List ℕ} {X : Type 0} → refusal n p ≡ written bs → X
+never e = let z : _≡_ {A = ℕ} 0 1 = cc in absurd (omega arith)
+
+-- a tape that is accepted from a state gives the galley of its items
+galley-from : (s : State) (tape : List ℕ) (room : ℕ) (bs : List ℕ) → readResult s tape room ≡ written bs → bs ≡ galley (run s 0 tape .items)
+unfolding readResult ifRoom
+galley-from s tape room bs q = go (run s 0 tape .ending) q
   where
-    never : {n p : ℕ} {X : Type 0} → refusal n p ≡ written bs → X
-    never e = let z : _≡_ {A = ℕ} 0 1 = cc in absurd (omega arith)
+    is : List Item
+    is = run s 0 tape .items
 
-    room-for : (t : Bool) (g : List ℕ) → cond t (refusal noGalleyRoom (length g)) (written g) ≡ written bs → bs ≡ g
-    room-for true g e = never e
-    room-for false g e = cc
+    room-for : (t : Bool) → cond t (refusal noGalleyRoom (length (galley is))) (written (galley is)) ≡ written bs → bs ≡ galley is
+    room-for true e = never e
+    room-for false e = cc
 
-    stopped : (u : Bool) → ifRoom noGalleyRoom room (cond u (written (galley (itemsOn tape))) (refusal noStop (length tape))) ≡ written bs → bs ≡ galley (itemsOn tape)
-    stopped true e = room-for (ltb room (length (galley (itemsOn tape)))) (galley (itemsOn tape)) e
+    stopped : (u : Bool) → ifRoom noGalleyRoom room (cond u (written (galley is)) (refusal noStop (length tape))) ≡ written bs → bs ≡ galley is
+    stopped true e = room-for (ltb room (length (galley is))) e
     stopped false e = never e
 
-    uncut : (t u : Bool) → ifRoom noGalleyRoom room (cond t (refusal afterCut (length tape)) (cond u (written (galley (itemsOn tape))) (refusal noStop (length tape)))) ≡ written bs → bs ≡ galley (itemsOn tape)
+    uncut : (t u : Bool) → ifRoom noGalleyRoom room (cond t (refusal afterCut (length tape)) (cond u (written (galley is)) (refusal noStop (length tape)))) ≡ written bs → bs ≡ galley is
     uncut true u e = never e
     uncut false u e = stopped u e
 
-    go : (t : Bool) → ltb maxTape (length tape) ≡ t → (x : Ending)
-        → cond t (refusal tapeTooLong 0) (ifRoom noGalleyRoom room (closing (length tape) (itemsOn tape) x)) ≡ written bs → (bs ≡ galley (itemsOn tape)) × (length tape ≤ maxTape)
-    go true l x e = never e
-    go false l (Reached s) e = (uncut (s .cut) (s .stopped) e, ltb-false _ _ l)
-    go false l (Fault n p) e = never e
+    go : (x : Ending) → ifRoom noGalleyRoom room (closing (length tape) is x) ≡ written bs → bs ≡ galley is
+    go (Reached s) e = uncut (s .cut) (s .stopped) e
+    go (Fault n p) e = never e
 
-pub accepted-tape : (tape : List ℕ) (room : ℕ) (bs : List ℕ) → tapeResult tape room ≡ written bs → AcceptedTape tape bs
-accepted-tape tape room bs q =
-    let g = galley-of tape room bs q in
-    let v = run-valid start 0 tape start-sound in
-    let few : length (itemsOn tape) ≤ maxItems = omega (arith, run-length start 0 tape, g .1) in
-    record {
-      short-enough = g .1;
-      bytes-are = g .0;
-      valid = v;
-      read-as = ap readGalley (g .0) ∙ accepts (itemsOn tape) v few;
-      checked = ap checkOutcome (g .0) ∙ accepts-check (itemsOn tape) v few;
-      size = omega (arith, ap length (g .0), length-galley (itemsOn tape), fields-few (itemsOn tape), few);
-    }
+pub accepted-tape : (tape : List ℕ) (machine room : ℕ) (bs : List ℕ) → tapeResult tape machine room ≡ written bs → AcceptedTape tape machine bs
+unfolding tapeResult
+accepted-tape tape machine room bs q = whole-tape (ltb maxTape (length tape)) refl q
+  where
+    on : (kind : Machine) → machineOf machine ≡ some kind → length tape ≤ maxTape → bs ≡ galley (itemsOn kind tape) → AcceptedTape tape machine bs
+    on kind m l g =
+        let is = itemsOn kind tape in
+        let v = run-valid (start kind) 0 tape (start-sound kind) in
+        let few : length is ≤ maxItems = omega (arith, run-length (start kind) 0 tape, l) in
+        record {
+          kind = kind;
+          named = m;
+          short-enough = l;
+          bytes-are = g;
+          valid = v;
+          read-as = ap readGalley g ∙ accepts is v few;
+          checked = ap checkOutcome g ∙ accepts-check is v few;
+          size = omega (arith, ap length g, length-galley is, fields-few is, few);
+        }
+
+    by-machine : (k : Option Machine) → machineOf machine ≡ k → length tape ≤ maxTape → onMachine tape room k ≡ written bs → AcceptedTape tape machine bs
+    by-machine (some kind) m l e = on kind m l (galley-from (start kind) tape room bs e)
+    by-machine none m l e = never e
+
+    whole-tape : (t : Bool) → ltb maxTape (length tape) ≡ t → cond t (refusal tapeTooLong 0) (onMachine tape room (machineOf machine)) ≡ written bs → AcceptedTape tape machine bs
+    whole-tape true l e = never e
+    whole-tape false l e = by-machine (machineOf machine) refl (ltb-false _ _ l) e
 
 -- what is accepted has room
-pub tape-room : (tape : List ℕ) (room n : ℕ) → accepted n ≡ outcome (tapeResult tape room) → n ≤ room
+pub tape-room : (tape : List ℕ) (machine room n : ℕ) → accepted n ≡ outcome (tapeResult tape machine room) → n ≤ room
 unfolding tapeResult readResult
-tape-room tape room n = go (ltb maxTape (length tape))
+tape-room tape machine room n = go (ltb maxTape (length tape)) (machineOf machine)
   where
-    rest : Result
-    rest = closing (length tape) (itemsOn tape) (run start 0 tape .ending)
+    refused : {k p : ℕ} → accepted n ≡ outcome (refusal k p) → n ≤ room
+    refused e = let z : _≡_ {A = ℕ} 0 1 = cc in absurd (omega arith)
 
-    go : (t : Bool) → accepted n ≡ outcome (cond t (refusal tapeTooLong 0) (ifRoom noGalleyRoom room rest)) → n ≤ room
-    go true e = let z : _≡_ {A = ℕ} 0 1 = cc in absurd (omega arith)
-    go false e = accepted-room noGalleyRoom room n rest e
+    go : (t : Bool) (k : Option Machine) → accepted n ≡ outcome (cond t (refusal tapeTooLong 0) (onMachine tape room k)) → n ≤ room
+    go true k e = refused e
+    go false none e = refused e
+    go false (some kind) e = accepted-room noGalleyRoom room n (closing (length tape) (itemsOn kind tape) (run (start kind) 0 tape .ending)) e

@@ -2,7 +2,13 @@
 ghost use mathlib.Core.Path.{_≡_};
 ghost use Prim.Native.Nat.{_-_, _%_};
 ghost use lib.ListN.{getD};
-ghost use Rattle.tape.specs.Code.{codeOf, controls};
+ghost use Rattle.tape.specs.Code.{tiltOf, codeOf, controls};
+
+// The two kinds of machine, by their number of fonts.
+pub enum Machine {
+    Four,
+    Eight,
+}
 
 // What a code asks of an initialized machine. A bool is true for upper, backward and down.
 pub enum Order {
@@ -42,9 +48,19 @@ pub fn lead_size(b: u8) -> u8
     !b & 31
 }
 
+// A tilt code: the 4-font machine has none.
+fn tilt(machine: Machine, down: bool) -> Code
+    ensures { λ r. ⌜ r ≡ tiltOf machine down ⌝ }
+{
+    match machine {
+        Machine::Four => Code::Illegal,
+        Machine::Eight => Code::Ordered(Order::Tilt(down)),
+    }
+}
+
 // The code 0x40 + low.
-fn control(low: u8) -> Code
-    ensures { λ r. ⌜ r ≡ getD controls low Code.Illegal ⌝ }
+fn control(machine: Machine, low: u8) -> Code
+    ensures { λ r. ⌜ r ≡ getD (controls machine) low Code.Illegal ⌝ }
 {
     match low {
         0 => Code::Initialize,
@@ -60,15 +76,15 @@ fn control(low: u8) -> Code
         10 => Code::Ordered(Order::LeadWay(false)),
         11 => Code::Ordered(Order::Cut),
         12 => Code::Ordered(Order::LeadWay(true)),
-        14 => Code::Ordered(Order::Tilt(false)),
-        15 => Code::Ordered(Order::Tilt(true)),
+        14 => tilt(machine, false),
+        15 => tilt(machine, true),
         _ => Code::Illegal,
     }
 }
 
 // The top bits sort a code.
-pub fn classify(b: u8) -> Code
-    ensures { λ r. ⌜ r ≡ codeOf b ⌝ }
+pub fn classify(machine: Machine, b: u8) -> Code
+    ensures { λ r. ⌜ r ≡ codeOf machine b ⌝ }
 {
     if b == 0 {
         Code::Ignored
@@ -81,7 +97,7 @@ pub fn classify(b: u8) -> Code
     } else if b >> 5 == 3 {
         Code::Ordered(Order::Lead(lead_size(b)))
     } else if b >> 4 == 4 {
-        control(b & 15)
+        control(machine, b & 15)
     } else if b == 95 {
         Code::Illegal
     } else {

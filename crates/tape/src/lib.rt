@@ -3,6 +3,7 @@ mod code;
 mod machine;
 mod quick;
 
+use code::Machine;
 use galley_file::character;
 use galley_file::item;
 use galley_file::item::Item;
@@ -130,12 +131,18 @@ fn read_from(first: State, tape: &[u8], galley: &mut [u8]) -> Answer
     }
 }
 
-// Reads a tape into the lent galley buffer.
-pub fn read_tape(tape: &[u8], galley: &mut [u8]) -> Answer
-    ensures { λ r. ⌜ (outcomeOf r ≡ outcome (tapeResult (now (tape .entry)) (length (now (galley .entry))))) × (now (galley .exit) ≡ after (now (galley .entry)) (tapeResult (now (tape .entry)) (length (now (galley .entry))))) ⌝ }
+// Reads a tape of the machine with so many fonts, 4 or 8, into the lent galley buffer.
+pub fn read_tape(tape: &[u8], machine: u32, galley: &mut [u8]) -> Answer
+    ensures { λ r. ⌜ (outcomeOf r ≡ outcome (tapeResult (now (tape .entry)) machine (length (now (galley .entry))))) × (now (galley .exit) ≡ after (now (galley .entry)) (tapeResult (now (tape .entry)) machine (length (now (galley .entry))))) ⌝ }
 {
     if MAX_TAPE < tape.len() {
         return Answer::Refused(answer::TAPE_TOO_LONG, 0);
     }
-    read_from(machine::at_start(), tape, galley)
+    if machine == 4 {
+        return read_from(machine::at_start(Machine::Four), tape, galley);
+    }
+    if machine == 8 {
+        return read_from(machine::at_start(Machine::Eight), tape, galley);
+    }
+    Answer::Refused(answer::NO_MACHINE, 0)
 }

@@ -1,6 +1,7 @@
 // The C/A/T: its state, and what one code does to it (document 01, "Tape codes").
 use crate::code;
 use crate::code::Code;
+use crate::code::Machine;
 use crate::code::Order;
 use galley_file::character::Character;
 use galley_file::font;
@@ -13,7 +14,7 @@ ghost use mathlib.Core.Path.{_≡_};
 ghost use mathlib.Core.Bool.{false};
 ghost use Prim.Native.Nat.{_≤_, _<_};
 ghost use Rattle.galley_file.specs.Font.{fontNumber};
-ghost use Rattle.tape.specs.Machine.{start, firstModes, initializedOf, fontIn, pastHalf, codeIn, flashOf, escapeOf, leadOf, orderOf, effectOf};
+ghost use Rattle.tape.specs.Machine.{start, firstModes, initializedOf, pairOf, fontIn, pastHalf, codeIn, flashOf, escapeOf, leadOf, orderOf, effectOf};
 ghost use Rattle.tape.specs.Sound.{Sound};
 
 // What initialize resets.
@@ -27,6 +28,7 @@ pub struct Modes {
 }
 
 pub struct State {
+    pub machine: Machine,
     pub initialized: bool,
     pub parked: bool,
     pub stopped: bool,
@@ -71,11 +73,12 @@ fn first_modes() -> Modes
 }
 
 // The state before the first code.
-pub fn at_start() -> State
-    ensures { λ r. ⌜ r ≡ start ⌝ }
+pub fn at_start(machine: Machine) -> State
+    ensures { λ r. ⌜ r ≡ start machine ⌝ }
 {
     let modes = first_modes();
     State {
+        machine: machine,
         initialized: false,
         parked: false,
         stopped: false,
@@ -93,7 +96,9 @@ fn initialized(s: State) -> State
 {
     let modes = first_modes();
     let height = s.height;
+    let machine = s.machine;
     State {
+        machine: machine,
         initialized: true,
         parked: true,
         stopped: s.stopped,
@@ -105,31 +110,40 @@ fn initialized(s: State) -> State
     }
 }
 
-// The font in force, 1 to 8.
-fn font_in(m: Modes) -> u8
-    ensures { λ r. ⌜ (r ≡ fontIn m) × ((1 ≤ r) × (r ≤ 8)) ⌝ }
+// The pair of rail and mag in force, 0 to 3.
+fn pair_in(m: Modes) -> u8
+    ensures { λ r. ⌜ (r ≡ pairOf (m .«upper_rail») (m .«upper_mag»)) × (r ≤ 3) ⌝ }
 {
-    if m.upper_rail {
-        if m.upper_mag {
-            if m.tilt_down { 8 } else { 7 }
-        } else {
-            if m.tilt_down { 4 } else { 3 }
-        }
+    if m.upper_mag {
+        if m.upper_rail { 3 } else { 2 }
     } else {
-        if m.upper_mag {
-            if m.tilt_down { 6 } else { 5 }
-        } else {
-            if m.tilt_down { 2 } else { 1 }
+        if m.upper_rail { 1 } else { 0 }
+    }
+}
+
+// The font in force.
+fn font_in(machine: Machine, m: Modes) -> u8
+    ensures { λ r. ⌜ (r ≡ fontIn machine m) × ((1 ≤ r) × (r ≤ 8)) ⌝ }
+{
+    let pair = pair_in(m);
+    match machine {
+        Machine::Four => pair + 1,
+        Machine::Eight => {
+            if m.tilt_down {
+                2 * pair + 2
+            } else {
+                2 * pair + 1
+            }
         }
     }
 }
 
 // The font number in force.
-pub fn number_in(m: Modes, size: u8) -> u8
+pub fn number_in(machine: Machine, m: Modes, size: u8) -> u8
     requires { ⌜ size < 15 ⌝ }
-    ensures { λ r. ⌜ r ≡ fontNumber (fontIn m) size ⌝ }
+    ensures { λ r. ⌜ r ≡ fontNumber (fontIn machine m) size ⌝ }
 {
-    font::font_number(font_in(m), size)
+    font::font_number(font_in(machine, m), size)
 }
 
 // Whether a flash of v is past the end of the half.
@@ -164,7 +178,8 @@ fn flash(s: State, v: u8) -> Effect
     }
     let x = s.carriage.x(font::is_double(size));
     let height = s.height;
-    let number = number_in(s.modes, size);
+    let machine = s.machine;
+    let number = number_in(machine, s.modes, size);
     let code = code_in(upper, v);
     Effect::Flashed(Character {
         x: x,
@@ -268,7 +283,8 @@ pub fn step(s: State, b: u8) -> Effect
     requires { ⌜ Sound s ⌝ }
     ensures { λ r. ⌜ r ≡ effectOf s b ⌝ }
 {
-    match code::classify(b) {
+    let machine = s.machine;
+    match code::classify(machine, b) {
         Code::Ignored => Effect::Moved(s),
         Code::Illegal => Effect::Refused(answer::ILLEGAL_CODE),
         Code::Initialize => {

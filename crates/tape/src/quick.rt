@@ -1,5 +1,6 @@
 // The commonest codes without the whole step: 00 and the flashes and escapes that are taken, in stretches; leads; and the codes that turn a mode or set a size.
 use crate::code;
+use crate::code::Machine;
 use crate::machine;
 use crate::machine::Effect;
 use crate::machine::Modes;
@@ -95,7 +96,8 @@ pub fn derived_of(s: State) -> Derived
     let size = s.size;
     if running(s) {
         if size < machine::NO_SIZE_YET {
-            let number = machine::number_in(s.modes, size);
+            let kind = s.machine;
+            let number = machine::number_in(kind, s.modes, size);
             let last = half_size(s.modes.upper_half);
             return Derived {
                 last_escape: LAST_ESCAPE,
@@ -262,9 +264,19 @@ pub fn quick_stretch(
     }
 }
 
-// Whether b turns a mode or sets a size.
-fn turns(b: u8) -> bool
-    ensures { λ r. ⌜ (r ≡ true → Turn b) ⌝ }
+// Whether the machine has a tilt.
+fn tilts(machine: Machine) -> bool
+    ensures { λ r. ⌜ (r ≡ true → machine ≡ Machine.Eight) ⌝ }
+{
+    match machine {
+        Machine::Four => false,
+        Machine::Eight => true,
+    }
+}
+
+// Whether b turns a mode or sets a size. The machine is asked before the code, since it stays the same.
+fn turns(machine: Machine, b: u8) -> bool
+    ensures { λ r. ⌜ (r ≡ true → Turn machine b) ⌝ }
 {
     if b >> 5 != 2 {
         return false;
@@ -281,14 +293,25 @@ fn turns(b: u8) -> bool
     if b == 0x4D {
         return false;
     }
+    if tilts(machine) {
+        return b != 0x5F;
+    }
+    if b >> 1 == 0x27 {
+        return false;
+    }
     b != 0x5F
 }
 
 // Whether b turns a mode or sets a size of a running machine.
 fn takes_turn(s: State, b: u8) -> bool
-    ensures { λ r. ⌜ (r ≡ true → ((Running s) × (Turn b))) ⌝ }
+    ensures { λ r. ⌜ (r ≡ true → ((Running s) × (Turn (s .machine) b))) ⌝ }
 {
-    if running(s) { turns(b) } else { false }
+    if running(s) {
+        let machine = s.machine;
+        turns(machine, b)
+    } else {
+        false
+    }
 }
 
 // A mode after b, which `on` sets and `off` clears.

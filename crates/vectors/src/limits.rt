@@ -11,14 +11,17 @@ fn long_tape(code: u8) -> [u8; 1048577]
     [code; 1048577]
 }
 
-// 1, and the longest tape, which has no stop. A tape that is too long is refused before its first code.
+// 1, and the longest tape, which has no stop. A tape that is too long is refused before its machine is asked for, and this before its first code.
 pub fn lengths() {
     let zeros = long_tape(0);
-    start_case(&zeros, 1048576, 9, 1048576);
-    start_case(&zeros, 1048577, 1, 0);
+    start_case(&zeros, 1048576, 8, 9, 1048576);
+    start_case(&zeros, 1048577, 8, 1, 0);
     let illegal = long_tape(255);
-    start_case(&illegal, 1048576, 2, 0);
-    start_case(&illegal, 1048577, 1, 0);
+    start_case(&illegal, 1048576, 8, 2, 0);
+    start_case(&illegal, 1048577, 8, 1, 0);
+    // 1 before 50, 50 before the first code
+    start_case(&illegal, 1048577, 5, 1, 0);
+    start_case(&illegal, 1048576, 5, 50, 0);
 }
 
 // 2,114 leads of 31 and one of 1: 65,535, the greatest height. Each tape then has a flash and stop.

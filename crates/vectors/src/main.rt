@@ -3,6 +3,7 @@
 mod cases;
 mod galleys;
 mod limits;
+mod machines;
 mod tapes;
 
 use compare::line;
@@ -23,6 +24,15 @@ fn run_tapes() {
     tapes::fonts();
     line(b"cuts");
     tapes::cuts();
+}
+
+fn run_machines() {
+    line(b"four fonts");
+    machines::four_fonts();
+    line(b"tilts");
+    machines::tilts();
+    line(b"other machines");
+    machines::other_machines();
 }
 
 fn run_limits() {
@@ -56,6 +66,7 @@ fn run_galleys() {
 
 fn main() {
     run_tapes();
+    run_machines();
     run_limits();
     run_galleys();
     io::write_all(STDOUT_FILENO, b"\n");

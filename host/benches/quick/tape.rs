@@ -3,18 +3,23 @@
 
 use super::{accepted, refused};
 
-pub fn read_tape(tape: &[u8], galley: &mut [u8]) -> [usize; 3] {
+pub fn read_tape(tape: &[u8], machine: u32, galley: &mut [u8]) -> [usize; 3] {
     if tape.len() > 1_048_576 {
         return refused((1, 0));
     }
-    match scan(tape) {
+    let effects = match machine {
+        4 => &EFFECTS_OF_FOUR,
+        8 => &EFFECTS_OF_EIGHT,
+        _ => return refused((50, 0)),
+    };
+    match scan(effects, tape) {
         Err(refusal) => refused(refusal),
         Ok(codes) => {
             let needed = 9 * codes.count + 3 * codes.cuts + 7;
             if galley.len() < needed {
                 return refused((12, needed));
             }
-            write(&tape[codes.start..codes.stop], &mut galley[..needed], codes.count);
+            write(effects, &tape[codes.start..codes.stop], &mut galley[..needed], codes.count);
             accepted(needed)
         }
     }
@@ -27,12 +32,16 @@ const LOWER_HALF: u32 = 1 << 9;
 const UNPARKED: u32 = 1 << 10;
 const ESCAPE_BACKWARD: u32 = 1 << 11;
 const LEAD_BACKWARD: u32 = 1 << 12;
-/// Never set: codes that need it take the slow way.
+/// Never set: codes that need one of them take the slow way.
 const NEVER: u32 = 1 << 13;
+const ILLEGAL: u32 = 1 << 14;
 
+/// Parts of the font of the 8-font machine, and of the 4-font machine.
 const TILT_DOWN: u32 = 1 << 4;
 const UPPER_RAIL: u32 = 2 << 4;
 const UPPER_MAG: u32 = 4 << 4;
+const UPPER_RAIL_OF_FOUR: u32 = 1 << 4;
+const UPPER_MAG_OF_FOUR: u32 = 2 << 4;
 const SIZE: u32 = 15 | DOUBLE | SIZED;
 
 /// What a code does to the modes, and which modes it needs.
@@ -43,16 +52,34 @@ struct Effect {
     need: u32,
 }
 
-static EFFECTS: [Effect; 256] = {
-    let mut effects = [Effect { keep: !0, set: 0, need: 0 }; 256];
+type Effects = [Effect; 256];
+static EFFECTS_OF_EIGHT: Effects = effects(8);
+static EFFECTS_OF_FOUR: Effects = effects(4);
+
+const fn effects(machine: u32) -> Effects {
+    let mut effects = [needs(0); 256];
     let mut code = 0;
     while code < 256 {
-        effects[code] = effect(code as u8);
+        effects[code] = if machine == 8 { effect(code as u8) } else { effect_of_four(code as u8) };
         code += 1;
     }
     effects
-};
+}
 
+/// On the 4-font machine: what differs from the 8-font machine.
+const fn effect_of_four(code: u8) -> Effect {
+    match code {
+        0x40 => Effect { keep: SIZE, set: LOWER_HALF, need: 0 },
+        0x41 => clears(UPPER_RAIL_OF_FOUR),
+        0x42 => sets(UPPER_RAIL_OF_FOUR),
+        0x43 => sets(UPPER_MAG_OF_FOUR),
+        0x44 => clears(UPPER_MAG_OF_FOUR),
+        0x4E | 0x4F => needs(ILLEGAL),
+        _ => effect(code),
+    }
+}
+
+/// On the 8-font machine.
 const fn effect(code: u8) -> Effect {
     match code {
         0x01..=0x2D => needs(UNPARKED | SIZED),
@@ -73,7 +100,8 @@ const fn effect(code: u8) -> Effect {
         0x50..=0x58 => Effect { keep: !SIZE, set: (code & 15) as u32 | SIZED, need: 0 },
         0x59..=0x5E => Effect { keep: !SIZE, set: (code & 15) as u32 | SIZED | DOUBLE, need: 0 },
         0x80..=0xFE => needs(UNPARKED),
-        0x49 | 0x4B | 0x4D | 0x5F | 0xFF => needs(NEVER),
+        0x49 | 0x4B => needs(NEVER),
+        0x4D | 0x5F | 0xFF => needs(ILLEGAL),
         0x00 | 0x60..=0x7F => needs(0),
     }
 }
@@ -143,24 +171,25 @@ const TOPS: u64 = 1 << 63 | 1 << 31;
 
 #[derive(Clone, Copy)]
 struct Machine {
+    effects: &'static Effects,
     modes: u32,
     place: u64,
 }
 
 impl Machine {
     /// The machine after its first initialize.
-    fn new() -> Machine {
-        Machine { modes: LOWER_HALF | TILT_DOWN, place: 0 }
+    fn new(effects: &'static Effects) -> Machine {
+        Machine { effects, modes: first_modes(effects), place: 0 }
     }
 
     /// Takes codes as long as they need no second look: how many, and how many flashes among them.
     #[inline(never)]
     fn take_common(&mut self, codes: &[u8]) -> (usize, usize) {
-        let Machine { mut modes, mut place } = *self;
+        let Machine { effects, mut modes, mut place } = *self;
         let mut count = 0;
         let mut taken = codes.len();
         for (index, &code) in codes.iter().enumerate() {
-            let effect = &EFFECTS[usize::from(code)];
+            let effect = &effects[usize::from(code)];
             let after = place.wrapping_add(WIDE_STEPS[(modes >> 11 & 3) as usize][usize::from(code)]);
             let lacking = effect.need & !modes;
             let beyond = (after | after.wrapping_add(BEYOND)) & TOPS;
@@ -172,7 +201,7 @@ impl Machine {
             modes = modes & effect.keep | effect.set;
             count += usize::from(is_flash(code));
         }
-        *self = Machine { modes, place };
+        *self = Machine { effects, modes, place };
         (taken, count)
     }
 
@@ -192,7 +221,7 @@ impl Machine {
     fn refusal(&self, code: u8) -> Option<usize> {
         let parked = self.modes & UNPARKED == 0;
         match code {
-            0x4D | 0x5F | 0xFF => Some(2),
+            _ if is_illegal(self.effects, code) => Some(2),
             0xEF if parked && self.modes & ESCAPE_BACKWARD == 0 => None,
             0x01..=0x3F | 0x80..=0xFE if parked => Some(5),
             0x01..=0x3F if self.modes & SIZED == 0 => Some(6),
@@ -210,16 +239,16 @@ struct Codes {
     cuts: usize,
 }
 
-fn scan(tape: &[u8]) -> Result<Codes, (usize, usize)> {
+fn scan(effects: &'static Effects, tape: &[u8]) -> Result<Codes, (usize, usize)> {
     let start = match next_code(tape, 0) {
         None => return Err((9, tape.len())),
         Some((0x40, place)) => place + 1,
-        Some((code, place)) => return Err((other_code(code, 3), place)),
+        Some((code, place)) => return Err((other_code(effects, code, 3), place)),
     };
-    let codes = run(tape, start)?;
+    let codes = run(effects, tape, start)?;
     match next_code(tape, codes.stop + 1) {
         None => Ok(codes),
-        Some((code, place)) => Err((other_code(code, 4), place)),
+        Some((code, place)) => Err((other_code(effects, code, 4), place)),
     }
 }
 
@@ -230,25 +259,35 @@ fn next_code(tape: &[u8], from: usize) -> Option<(u8, usize)> {
 }
 
 /// 2 for an illegal code, else the number given.
-fn other_code(code: u8, number: usize) -> usize {
-    match code {
-        0x4D | 0x5F | 0xFF => 2,
-        _ => number,
+fn other_code(effects: &Effects, code: u8, number: usize) -> usize {
+    if is_illegal(effects, code) {
+        2
+    } else {
+        number
     }
 }
 
+fn is_illegal(effects: &Effects, code: u8) -> bool {
+    effects[usize::from(code)].need == ILLEGAL
+}
+
+/// The modes after the first initialize.
+fn first_modes(effects: &Effects) -> u32 {
+    effects[0x40].set
+}
+
 /// The place of the initialize after a cut.
-fn initialize_from(tape: &[u8], from: usize) -> Result<usize, (usize, usize)> {
+fn initialize_from(effects: &Effects, tape: &[u8], from: usize) -> Result<usize, (usize, usize)> {
     match next_code(tape, from) {
         None => Err((10, tape.len())),
         Some((0x40, place)) => Ok(place),
-        Some((code, place)) => Err((other_code(code, 10), place)),
+        Some((code, place)) => Err((other_code(effects, code, 10), place)),
     }
 }
 
 /// Runs the machine up to stop.
-fn run(tape: &[u8], start: usize) -> Result<Codes, (usize, usize)> {
-    let mut machine = Machine::new();
+fn run(effects: &'static Effects, tape: &[u8], start: usize) -> Result<Codes, (usize, usize)> {
+    let mut machine = Machine::new(effects);
     let (mut index, mut count, mut cuts) = (start, 0, 0);
     loop {
         let (codes, flashes) = machine.take_common(&tape[index..]);
@@ -258,7 +297,7 @@ fn run(tape: &[u8], start: usize) -> Result<Codes, (usize, usize)> {
             None => return Err((9, index)),
             Some(0x49) => return Ok(Codes { start, stop: index, count, cuts }),
             Some(0x4B) => {
-                index = initialize_from(tape, index + 1)?;
+                index = initialize_from(effects, tape, index + 1)?;
                 machine.cut();
                 cuts += 1;
             }
@@ -281,16 +320,16 @@ fn is_flash(code: u8) -> bool {
 /// Writes the galley of codes that are known to be good. Every code but a mode or a cut stores a character
 /// field; only a flash moves on. After the last flash only cuts are left.
 #[inline(never)]
-fn write(codes: &[u8], galley: &mut [u8], count: usize) {
+fn write(effects: &Effects, codes: &[u8], galley: &mut [u8], count: usize) {
     let (fields, end) = galley.split_at_mut(galley.len() - 7);
     let last = codes.iter().rposition(|&code| is_flash(code));
-    let mut modes = LOWER_HALF | TILT_DOWN;
+    let mut modes = first_modes(effects);
     let mut body = BODY_PARKED;
     let mut setting = Setting::of(modes);
     let mut at = 0;
     for &code in &codes[..last.map_or(0, |last| last + 1)] {
         if code & 0xE0 == 0x40 {
-            let effect = &EFFECTS[usize::from(code)];
+            let effect = &effects[usize::from(code)];
             modes = modes & effect.keep | effect.set;
             setting = Setting::of(modes);
             if code == 0x40 {

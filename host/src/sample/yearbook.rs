@@ -1,6 +1,7 @@
 //! A yearbook on tape: tables of figures, in font 1 or font 2 by column, with words in font 3.
 
 use super::Random;
+use crate::Machine;
 
 const COLUMNS: usize = 8;
 const ROWS: usize = 36;
@@ -17,11 +18,11 @@ const SIZE_8: (u8, i32) = (0x51, 24);
 const SIZE_9: (u8, i32) = (0x57, 27);
 const SIZE_16: (u8, i32) = (0x59, 48);
 
-/// A tape of exactly `length` bytes, at least 100: as many whole lines as fit, stop, and 00 to the end. When
-/// the greatest height is near, the tape goes back to the top.
-pub fn yearbook(seed: u64, length: usize) -> Vec<u8> {
+/// A tape for a machine, of exactly `length` bytes, at least 100: as many whole lines as fit, stop, and 00 to
+/// the end. When the greatest height is near, the tape goes back to the top.
+pub fn yearbook(machine: Machine, seed: u64, length: usize) -> Vec<u8> {
     let mut random = Random::new(seed);
-    let mut punch = Punch::new();
+    let mut punch = Punch::new(machine);
     let mut table = Table::new(&mut random);
     loop {
         let before = punch.tape.len();
@@ -37,11 +38,11 @@ pub fn yearbook(seed: u64, length: usize) -> Vec<u8> {
     punch.tape
 }
 
-/// A tape of three pages: so many lines of a table, nothing, and so many lines of another table. After each
-/// cut come blank tape and initialize.
+/// A tape of three pages for the 8-font machine: so many lines of a table, nothing, and so many lines of
+/// another table. After each cut come blank tape and initialize.
 pub fn pages(seed: u64, lines: usize) -> Vec<u8> {
     let mut random = Random::new(seed);
-    let mut punch = Punch::new();
+    let mut punch = Punch::new(Machine::Eight);
     punch.table(&mut random, lines);
     punch.cut();
     punch.cut();
@@ -115,26 +116,30 @@ struct Cell {
 
 /// The tape so far, and what the machine is set to.
 struct Punch {
+    machine: Machine,
     tape: Vec<u8>,
     carriage: i32,
     height: i32,
     backward: bool,
     upper_half: bool,
     upper_rail: bool,
+    upper_mag: bool,
     tilt_down: bool,
     size: u8,
 }
 
 impl Punch {
     /// Initialized, and off the left switch by the escape of 16.
-    fn new() -> Punch {
+    fn new(machine: Machine) -> Punch {
         Punch {
+            machine,
             tape: vec![0x40, 0xEF],
             carriage: 0,
             height: 0,
             backward: false,
             upper_half: false,
             upper_rail: false,
+            upper_mag: false,
             tilt_down: true,
             size: 0,
         }
@@ -142,7 +147,7 @@ impl Punch {
 
     /// A cut, blank tape, and the machine initialized anew, which keeps its size.
     fn cut(&mut self) {
-        let anew = Punch::new();
+        let anew = Punch::new(self.machine);
         self.tape.push(0x4B);
         self.tape.extend([0; 8]);
         self.tape.extend(&anew.tape);
@@ -201,16 +206,24 @@ impl Punch {
         }
     }
 
+    /// Rail, mag and tilt as the font asks for. The 4-font machine has no tilt to change.
     fn font(&mut self, font: u8) {
-        let upper_rail = font > 2;
-        let tilt_down = font.is_multiple_of(2);
+        let (pair, tilt_down) = match self.machine {
+            Machine::Four => (font - 1, self.tilt_down),
+            Machine::Eight => ((font - 1) / 2, font.is_multiple_of(2)),
+        };
+        let (upper_rail, upper_mag) = (pair & 1 != 0, pair & 2 != 0);
         if upper_rail != self.upper_rail {
             self.tape.push(if upper_rail { 0x42 } else { 0x41 });
+        }
+        if upper_mag != self.upper_mag {
+            self.tape.push(if upper_mag { 0x43 } else { 0x44 });
         }
         if tilt_down != self.tilt_down {
             self.tape.push(if tilt_down { 0x4F } else { 0x4E });
         }
         self.upper_rail = upper_rail;
+        self.upper_mag = upper_mag;
         self.tilt_down = tilt_down;
     }
 

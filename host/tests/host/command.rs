@@ -2,6 +2,7 @@
 
 use crate::readings::hex;
 use spatecanter::sample::{pages, yearbook};
+use spatecanter::Machine;
 use std::fs;
 use std::io::Write;
 use std::path::{Path, PathBuf};
@@ -81,7 +82,7 @@ fn help_for_the_whole_and_for_each_command() {
 fn wrong_usage_is_2() {
     let folder = folder("usage");
     fs::write(folder.join("p3.tape"), hex(P3_TAPE)).unwrap();
-    let calls: [&[&str]; 13] = [
+    let calls: [&[&str]; 18] = [
         &[],
         &["reed", "p3.tape"],
         &["read"],
@@ -90,7 +91,12 @@ fn wrong_usage_is_2() {
         &["read", "p3.tape", "-x"],
         &["read", "p3.tape", "-o", "a", "-o", "b"],
         &["read", "p3.tape", "-d", "out"],
+        &["read", "p3.tape", "--machine"],
+        &["read", "p3.tape", "--machine", "8", "--machine", "8"],
+        &["check", "p3.tape", "--machine", "8"],
         &["reprint", "p3.tape"],
+        &["reprint", "p3.tape", "-d", "out", "--machine", "08"],
+        &["plot", "p3.tape", "--machine="],
         &["show", "-", "--widths", "-"],
         &["read", "missing.tape"],
         &["read", "."],
@@ -149,18 +155,114 @@ fn a_refused_tape_says_why_and_writes_nothing() {
         ("40 60 4C 60 7E", "refused 7 at 4", "keeps the height in 0 to 65,535; it would go from 0 to -1"),
         ("40 EF 46 52 2E", "refused 8 at 4", "byte 2E, a flash of 46"),
     ];
-    fs::write(folder.join("bad.galley"), "as before").unwrap();
     for (tape, refusal, more) in rows {
-        fs::write(folder.join("bad.tape"), hex(tape)).unwrap();
-        for words in [&["read", "bad.tape"][..], &["reprint", "bad.tape", "-d", "out"], &["plot", "bad.tape"]]
-        {
-            let run = run(&folder, words);
-            assert_eq!((run.status, run.text().as_str()), (1, ""), "{words:?} of {tape}");
-            assert!(run.err.contains(refusal) && run.err.contains(more), "{}", run.err);
+        for machine in ["4", "8"] {
+            is_refused(&folder, machine, tape, refusal, more);
         }
-        assert_eq!(names(&folder), ["bad.galley", "bad.tape"]);
-        assert_eq!(fs::read(folder.join("bad.galley")).unwrap(), b"as before");
     }
+}
+
+/// Every command that reads tapes refuses this one, says so and writes nothing.
+fn is_refused(folder: &Path, machine: &str, tape: &str, refusal: &str, more: &str) {
+    fs::write(folder.join("bad.galley"), "as before").unwrap();
+    fs::write(folder.join("bad.tape"), hex(tape)).unwrap();
+    let calls: [&[&str]; 3] = [
+        &["read", "bad.tape", "--machine", machine],
+        &["reprint", "bad.tape", "-d", "out", "--machine", machine],
+        &["plot", "bad.tape", "--machine", machine],
+    ];
+    for words in calls {
+        let run = run(folder, words);
+        assert_eq!((run.status, run.text().as_str()), (1, ""), "{words:?} of {tape}");
+        assert!(run.err.contains(refusal) && run.err.contains(more), "{}", run.err);
+    }
+    assert_eq!(names(folder), ["bad.galley", "bad.tape"]);
+    assert_eq!(fs::read(folder.join("bad.galley")).unwrap(), b"as before");
+}
+
+#[test]
+fn illegal_codes_of_each_machine() {
+    let folder = folder("illegal");
+    let hint = "any code but 4D to 4F, 5F and FF; tilts are codes of the 8-font machine (--machine 8)\n";
+    let up = format!("byte 4E, tilt up\n  expected: {hint}");
+    let down = format!("byte 4F, tilt down\n  expected: {hint}");
+    let rows: [(&str, &str, &str, &str); 8] = [
+        ("4", "40 EF 52 4E 01 49", "refused 2 at 3: illegal code\n", &up),
+        ("4", "40 EF 52 4F 01 49", "refused 2 at 3: illegal code\n", &down),
+        ("4", "4E", "refused 2 at 0", &up),
+        ("4", "40 49 4F", "refused 2 at 2", &down),
+        ("4", "40 FF", "refused 2 at 1", "expected: any code but 4D to 4F, 5F and FF\n"),
+        ("8", "40 FF", "refused 2 at 1", "expected: any code but 4D, 5F and FF\n"),
+        ("8", "4E", "refused 3 at 0", "byte 4E, tilt up\n  expected: initialize (40)"),
+        ("8", "40 49 4F", "refused 4 at 2", "byte 4F, tilt down\n  expected: nothing but 00"),
+    ];
+    for (machine, tape, refusal, more) in rows {
+        is_refused(&folder, machine, tape, refusal, more);
+    }
+}
+
+/// Four characters, one for each pair of rail and mag: lower and lower, upper rail, both upper, upper mag.
+const PAIRS_TAPE: &str = "40 EF 52 01 42 02 43 03 41 04 49";
+
+#[test]
+fn the_machine_of_a_tape() {
+    let folder = folder("machine");
+    fs::write(folder.join("a.tape"), hex(PAIRS_TAPE)).unwrap();
+    let four = "x y font size char\n0 0 1 10 1\n0 0 2 10 2\n0 0 4 10 3\n0 0 3 10 4\n4 glyphs\n";
+    let eight = "x y font size char\n0 0 2 10 1\n0 0 4 10 2\n0 0 8 10 3\n0 0 6 10 4\n4 glyphs\n";
+    let calls: [(&[&str], &str); 4] = [
+        (&["read", "a.tape"], eight),
+        (&["read", "a.tape", "--machine", "8"], eight),
+        (&["read", "a.tape", "--machine", "4"], four),
+        (&["read", "--machine=4", "a.tape"], four),
+    ];
+    for (words, list) in calls {
+        assert_eq!(run(&folder, words).status, 0);
+        assert_eq!(run(&folder, &["list", "a.galley"]).text(), list, "{words:?}");
+    }
+    let galley = run_on(&folder, &["read", "-", "--machine", "4"], &hex(PAIRS_TAPE)).out;
+    assert_eq!(galley, fs::read(folder.join("a.galley")).unwrap());
+}
+
+#[test]
+fn a_summary_and_a_picture_of_four_fonts() {
+    let folder = folder("four");
+    fs::write(folder.join("a.tape"), hex(PAIRS_TAPE)).unwrap();
+    assert_eq!(run(&folder, &["read", "a.tape", "--machine", "4"]).status, 0);
+    let summary = run(&folder, &["reprint", "a.tape", "--machine", "4", "-d", "out"]).text();
+    for row in ["in font 1", "in font 2", "  C310: font 3, 10 points", "  C410: font 4, 10 points"] {
+        assert!(summary.contains(&format!("\n{row:<37}1\n")), "{summary}");
+    }
+    let galley = fs::read(folder.join("a.galley")).unwrap();
+    assert_eq!(fs::read(folder.join("out/a.galley")).unwrap(), galley);
+    // The fonts of a galley stay, whatever machine is named.
+    for words in [["a.tape", "--machine=4"], ["a.galley", "--machine=4"], ["a.galley", "--machine=8"]] {
+        let plot = run(&folder, &["plot", words[0], words[1], "-o", "-"]).text();
+        for legend in [">font 1: 1<", ">font 2: 1<", ">other fonts: 2<"] {
+            assert!(plot.contains(legend), "{words:?}, {legend}");
+        }
+    }
+}
+
+#[test]
+fn another_machine_is_wrong_usage() {
+    let folder = folder("machines");
+    fs::write(folder.join("a.tape"), hex(PAIRS_TAPE)).unwrap();
+    for wrong in ["0", "5", "04", "+4", "four", ""] {
+        let calls: [&[&str]; 3] = [
+            &["read", "a.tape", "--machine", wrong],
+            &["reprint", "a.tape", "-d", "out", "--machine", wrong],
+            &["plot", "a.tape", "--machine", wrong],
+        ];
+        for words in calls {
+            let run = run(&folder, words);
+            assert_eq!((run.status, run.text().as_str()), (2, ""), "{words:?}");
+            let what =
+                format!("spatecanter: --machine {wrong} is no machine: it is 4 or 8, the number of fonts\n");
+            assert!(run.err.starts_with(&what), "{}", run.err);
+        }
+    }
+    assert_eq!(names(&folder), ["a.tape"]);
 }
 
 #[test]
@@ -284,13 +386,13 @@ fn links_and_devices_stay() {
 #[test]
 fn reprint_writes_three_files_and_a_summary() {
     let folder = folder("reprint");
-    let tape = yearbook(3, 5_000);
+    let tape = yearbook(Machine::Eight, 3, 5_000);
     fs::write(folder.join("page.1.tape"), &tape).unwrap();
     let run = run(&folder, &["reprint", "page.1.tape", "-d", "out/deep"]);
     assert_eq!(run.status, 0, "{}", run.err);
     let out = folder.join("out/deep");
     assert_eq!(names(&out), ["page.1.dvi", "page.1.galley", "page.1.sheet"]);
-    let galley = spatecanter::read_tape(&tape).unwrap();
+    let galley = spatecanter::read_tape(&tape, Machine::Eight).unwrap();
     let reprint = spatecanter::reprint(&galley, &[]).unwrap();
     assert_eq!(fs::read(out.join("page.1.galley")).unwrap(), galley);
     assert_eq!(fs::read(out.join("page.1.dvi")).unwrap(), reprint.dvi);
@@ -309,7 +411,7 @@ fn reprint_writes_three_files_and_a_summary() {
 #[test]
 fn a_picture_has_a_mark_for_each_character() {
     let folder = folder("plot");
-    let tape = yearbook(4, 3_000);
+    let tape = yearbook(Machine::Eight, 4, 3_000);
     fs::write(folder.join("a&b.tape"), &tape).unwrap();
     assert_eq!(run(&folder, &["plot", "a&b.tape"]).status, 0);
     assert_eq!(run(&folder, &["read", "a&b.tape"]).status, 0);
@@ -317,7 +419,7 @@ fn a_picture_has_a_mark_for_each_character() {
     let picture = fs::read_to_string(folder.join("a&b.svg")).unwrap();
     let again = fs::read_to_string(folder.join("b.svg")).unwrap();
     assert_eq!(picture.replace("a&amp;b.tape", "a&amp;b.galley"), again);
-    assert_eq!(marks(&picture), spatecanter::read_tape(&tape).unwrap().len() / 9);
+    assert_eq!(marks(&picture), spatecanter::read_tape(&tape, Machine::Eight).unwrap().len() / 9);
     assert!(picture.starts_with("<svg ") && picture.ends_with("</svg>\n"));
 }
 
@@ -336,7 +438,7 @@ fn a_picture_has_all_pages() {
     fs::write(folder.join("a.tape"), &tape).unwrap();
     assert_eq!(run(&folder, &["plot", "a.tape"]).status, 0);
     let picture = fs::read_to_string(folder.join("a.svg")).unwrap();
-    let count = spatecanter::check_galley(&spatecanter::read_tape(&tape).unwrap()).unwrap();
+    let count = spatecanter::check_galley(&spatecanter::read_tape(&tape, Machine::Eight).unwrap()).unwrap();
     assert!(picture.contains(&format!("<title>a.tape: {count} characters, 3 pages</title>")));
     assert_eq!(marks(&picture), count);
     let parts: Vec<&str> = picture.split("\n<svg ").collect();
@@ -381,7 +483,7 @@ fn widths_for_a_dvi_file() {
 #[test]
 fn a_reader_that_leaves_ends_the_command_quietly() {
     let folder = folder("pipe");
-    fs::write(folder.join("a.tape"), yearbook(5, 200_000)).unwrap();
+    fs::write(folder.join("a.tape"), yearbook(Machine::Eight, 5, 200_000)).unwrap();
     assert_eq!(run(&folder, &["read", "a.tape"]).status, 0);
     let mut child = Command::new(env!("CARGO_BIN_EXE_spatecanter"))
         .args(["list", "a.galley"])

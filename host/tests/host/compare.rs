@@ -19,7 +19,7 @@ type FillBoth = fn(&[u8], &[i32], &mut [u8], &mut [u8]) -> Answer;
 #[derive(Clone, Copy)]
 pub struct Implementation {
     pub name: &'static str,
-    pub read_tape: Fill,
+    pub read_tape: fn(&[u8], u32, &mut [u8]) -> Answer,
     pub check_galley: fn(&[u8]) -> Answer,
     pub read_back: fn(&[u8], usize) -> (Answer, [i32; 4]),
     pub write_dvi: Fill,
@@ -40,9 +40,9 @@ pub const QUICK: Implementation = Implementation {
 /// The library by its C interface, with a guard on both sides of every answer.
 pub const LIBRARY: Implementation = Implementation {
     name: "library",
-    read_tape: |tape, galley| {
+    read_tape: |tape, machine, galley| {
         answered(|answer| unsafe {
-            ffi::sp_read_tape(tape.as_ptr(), tape.len(), galley.as_mut_ptr(), galley.len(), answer)
+            ffi::sp_read_tape(tape.as_ptr(), tape.len(), machine, galley.as_mut_ptr(), galley.len(), answer)
         })
     },
     check_galley: |galley| {
@@ -168,11 +168,25 @@ impl Comparison {
         Comparison { exact_room: true, ..self }
     }
 
-    pub fn tape(&mut self, tape: &[u8]) {
-        let result = plain::read_tape(tape);
+    /// A tape read on a machine of any number.
+    pub fn tape(&mut self, tape: &[u8], machine: u32) {
+        let operation = match machine {
+            4 => "read_tape, 4 fonts",
+            8 => "read_tape, 8 fonts",
+            _ => "read_tape, no machine",
+        };
+        let result = plain::read_tape(tape, machine);
         let room = self.room(tape, &result);
         let expected = plain::with_room(result, room, 12);
-        self.fills("read_tape", tape, expected, room, |them, tape, galley| (them.read_tape)(tape, galley));
+        let call =
+            |them: &Implementation, tape: &[u8], galley: &mut [u8]| (them.read_tape)(tape, machine, galley);
+        self.fills(operation, tape, expected, room, call);
+    }
+
+    /// A tape read on both machines, whichever it was made for.
+    pub fn tape_on_both(&mut self, tape: &[u8]) {
+        self.tape(tape, 4);
+        self.tape(tape, 8);
     }
 
     /// A galley checked, read back, written and reprinted.

@@ -20,6 +20,7 @@ fn compare(implementation: Implementation) {
     let mut comparison = Comparison::new(implementation, SEED);
     tapes(&mut comparison);
     codes(&mut comparison);
+    other_machines(&mut comparison);
     galleys(&mut comparison);
     dvi_files(&mut comparison);
     comparison.print();
@@ -28,18 +29,20 @@ fn compare(implementation: Implementation) {
 
 fn tapes(comparison: &mut Comparison) {
     let mut random = Random::new(SEED + 1);
-    for _ in 0..150_000 {
-        comparison.tape(&cases::tape(&mut random));
-    }
-    for _ in 0..20 {
-        let tape = cases::valid_tape(&mut random);
-        for length in 0..=tape.len() {
-            comparison.tape(&tape[..length]);
+    for fonts in [4, 8] {
+        for _ in 0..100_000 {
+            comparison.tape_on_both(&cases::tape(&mut random, fonts));
+        }
+        for _ in 0..20 {
+            let tape = cases::valid_tape(&mut random, fonts);
+            for length in 0..=tape.len() {
+                comparison.tape_on_both(&tape[..length]);
+            }
         }
     }
 }
 
-/// Every code, and every two codes, after some beginnings.
+/// Every code, and every two codes, after some beginnings, on both machines.
 fn codes(comparison: &mut Comparison) {
     let beginnings: [&[u8]; 16] = [
         &[],
@@ -61,15 +64,41 @@ fn codes(comparison: &mut Comparison) {
     ];
     for beginning in beginnings {
         for code in 0..=255 {
-            comparison.tape(&[beginning, &[code]].concat());
-            comparison.tape(&[beginning, &[code, 0x49]].concat());
+            comparison.tape_on_both(&[beginning, &[code]].concat());
+            comparison.tape_on_both(&[beginning, &[code, 0x49]].concat());
         }
     }
     for first in 0..=255 {
         for second in 0..=255 {
-            comparison.tape(&[0x40, 0xEF, 0x52, first, second, 0x01, 0x49]);
-            comparison.tape(&[0x40, 0x52, 0x4B, first, second, 0xEF, 0x01, 0x49]);
+            comparison.tape_on_both(&[0x40, 0xEF, 0x52, first, second, 0x01, 0x49]);
+            comparison.tape_on_both(&[0x40, 0x52, 0x4B, first, second, 0xEF, 0x01, 0x49]);
         }
+    }
+}
+
+/// Numbers near 4 and 8, with 4 or 8 in one of their bytes, the first thousand, and any.
+fn other_machines(comparison: &mut Comparison) {
+    let mut numbers = vec![0, 1, 2, 3, 5, 6, 7, 9, 12, 16, 48, 84, 256, u32::MAX];
+    for n in [4_u32, 8] {
+        numbers.extend([n << 8, n << 16, n << 24, !n, n.wrapping_neg()]);
+        numbers.extend([0x100, 0x1_0000, 0x100_0000, 0x8000_0000].map(|high| high + n));
+    }
+    let mut random = Random::new(SEED + 4);
+    for number in numbers {
+        for tape in [&[][..], &[0x00], &[0xFF], &[0x4E], &[0x01], &[0x40, 0x49], &[0x40, 0x4B]] {
+            comparison.tape(tape, number);
+        }
+        for fonts in [4, 8] {
+            for _ in 0..200 {
+                comparison.tape(&cases::tape(&mut random, fonts), number);
+            }
+        }
+    }
+    for number in 0..1_000 {
+        comparison.tape(&cases::valid_tape(&mut random, 4), number);
+    }
+    for _ in 0..10_000 {
+        comparison.tape(&cases::tape(&mut random, 8), random.bits() as u32);
     }
 }
 
@@ -143,8 +172,10 @@ fn each_byte_set(bytes: &[u8], value: u8, mut take: impl FnMut(&[u8])) {
 
 /// The cases are worth their number: each answer that small inputs can get was met often.
 fn every_number_is_met(comparison: &Comparison) {
-    let numbers: [(&str, &[usize]); 6] = [
-        ("read_tape", &[0, 2, 3, 4, 5, 6, 7, 8, 9, 10, 12]),
+    let numbers: [(&str, &[usize]); 8] = [
+        ("read_tape, 4 fonts", &[0, 2, 3, 4, 5, 6, 7, 8, 9, 10, 12]),
+        ("read_tape, 8 fonts", &[0, 2, 3, 4, 5, 6, 7, 8, 9, 10, 12]),
+        ("read_tape, no machine", &[50]),
         ("check_galley", &[0, 41]),
         ("read_back", &[0, 41, 11]),
         ("write_dvi", &[0, 41, 42]),

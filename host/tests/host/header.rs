@@ -39,7 +39,7 @@ fn the_header_has_the_same_numbers() {
             value.split([',', ' ']).next().unwrap().parse().unwrap()
         })
         .collect();
-    assert_eq!(numbers.len(), 28);
+    assert_eq!(numbers.len(), 29);
     for &number in &numbers[1..] {
         let meaning = spatecanter::Refusal { number, place: 0 }.meaning();
         assert_ne!(meaning, "an unknown refusal", "{number}");

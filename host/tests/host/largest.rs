@@ -3,7 +3,7 @@
 use crate::cases;
 use crate::compare::{Comparison, Implementation, LIBRARY, QUICK};
 use spatecanter::sample::{book, book_widths, yearbook, Random};
-use spatecanter::{DVI_LIMIT, GALLEY_LIMIT, TAPE_LIMIT};
+use spatecanter::{Machine, DVI_LIMIT, GALLEY_LIMIT, TAPE_LIMIT};
 
 /// Characters and cuts in a galley, together.
 const ITEMS: usize = 1_048_576;
@@ -33,25 +33,31 @@ fn on_a_small_stack(implementation: Implementation) {
 }
 
 fn tapes(comparison: &mut Comparison) {
-    let mut tape = yearbook(7, TAPE_LIMIT);
-    comparison.tape(&tape);
-    tape.push(0);
-    comparison.tape(&tape);
+    for machine in [Machine::Four, Machine::Eight] {
+        let mut tape = yearbook(machine, 7, TAPE_LIMIT);
+        comparison.tape_on_both(&tape);
+        comparison.tape(&tape, 5);
+        tape.push(0);
+        comparison.tape_on_both(&tape);
+        comparison.tape(&tape, 5);
+    }
 
     let mut flashes = vec![0x2A; TAPE_LIMIT];
     flashes[..3].copy_from_slice(&[0x40, 0xEF, 0x52]);
-    comparison.tape(&flashes);
+    comparison.tape_on_both(&flashes);
     flashes[TAPE_LIMIT - 1] = 0x49;
-    comparison.tape(&flashes);
-    flashes[TAPE_LIMIT - 2] = 0xFF;
-    comparison.tape(&flashes);
+    comparison.tape_on_both(&flashes);
+    for illegal in [0x4F, 0xFF] {
+        flashes[TAPE_LIMIT - 2] = illegal;
+        comparison.tape_on_both(&flashes);
+    }
 
     let mut cuts = [0x40, 0x4B].repeat(TAPE_LIMIT / 2);
-    comparison.tape(&cuts);
+    comparison.tape_on_both(&cuts);
     cuts[TAPE_LIMIT - 1] = 0x49;
-    comparison.tape(&cuts);
+    comparison.tape_on_both(&cuts);
     cuts[TAPE_LIMIT - 2] = 0x00;
-    comparison.tape(&cuts);
+    comparison.tape_on_both(&cuts);
 }
 
 fn galleys(comparison: &mut Comparison) {

@@ -1,17 +1,20 @@
-//! The cases of the proof sheet, from the plain reading and from the library.
+//! The cases of the proof sheet, on the 8-font machine, from the plain reading and from the library.
 
 use crate::plain;
 use crate::readings::hex;
-use spatecanter::Refusal;
+use spatecanter::{Machine, Refusal};
 
 fn tape_is_refused(tape: &str, number: usize, place: usize) {
-    assert_eq!(plain::read_tape(&hex(tape)), Err((number, place)), "plain reading of {tape}");
-    assert_eq!(spatecanter::read_tape(&hex(tape)), Err(Refusal { number, place }), "library on {tape}");
+    let bytes = hex(tape);
+    assert_eq!(plain::read_tape(&bytes, 8), Err((number, place)), "plain reading of {tape}");
+    let refusal = Refusal { number, place };
+    assert_eq!(spatecanter::read_tape(&bytes, Machine::Eight), Err(refusal), "library on {tape}");
 }
 
 fn tape_gives(tape: &str, galley: &str) {
-    assert_eq!(plain::read_tape(&hex(tape)), Ok(hex(galley)), "plain reading of {tape}");
-    assert_eq!(spatecanter::read_tape(&hex(tape)), Ok(hex(galley)), "library on {tape}");
+    let bytes = hex(tape);
+    assert_eq!(plain::read_tape(&bytes, 8), Ok(hex(galley)), "plain reading of {tape}");
+    assert_eq!(spatecanter::read_tape(&bytes, Machine::Eight), Ok(hex(galley)), "library on {tape}");
 }
 
 fn galley_gives(galley: &str, dvi: &str) {

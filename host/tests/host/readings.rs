@@ -90,16 +90,111 @@ fn tapes() {
         ("40 EF 52 01 02 03", 9, 6),
         ("40 EF 52 01 02 03 49 00", 0, 34),
     ];
+    // None has a tilt, so the machine makes no difference.
     for (tape, number, second) in rows {
-        let tape = hex(tape);
-        let expected = if number == 0 { [0, 0, second] } else { [number, second, 0] };
-        let plainly = match plain::read_tape(&tape) {
-            Ok(galley) => [0, 0, galley.len()],
-            Err((number, place)) => [number, place, 0],
-        };
-        assert_eq!(plainly, expected, "plain reading of {tape:02X?}");
+        for machine in [4, 8] {
+            tape_answers(machine, &hex(tape), number, second);
+        }
+    }
+}
+
+/// On a machine of any number, a tape is accepted with a galley of this length, or refused at this place.
+fn tape_answers(machine: u32, tape: &[u8], number: usize, second: usize) {
+    let expected = if number == 0 { [0, 0, second] } else { [number, second, 0] };
+    let plainly = match plain::read_tape(tape, machine) {
+        Ok(galley) => [0, 0, galley.len()],
+        Err((number, place)) => [number, place, 0],
+    };
+    let start = &tape[..tape.len().min(64)];
+    assert_eq!(plainly, expected, "plain reading of {start:02X?}, machine {machine}");
+    for them in [LIBRARY, QUICK] {
+        let answer = (them.read_tape)(tape, machine, &mut [0; 64]);
+        assert_eq!(answer, expected, "{} on {start:02X?}, machine {machine}", them.name);
+    }
+}
+
+#[test]
+fn machines() {
+    let rows: [(u32, &str, usize, usize); 29] = [
+        // Tilts are illegal on the 4-font machine: 2 wherever they stand, but the earliest place decides.
+        (4, "40 4E", 2, 1),
+        (4, "40 EF 4F", 2, 2),
+        (4, "40 EF 52 4E 01 FC 02 49", 2, 3),
+        (4, "4E", 2, 0),
+        (4, "00 4F", 2, 1),
+        (4, "40 49 4E", 2, 2),
+        (4, "40 49 00 4F", 2, 3),
+        (4, "40 4B 4E", 2, 2),
+        (4, "40 4B 00 4F", 2, 3),
+        (4, "EF 4E", 3, 0),
+        (4, "40 01 4E", 5, 1),
+        // On the 8-font machine they are codes like others.
+        (8, "40 4E", 9, 2),
+        (8, "40 EF 52 4E 01 FC 02 49", 0, 25),
+        (8, "4E", 3, 0),
+        (8, "00 4F", 3, 1),
+        (8, "40 49 4E", 4, 2),
+        (8, "40 49 00 4F", 4, 3),
+        (8, "40 4B 4E", 10, 2),
+        (8, "40 4B 00 4F", 10, 3),
+        // Other machines: 50 before all that is on the tape.
+        (0, "40 49", 50, 0),
+        (3, "40 49", 50, 0),
+        (5, "40 49", 50, 0),
+        (7, "40 49", 50, 0),
+        (9, "40 49", 50, 0),
+        (260, "40 49", 50, 0),
+        (u32::MAX, "40 49", 50, 0),
+        (5, "", 50, 0),
+        (5, "FF", 50, 0),
+        (5, "01", 50, 0),
+    ];
+    for (machine, tape, number, second) in rows {
+        tape_answers(machine, &hex(tape), number, second);
+    }
+    // 1 before 50, 50 before 2.
+    let illegal = vec![0xFF; spatecanter::TAPE_LIMIT + 1];
+    tape_answers(5, &illegal, 1, 0);
+    tape_answers(5, &illegal[1..], 50, 0);
+    tape_answers(4, &illegal[1..], 2, 0);
+    // 50 before 12.
+    for them in [LIBRARY, QUICK] {
+        assert_eq!((them.read_tape)(&hex("40 49"), 5, &mut []), [50, 0, 0], "{}", them.name);
+        assert_eq!((them.read_tape)(&hex("40 49"), 4, &mut []), [12, 7, 0], "{}", them.name);
+    }
+}
+
+/// By rail, mag and tilt, after initialize: the font number in the fifth size, on each machine.
+#[test]
+fn fonts() {
+    let rows: [(u32, &str, u8); 18] = [
+        (4, "", 4),
+        (4, "42", 15 + 4),
+        (4, "43", 30 + 4),
+        (4, "42 43", 45 + 4),
+        (4, "43 42", 45 + 4),
+        (4, "42 43 41", 30 + 4),
+        (4, "42 43 44", 15 + 4),
+        (4, "42 43 41 44", 4),
+        (4, "42 43 40 EF", 4),
+        (8, "4E", 4),
+        (8, "", 15 + 4),
+        (8, "4E 4F", 15 + 4),
+        (8, "42 4E", 30 + 4),
+        (8, "42", 45 + 4),
+        (8, "43 4E", 60 + 4),
+        (8, "43", 75 + 4),
+        (8, "42 43 4E", 90 + 4),
+        (8, "42 43", 105 + 4),
+    ];
+    for (machine, codes, font_number) in rows {
+        let tape = [&[0x40, 0xEF, 0x54], &hex(codes)[..], &[0x01, 0x49]].concat();
+        let galley = [1, 0, 6, 0, 0, 0, 0, font_number, 1, 2, 0, 4, 0, 0, 0, 1];
+        assert_eq!(plain::read_tape(&tape, machine), Ok(galley.to_vec()), "{codes}, machine {machine}");
         for them in [LIBRARY, QUICK] {
-            assert_eq!((them.read_tape)(&tape, &mut [0; 64]), expected, "{} on {tape:02X?}", them.name);
+            let mut buffer = [0; 16];
+            assert_eq!((them.read_tape)(&tape, machine, &mut buffer), [0, 0, 16], "{}", them.name);
+            assert_eq!(buffer, galley, "{} on {codes}, machine {machine}", them.name);
         }
     }
 }
@@ -114,15 +209,17 @@ fn the_right_switch_and_the_greatest_height() {
     tape.extend([0x7E, 0x01, 0x5E, 0x01, 0x49]);
     let galley = hex("01 00 06 0C A7 00 00 11 01  01 00 06 0C A7 FF FF 11 01  01 00 06 0C 70 FF FF 1D 01
          02 00 04 00 00 00 03");
-    assert_eq!(plain::read_tape(&tape), Ok(galley.clone()));
+    assert_eq!(plain::read_tape(&tape, 8), Ok(galley.clone()));
     let mut buffer = [0; 34];
-    assert_eq!((LIBRARY.read_tape)(&tape, &mut buffer), [0, 0, 34]);
+    assert_eq!((LIBRARY.read_tape)(&tape, 8, &mut buffer), [0, 0, 34]);
     assert_eq!(buffer[..], galley[..]);
     for code in [0xFE, 0x7E] {
         let place = tape.len() - 1;
         let further = [&tape[..place], &[code, 0x49]].concat();
-        assert_eq!(plain::read_tape(&further), Err((7, place)));
-        assert_eq!((LIBRARY.read_tape)(&further, &mut buffer), [7, place, 0]);
+        for machine in [4, 8] {
+            assert_eq!(plain::read_tape(&further, machine), Err((7, place)));
+            assert_eq!((LIBRARY.read_tape)(&further, machine, &mut buffer), [7, place, 0]);
+        }
     }
 }
 
@@ -312,12 +409,12 @@ fn pages_by_hand() {
          03 00 0D 00 00 00 00 00 00 00 00 00 00 00 02 02
          02 00 04 00 00 00 05");
     assert_eq!(sheet.len(), 7 + 16 * 2 + 7 * 2 + 7);
-    assert_eq!(plain::read_tape(&tape), Ok(galley.clone()));
+    assert_eq!(plain::read_tape(&tape, 8), Ok(galley.clone()));
     assert_eq!(plain::write_dvi(&galley), Ok(dvi.clone()));
     assert_eq!(plain::read_dvi(&dvi, &[]), Ok(sheet.clone()));
     for them in [LIBRARY, QUICK] {
         let mut galley_made = vec![0; galley.len()];
-        assert_eq!((them.read_tape)(&tape, &mut galley_made), [0, 0, galley.len()], "{}", them.name);
+        assert_eq!((them.read_tape)(&tape, 8, &mut galley_made), [0, 0, galley.len()], "{}", them.name);
         assert_eq!(galley_made, galley, "{}", them.name);
         assert_eq!((them.check_galley)(&galley), [0, 0, 2], "{}", them.name);
         assert_eq!((them.read_back)(&galley, 1), ([0; 3], [0, 0, 2, 2]), "{}", them.name);

@@ -1,8 +1,9 @@
 //! The files in samples/ are what their README says.
 
+use spatecanter::galley::characters;
 use spatecanter::sample::{pages, yearbook};
 use spatecanter::sheet::{fields, Field};
-use spatecanter::Refusal;
+use spatecanter::{Machine, Refusal};
 use std::path::Path;
 
 fn sample(name: &str) -> Vec<u8> {
@@ -12,8 +13,8 @@ fn sample(name: &str) -> Vec<u8> {
 #[test]
 fn the_yearbook_is_made_by_the_generator() {
     let tape = sample("yearbook.tape");
-    assert!(tape == yearbook(1980, 6_400));
-    let galley = spatecanter::read_tape(&tape).unwrap();
+    assert!(tape == yearbook(Machine::Eight, 1980, 6_400));
+    let galley = spatecanter::read_tape(&tape, Machine::Eight).unwrap();
     assert_eq!(spatecanter::check_galley(&galley), Ok(2_628));
     let reprint = spatecanter::reprint(&galley, &[]).unwrap();
     assert_eq!((galley.len(), reprint.dvi.len(), reprint.sheet.len()), (23_659, 16_090, 42_062));
@@ -23,7 +24,7 @@ fn the_yearbook_is_made_by_the_generator() {
 fn the_pages_are_made_by_the_generator() {
     let tape = sample("pages.tape");
     assert!(tape == pages(1980, 8));
-    let galley = spatecanter::read_tape(&tape).unwrap();
+    let galley = spatecanter::read_tape(&tape, Machine::Eight).unwrap();
     assert_eq!(spatecanter::check_galley(&galley), Ok(628));
     let reprint = spatecanter::reprint(&galley, &[]).unwrap();
     assert_eq!((galley.len(), reprint.dvi.len(), reprint.sheet.len()), (5_665, 3_940, 10_076));
@@ -32,18 +33,40 @@ fn the_pages_are_made_by_the_generator() {
     assert_eq!(starts, [(0, Field::Page(1)), (335, Field::Page(2)), (336, Field::Page(3))]);
 }
 
+/// A 4-font tape of the yearbook's first lines: its galley is the start of the yearbook's.
+#[test]
+fn the_four_font_tape_is_made_by_the_generator() {
+    let tape = sample("four.tape");
+    assert!(tape == yearbook(Machine::Four, 1980, 2_400));
+    let galley = spatecanter::read_tape(&tape, Machine::Four).unwrap();
+    assert_eq!(spatecanter::check_galley(&galley), Ok(982));
+    let whole = spatecanter::read_tape(&sample("yearbook.tape"), Machine::Eight).unwrap();
+    assert!(galley[..9 * 982] == whole[..9 * 982]);
+    let reprint = spatecanter::reprint(&galley, &[]).unwrap();
+    assert_eq!((galley.len(), reprint.dvi.len(), reprint.sheet.len()), (8_845, 6_065, 15_726));
+}
+
+#[test]
+fn each_tape_on_the_other_machine() {
+    let galley = spatecanter::read_tape(&sample("four.tape"), Machine::Eight).unwrap();
+    let in_font = |font| characters(&galley).filter(|it| it.font() == font).count();
+    assert_eq!([2, 4, 6].map(in_font), [728, 106, 148]);
+    let refused = spatecanter::read_tape(&sample("yearbook.tape"), Machine::Four);
+    assert_eq!(refused, Err(Refusal { number: 2, place: 3 }));
+}
+
 #[test]
 fn the_damaged_tape_has_lost_a_bit() {
     let (tape, damaged) = (sample("yearbook.tape"), sample("damaged.tape"));
     let places: Vec<usize> = (0..tape.len()).filter(|&place| tape[place] != damaged[place]).collect();
     assert_eq!(places, [3_002]);
     assert_eq!((tape[3_002], damaged[3_002]), (0x48, 0x08));
-    assert_eq!(spatecanter::read_tape(&damaged), Err(Refusal { number: 7, place: 3_007 }));
+    assert_eq!(spatecanter::read_tape(&damaged, Machine::Eight), Err(Refusal { number: 7, place: 3_007 }));
 }
 
 #[test]
 fn p3_gives_two_characters() {
-    let galley = spatecanter::read_tape(&sample("p3.tape")).unwrap();
+    let galley = spatecanter::read_tape(&sample("p3.tape"), Machine::Eight).unwrap();
     assert_eq!(spatecanter::check_galley(&galley), Ok(2));
     assert_eq!(spatecanter::write_dvi(&galley).unwrap().len(), 59);
 }

@@ -24,12 +24,12 @@ enum-known-answer-2 : tie.Need-enum-known-answer-2
 enum-known-answer-2 c = search needs
 
 -- the length accepted is at most the buffer's
-fits : (c : tie.After-known-told2) → c .before .answer2 .given .0 .0 ≤ length (c .before .before .before .before .before .read-tape .last .1 .0)
+fits : (c : tie.After-known-told2) → c .before .answer2 .given .0 .0 ≤ length (c .before .before .before .before .before .read-tape .last .1 .1 .0)
 fits c =
     let r = c .before .before .before .before .before .read-tape in
     let a = c .before .before .before .before .before .before .before .before .before .args in
-    let h = tape-room (a .tape .now) (length (a .galley .now)) (c .before .answer2 .given .0 .0) (sym (ap outcomeOf (c .before .answer2 .given .1)) ∙ r .ensures .0) in
-    omega (arith, h, r .kept .1 .0)
+    let h = tape-room (a .tape .now) 8 (length (a .galley .now)) (c .before .answer2 .given .0 .0) (sym (ap outcomeOf (c .before .answer2 .given .1)) ∙ r .ensures .0) in
+    omega (arith, h, r .kept .1 .1 .0)
 
 slice-reshare-prefix-write-galley : tie.Need-slice-reshare-prefix-write-galley
 slice-reshare-prefix-write-galley c = fits c

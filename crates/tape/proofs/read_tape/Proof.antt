@@ -1,38 +1,76 @@
--- `tape::read_tape` meets its contract: 1 over the whole tape, and then the tape read from the start.
+-- `tape::read_tape` meets its contract: 1 over the whole tape, then 50, and then the tape read from the start of its machine.
 -- Assumes nothing.
-use mathlib.Core.Path.{sym, ap, _∙_}
+use mathlib.Core.Path.{_≡_, refl, sym, ap, _∙_}
+use mathlib.Core.List.{List}
+use mathlib.Core.Option.{none, some}
+use Prim.Native.Nat.{ℕ}
 use borrow.Author.Needs.{needs}
+use borrow.Author.Tests.{eq-eqb, ne-eqb}
 use lib.ListN.{length}
-use Rattle.octets.specs.Answer.{outcome, after}
-use Rattle.tape.specs.declared.machine.State.{State}
-use Rattle.tape.specs.Tape.{readResult}
+use Rattle.octets.specs.Answer.{Result, Outcome, outcome, after}
+use Rattle.tape.specs.declared.code.Machine.the-variants.{Four, Eight}
+use Rattle.tape.specs.Tape.{machineOf}
 use Rattle.tape.specs.SoundLaws.{start-sound}
-use Rattle.tape.proofs.Results.{long-tape, fit-tape}
+use Rattle.tape.proofs.Results.{long-tape, other-machine, on-machine}
 use Rattle.tape.proofs.read_tape.Statement.{statement}
 use Rattle.tape.proofs.read_tape.Tie as tie
+
+-- what is so of one result is so of an equal one
+as-result : {r q : Result} (o : Outcome) (was now : List ℕ) → q ≡ r → (o ≡ outcome r) × (now ≡ after was r) → (o ≡ outcome q) × (now ≡ after was q)
+as-result o was now e p = (p .0 ∙ sym (ap outcome e), p .1 ∙ sym (ap (after was) e))
+
+four : (n : ℕ) → n ≡ 4 → machineOf n ≡ some Four
+four n e = rw (eq-eqb n 4 e)
+
+eight : (n : ℕ) → (n ≡ 4 → ⊥) → n ≡ 8 → machineOf n ≡ some Eight
+eight n f e = rw (ne-eqb n 4 f, eq-eqb n 8 e)
+
+neither : (n : ℕ) → (n ≡ 4 → ⊥) → (n ≡ 8 → ⊥) → machineOf n ≡ none
+neither n f e = rw (ne-eqb n 4 f, ne-eqb n 8 e)
 
 returns : tie.Need-returns
 returns c =
     let a = c .before .before .before .args in
-    let q = long-tape (a .tape .now) (length (a .galley .now)) (c .if1 .taken) in
-    (sym (ap outcome q), sym (ap (after (a .galley .now)) q))
+    as-result _ _ _ (long-tape (a .tape .now) (a .machine) (length (a .galley .now)) (c .if1 .taken)) (refl, refl)
 
 at-start-requires : tie.Need-at-start-requires
 at-start-requires c κs = search needs
 
 read-from-requires : tie.Need-read-from-requires
-read-from-requires c κs = (rw (c .before .at-start .ensures) start-sound, c .before .before .if1 .left)
+read-from-requires c κs = (rw (c .before .at-start .ensures) (start-sound Four), c .before .before .before .if1 .left)
 
 same-length : tie.Need-same-length
 same-length c = search needs
 
 returns-2 : tie.Need-returns-2
 returns-2 c =
-    let a = c .before .before .before .before .before .before .before .before .args in
-    let q = ap (λ (s : State). readResult s (a .tape .now) (length (a .galley .now))) (c .before .before .before .before .at-start .ensures) ∙ sym (fit-tape (a .tape .now) (length (a .galley .now)) (c .before .before .before .before .before .if1 .left)) in
-    let f = c .before .before .read-from .ensures in
-    (f .0 ∙ ap outcome q, f .1 ∙ ap (after (a .galley .now)) q)
+    let t = c .before .before .before .before .before in
+    let a = t .before .before .before .before .args in
+    as-result _ _ _ (on-machine (a .tape .now) (a .machine) (length (a .galley .now)) (t .before .if1 .left) (four (a .machine) (t .if2 .taken)) (c .before .before .before .before .at-start .ensures))
+    (c .before .before .read-from .ensures)
+
+at-start-requires-2 : tie.Need-at-start-requires-2
+at-start-requires-2 c κs = search needs
+
+read-from-requires-2 : tie.Need-read-from-requires-2
+read-from-requires-2 c κs = (rw (c .before .at-start2 .ensures) (start-sound Eight), c .before .before .before .before .if1 .left)
+
+same-length-2 : tie.Need-same-length-2
+same-length-2 c = search needs
+
+returns-3 : tie.Need-returns-3
+returns-3 c =
+    let t = c .before .before .before .before .before in
+    let a = t .before .before .before .before .before .args in
+    as-result _ _ _ (on-machine (a .tape .now) (a .machine) (length (a .galley .now)) (t .before .before .if1 .left) (eight (a .machine) (t .before .if2 .left) (t .if3 .taken)) (c .before .before .before .before .at-start2 .ensures))
+    (c .before .before .read-from2 .ensures)
+
+returns-4 : tie.Need-returns-4
+returns-4 c =
+    let a = c .before .before .before .before .before .args in
+    as-result _ _ _ (other-machine (a .tape .now) (a .machine) (length (a .galley .now)) (c .before .before .if1 .left) (neither (a .machine) (c .before .if2 .left) (c .if3 .left))) (refl, refl)
 
 pub read-tape-spec : {M : Type 1} → statement M
 read-tape-spec =
-    tie.close (tie.spec returns at-start-requires read-from-requires same-length returns-2)
+    tie.close
+    (tie.spec returns at-start-requires read-from-requires same-length returns-2 at-start-requires-2 read-from-requires-2 same-length-2 returns-3 returns-4)

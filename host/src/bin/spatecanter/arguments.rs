@@ -4,6 +4,7 @@ use crate::commands::Command;
 use crate::failure::Failure;
 use std::ffi::{OsStr, OsString};
 
+#[derive(Default)]
 pub struct Arguments {
     pub input: OsString,
     /// -o
@@ -14,6 +15,8 @@ pub struct Arguments {
     pub folder: Option<OsString>,
     /// --page
     pub page: Option<OsString>,
+    /// --machine
+    pub machine: Option<OsString>,
 }
 
 /// Whether --help or -h is among the options.
@@ -24,7 +27,7 @@ pub fn ask_for_help(words: &[OsString]) -> bool {
 /// One input, and the options that the command has.
 pub fn parse(command: &Command, words: &[OsString]) -> Result<Arguments, Failure> {
     let wrong = |what: String| Failure::Usage(format!("{what}\nUsage: spatecanter {}", command.usage));
-    let mut arguments = Arguments { input: OsString::new(), output: None, widths: None, folder: None, page: None };
+    let mut arguments = Arguments::default();
     let mut inputs = Vec::new();
     let mut words = words.iter();
     while let Some(word) = words.next() {
@@ -64,6 +67,7 @@ impl Arguments {
             "--widths" => Some(&mut self.widths),
             "-d" => Some(&mut self.folder),
             "--page" => Some(&mut self.page),
+            "--machine" => Some(&mut self.machine),
             _ => None,
         }
     }

@@ -7,7 +7,7 @@ use crate::summary::Summary;
 use crate::text::{self, grouped};
 use crate::{explain, help, plot, progress};
 use spatecanter::galley::characters;
-use spatecanter::{sheet, Reprint, DVI_LIMIT, GALLEY_LIMIT, TAPE_LIMIT};
+use spatecanter::{sheet, Machine, Reprint, DVI_LIMIT, GALLEY_LIMIT, TAPE_LIMIT};
 use std::ffi::OsStr;
 use std::fs;
 use std::ops::Range;
@@ -22,7 +22,13 @@ pub struct Command {
 }
 
 pub const COMMANDS: [Command; 8] = [
-    Command { name: "read", usage: "read TAPE [-o GALLEY]", options: &["-o"], help: help::READ, run: read },
+    Command {
+        name: "read",
+        usage: "read TAPE [--machine 4|8] [-o GALLEY]",
+        options: &["--machine", "-o"],
+        help: help::READ,
+        run: read,
+    },
     Command { name: "check", usage: "check GALLEY", options: &[], help: help::CHECK, run: check },
     Command { name: "list", usage: "list GALLEY", options: &[], help: help::LIST, run: list },
     Command { name: "set", usage: "set GALLEY [-o DVI]", options: &["-o"], help: help::SET, run: set },
@@ -36,24 +42,27 @@ pub const COMMANDS: [Command; 8] = [
     Command { name: "sheet", usage: "sheet SHEET", options: &[], help: help::SHEET, run: list_sheet },
     Command {
         name: "reprint",
-        usage: "reprint TAPE -d FOLDER",
-        options: &["-d"],
+        usage: REPRINT_USAGE,
+        options: &["--machine", "-d"],
         help: help::REPRINT,
         run: reprint,
     },
     Command {
         name: "plot",
-        usage: "plot TAPE|GALLEY [--page N] [-o SVG]",
-        options: &["--page", "-o"],
+        usage: "plot TAPE|GALLEY [--machine 4|8] [--page N] [-o SVG]",
+        options: &["--machine", "--page", "-o"],
         help: help::PLOT,
         run: draw,
     },
 ];
 
+const REPRINT_USAGE: &str = "reprint TAPE [--machine 4|8] -d FOLDER";
+
 fn read(arguments: &Arguments) -> Result<(), Failure> {
+    let machine = machine(arguments)?;
     let output = Output::choose(arguments.output.as_deref(), &[&arguments.input], "galley")?;
     let tape = files::read(&arguments.input, TAPE_LIMIT)?;
-    let galley = galley_of(&arguments.input, &tape)?;
+    let galley = galley_of(&arguments.input, &tape, machine)?;
     output.write(&galley)?;
     output.tell(&format!("{} characters", grouped(characters(&galley).count())));
     Ok(())
@@ -118,16 +127,16 @@ fn list_sheet(arguments: &Arguments) -> Result<(), Failure> {
 
 fn reprint(arguments: &Arguments) -> Result<(), Failure> {
     let Some(folder) = &arguments.folder else {
-        return Err(Failure::Usage(
-            "reprint needs a folder\nUsage: spatecanter reprint TAPE -d FOLDER".into(),
-        ));
+        let what = format!("reprint needs a folder\nUsage: spatecanter {REPRINT_USAGE}");
+        return Err(Failure::Usage(what));
     };
+    let machine = machine(arguments)?;
     let paths = ["galley", "dvi", "sheet"].map(|extension| path_in(folder, &arguments.input, extension));
     for path in &paths {
         files::keep_inputs(path, &[&arguments.input])?;
     }
     let tape = files::read(&arguments.input, TAPE_LIMIT)?;
-    let galley = galley_of(&arguments.input, &tape)?;
+    let galley = galley_of(&arguments.input, &tape, machine)?;
     let Reprint { dvi, sheet } = progress::during("reprinting", || spatecanter::reprint(&galley, &[]))
         .map_err(|refusal| explain::galley(&arguments.input, &galley, refusal))?;
     fs::create_dir_all(folder)
@@ -147,6 +156,7 @@ fn path_in(folder: &OsStr, input: &OsStr, extension: &str) -> PathBuf {
 }
 
 fn draw(arguments: &Arguments) -> Result<(), Failure> {
+    let machine = machine(arguments)?;
     let output = Output::choose(arguments.output.as_deref(), &[&arguments.input], "svg")?;
     let bytes = files::read(&arguments.input, GALLEY_LIMIT)?;
     let galley = match bytes.first() {
@@ -155,7 +165,7 @@ fn draw(arguments: &Arguments) -> Result<(), Failure> {
                 .map_err(|refusal| explain::galley(&arguments.input, &bytes, refusal))?;
             bytes
         }
-        _ => galley_of(&arguments.input, &bytes)?,
+        _ => galley_of(&arguments.input, &bytes, machine)?,
     };
     let name = files::shown(&arguments.input);
     let pages = plot::pages(&galley);
@@ -181,9 +191,24 @@ fn chosen(page: Option<&OsStr>, pages: usize) -> Result<Range<usize>, Failure> {
     }
 }
 
-fn galley_of(name: &OsStr, tape: &[u8]) -> Result<Vec<u8>, Failure> {
-    progress::during("reading the tape", || spatecanter::read_tape(tape))
-        .map_err(|refusal| explain::tape(name, tape, refusal))
+/// The machine that --machine names, or the 8-font machine.
+fn machine(arguments: &Arguments) -> Result<Machine, Failure> {
+    let Some(word) = &arguments.machine else {
+        return Ok(Machine::Eight);
+    };
+    match word.to_str() {
+        Some("4") => Ok(Machine::Four),
+        Some("8") => Ok(Machine::Eight),
+        _ => Err(Failure::Usage(format!(
+            "--machine {} is no machine: it is 4 or 8, the number of fonts",
+            word.to_string_lossy()
+        ))),
+    }
+}
+
+fn galley_of(name: &OsStr, tape: &[u8], machine: Machine) -> Result<Vec<u8>, Failure> {
+    progress::during("reading the tape", || spatecanter::read_tape(tape, machine))
+        .map_err(|refusal| explain::tape(name, tape, machine, refusal))
 }
 
 /// A galley that the check accepts, and its number of characters.

@@ -4,17 +4,17 @@ use crate::failure::Failure;
 use crate::files::shown;
 use crate::text::grouped;
 use spatecanter::galley::{characters, items};
-use spatecanter::{number, Refusal, ITEM_LIMIT};
+use spatecanter::{number, Machine, Refusal, ITEM_LIMIT};
 use std::ffi::OsStr;
 
-pub fn tape(name: &OsStr, tape: &[u8], refusal: Refusal) -> Failure {
+pub fn tape(name: &OsStr, tape: &[u8], machine: Machine, refusal: Refusal) -> Failure {
     let mut lines = vec![format!("{}: {refusal}", shown(name))];
     if refusal.number != number::TAPE_TOO_LONG {
         lines.push(match tape.get(refusal.place) {
             Some(&code) => format!("{}: byte {code:02X}, {}", offset(refusal.place), code_in_words(code)),
             None => format!("{}: the end of the tape", offset(refusal.place)),
         });
-        lines.push(format!("  expected: {}", expected_code(tape, refusal)));
+        lines.push(format!("  expected: {}", expected_code(tape, machine, refusal)));
     }
     Failure::Refused(lines.join("\n"))
 }
@@ -90,14 +90,14 @@ fn escape_size(code: u8) -> i32 {
     i32::from(!code & 127)
 }
 
-fn expected_code(tape: &[u8], refusal: Refusal) -> String {
+fn expected_code(tape: &[u8], machine: Machine, refusal: Refusal) -> String {
     let words = match refusal.number {
-        number::ILLEGAL_CODE => "any code but 4D, 5F and FF",
+        number::ILLEGAL_CODE => expected_legal_code(machine, tape[refusal.place]),
         number::BEFORE_INITIALIZE => "initialize (40), after nothing but 00",
         number::AFTER_STOP => "nothing but 00, since stop was read",
         number::PARKED => "an escape of 16 (EF), forward, since the carriage is parked",
         number::NO_SIZE => "a size (50 to 5E) before the first flash",
-        number::OUT_OF_RANGE => return expected_motion(tape, refusal.place),
+        number::OUT_OF_RANGE => return expected_motion(tape, machine, refusal.place),
         number::UPPER_HALF => "a flash of at most 45 (2D), or lower half (45) before it",
         number::NO_STOP => "stop (49)",
         number::AFTER_CUT => "initialize (40), after nothing but 00, since a cut was read",
@@ -106,9 +106,20 @@ fn expected_code(tape: &[u8], refusal: Refusal) -> String {
     words.into()
 }
 
+/// Which codes are legal. A tilt that is not may tell that the tape was made for the other machine.
+fn expected_legal_code(machine: Machine, code: u8) -> &'static str {
+    match (machine, code) {
+        (Machine::Eight, _) => "any code but 4D, 5F and FF",
+        (Machine::Four, 0x4E | 0x4F) => {
+            "any code but 4D to 4F, 5F and FF; tilts are codes of the 8-font machine (--machine 8)"
+        }
+        (Machine::Four, _) => "any code but 4D to 4F, 5F and FF",
+    }
+}
+
 /// What a motion has to keep to, and where it would go.
-fn expected_motion(tape: &[u8], place: usize) -> String {
-    let (code, standing) = (tape[place], standing(&tape[..place]));
+fn expected_motion(tape: &[u8], machine: Machine, place: usize) -> String {
+    let (code, standing) = (tape[place], standing(&tape[..place], machine));
     if code >= 0x80 {
         let way = standing.map_or(String::new(), |(carriage, _)| way(carriage, escape_size(code), 3_239));
         format!("an escape that keeps the carriage in 0 to 3,239{way}")
@@ -126,9 +137,9 @@ fn way(from: i32, size: i32, most: i32) -> String {
 
 /// The carriage and the height after the start of a tape: those of one more character, in size 7, read
 /// off the galley of that tape. A parked carriage has to leave the switch first.
-fn standing(start: &[u8]) -> Option<(i32, i32)> {
+fn standing(start: &[u8], machine: Machine) -> Option<(i32, i32)> {
     let ends: [&[u8]; 2] = [&[0x50, 0x45, 0x01, 0x49], &[0x47, 0xEF, 0x50, 0x45, 0x01, 0x49]];
-    let galley = ends.iter().find_map(|end| spatecanter::read_tape(&[start, end].concat()).ok())?;
+    let galley = ends.iter().find_map(|end| spatecanter::read_tape(&[start, end].concat(), machine).ok())?;
     characters(&galley).last().map(|character| (character.x, character.height))
 }
 

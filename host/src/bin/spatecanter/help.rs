@@ -18,6 +18,9 @@ Usage: spatecanter COMMAND ...
   COMMAND --help                        more about a command
   --version                             the version
 
+Machines. A tape does not say whether its machine had 4 or 8 fonts: read, reprint and plot
+take --machine 4 or --machine 8. Without it the machine has 8.
+
 Files. - is standard input or standard output. Without -o the output is named after the
 input, with .galley, .dvi, .sheet or .svg for its extension; if the input is standard input,
 the output is standard output. An output file is written whole or not at all, never in place
@@ -31,14 +34,21 @@ pub const READ: &str = "\
 Reads a C/A/T tape and writes its galley: every character with its place, font and size, and
 every cut between pages.
 
-Usage: spatecanter read TAPE [-o GALLEY]
+Usage: spatecanter read TAPE [--machine 4|8] [-o GALLEY]
+
+The machine that the tape was made for has 4 or 8 fonts; without --machine, 8. The tape does
+not say which. Rail and mag choose the font, on the 8-font machine with tilt, up or down:
+  lower rail, lower mag   1 of 4, 1 or 2 of 8
+  upper rail, lower mag   2 of 4, 3 or 4 of 8
+  lower rail, upper mag   3 of 4, 5 or 6 of 8
+  upper rail, upper mag   4 of 4, 7 or 8 of 8
 
 A tape has at most 1,048,576 bytes. If it is refused, standard error tells the number, the
 place, the byte there and its offset in hexadecimal, and what was expected.
 
 Numbers, at the place of the byte unless another is said:
    1  the tape is longer than that; at 0
-   2  illegal code (4D, 5F, FF)
+   2  illegal code (4D, 5F, FF; on the 4-font machine also the tilts, 4E and 4F)
    3  a code other than 00 before the first initialize
    4  a code other than 00 after stop
    5  while parked, a flash or an escape other than 16 forward
@@ -124,26 +134,28 @@ The text goes to standard output.
 pub const REPRINT: &str = "\
 Takes a tape all the way: NAME.tape to NAME.galley, NAME.dvi and NAME.sheet in a folder.
 
-Usage: spatecanter reprint TAPE -d FOLDER
+Usage: spatecanter reprint TAPE [--machine 4|8] -d FOLDER
 
 Prints a summary: characters, pages, fonts, and how many characters are in font 1 and in
-font 2, since measured and estimated values differ in nothing else. The folder is made if it
-is missing. All three files are written or none. From standard input they are tape.galley,
-tape.dvi and tape.sheet.
+font 2, since measured and estimated values differ in nothing else. These two differ by tilt
+on the 8-font machine, by rail on the 4-font machine. The folder is made if it is missing.
+All three files are written or none. From standard input they are tape.galley, tape.dvi and
+tape.sheet.
 
-Refusals are those of read.
+--machine and refusals are those of read.
 ";
 
 pub const PLOT: &str = "\
 Draws the pages below one another as an SVG picture: a small mark for each character at its
 place, without letter shapes.
 
-Usage: spatecanter plot TAPE|GALLEY [--page N] [-o SVG]
+Usage: spatecanter plot TAPE|GALLEY [--machine 4|8] [--page N] [-o SVG]
 
 Font 1 is blue and upright, font 2 orange and slanted, other fonts grey; marks of double
 sizes are larger. The legend tells how many there are. A file that begins with byte 01, 02 or
 06 is read as a galley, any other as a tape; no tape and no galley is taken for the other.
-Refusals are those of read and check.
+--machine is that of read; a galley has its fonts already, whatever it says. Refusals are
+those of read and check.
 
 With --page only that page is drawn, counted from 1. Without -o the picture of page.tape is
 page.svg.

@@ -3,18 +3,20 @@
 use super::damaged;
 use spatecanter::sample::Random;
 
-/// A tape of any kind: valid, damaged, with a bad cut, of likely codes, or of any bytes.
-pub fn tape(random: &mut Random) -> Vec<u8> {
-    match random.below(11) {
+/// A tape of any kind for the machine with so many fonts, 4 or 8: valid, damaged, with a bad cut or a tilt, of
+/// likely codes, or of any bytes.
+pub fn tape(random: &mut Random, fonts: u32) -> Vec<u8> {
+    match random.below(12) {
         0 => {
             let length = random.below(30);
             random.bytes(length)
         }
         1 | 2 => likely_codes(random),
-        3..=5 => valid_tape(random),
-        6 => with_a_cut(random),
+        3..=5 => valid_tape(random, fonts),
+        6 => with_a_cut(random, fonts),
+        7 => with_a_tilt(random, fonts),
         _ => {
-            let tape = valid_tape(random);
+            let tape = valid_tape(random, fonts);
             damaged(random, tape)
         }
     }
@@ -37,15 +39,15 @@ fn likely_codes(random: &mut Random) -> Vec<u8> {
 
 /// A valid tape with a cut put in anywhere: before initialize, after a cut, after stop. Some 00 and mostly
 /// another code than initialize come after it, or the end.
-fn with_a_cut(random: &mut Random) -> Vec<u8> {
-    let mut tape = valid_tape(random);
+fn with_a_cut(random: &mut Random, fonts: u32) -> Vec<u8> {
+    let mut tape = valid_tape(random, fonts);
     let rest = tape.split_off(random.below(tape.len() + 1));
     tape.push(0x4B);
     tape.extend(vec![0; random.pick(&[0, 0, 1, 3])]);
     match random.below(8) {
         0 => return tape,
         1 => tape.push(0x4B),
-        2 => tape.push(random.pick(&[0x4D, 0x5F, 0xFF])),
+        2 => tape.push(random.pick(&[0x4D, 0x4E, 0x4F, 0x5F, 0xFF])),
         3 => tape.push(random.byte()),
         4 => tape.extend([0x40, 0xEF]),
         _ => {}
@@ -54,9 +56,17 @@ fn with_a_cut(random: &mut Random) -> Vec<u8> {
     tape
 }
 
-/// A tape that the machine takes to its end.
-pub fn valid_tape(random: &mut Random) -> Vec<u8> {
-    let mut walk = Walk::default();
+/// A valid tape with a tilt put in anywhere: before initialize, after a cut, after stop.
+fn with_a_tilt(random: &mut Random, fonts: u32) -> Vec<u8> {
+    let mut tape = valid_tape(random, fonts);
+    let place = random.below(tape.len() + 1);
+    tape.insert(place, random.pick(&[0x4E, 0x4F]));
+    tape
+}
+
+/// A tape that the machine with so many fonts takes to its end.
+pub fn valid_tape(random: &mut Random, fonts: u32) -> Vec<u8> {
+    let mut walk = Walk { fonts, ..Walk::default() };
     walk.nothing(random);
     walk.initialize();
     match random.below(60) {
@@ -75,6 +85,7 @@ pub fn valid_tape(random: &mut Random) -> Vec<u8> {
 /// A tape so far, and as much of the machine as decides which codes are taken.
 #[derive(Default)]
 struct Walk {
+    fonts: u32,
     tape: Vec<u8>,
     parked: bool,
     sized: bool,
@@ -139,6 +150,7 @@ impl Walk {
 
     fn mode(&mut self, random: &mut Random) {
         let code = match random.below(3) {
+            0 if self.fonts == 4 => random.pick(&[0x41, 0x42, 0x43, 0x44]),
             0 => random.pick(&[0x41, 0x42, 0x43, 0x44, 0x4E, 0x4F]),
             1 => random.pick(&[0x45, 0x46, 0x47, 0x48, 0x4A, 0x4C]),
             _ => random.between(0x50, 0x5E) as u8,

@@ -4,6 +4,8 @@ use super::galley::{galley_of, Character, Item};
 use super::Refused;
 
 struct Machine {
+    /// 4 or 8.
+    fonts: u32,
     begun: bool,
     /// After a cut, until the next initialize.
     cut: bool,
@@ -20,11 +22,15 @@ struct Machine {
     size_index: Option<i32>,
 }
 
-pub fn read_tape(tape: &[u8]) -> Result<Vec<u8>, Refused> {
+pub fn read_tape(tape: &[u8], fonts: u32) -> Result<Vec<u8>, Refused> {
     if tape.len() > 1_048_576 {
         return Err((1, 0));
     }
+    if fonts != 4 && fonts != 8 {
+        return Err((50, 0));
+    }
     let mut machine = Machine {
+        fonts,
         begun: false,
         cut: false,
         stopped: false,
@@ -63,6 +69,9 @@ impl Machine {
             return Ok(None);
         }
         if matches!(code, 0x4D | 0x5F | 0xFF) {
+            return Err(2);
+        }
+        if self.fonts == 4 && matches!(code, 0x4E | 0x4F) {
             return Err(2);
         }
         if !self.begun && code != 0x40 {
@@ -133,6 +142,14 @@ impl Machine {
     }
 
     fn font(&self) -> i32 {
+        if self.fonts == 4 {
+            return match (self.upper_rail, self.upper_mag) {
+                (false, false) => 1,
+                (true, false) => 2,
+                (false, true) => 3,
+                (true, true) => 4,
+            };
+        }
         match (self.upper_rail, self.upper_mag, self.tilt_down) {
             (false, false, false) => 1,
             (false, false, true) => 2,

@@ -5,6 +5,12 @@ use Rattle.tape.proofs.Codes.{rest-illegal}
 use Rattle.tape.proofs.code.control.Statement.{statement}
 use Rattle.tape.proofs.code.control.Tie as tie
 
+tilt-requires : tie.Need-tilt-requires
+tilt-requires c κs = search needs
+
+tilt-requires-2 : tie.Need-tilt-requires-2
+tilt-requires-2 c κs = search needs
+
 returns : tie.Need-returns
 returns c = search needs
 
@@ -45,18 +51,20 @@ returns-13 : tie.Need-returns-13
 returns-13 c = rw (c .match .keys13)
 
 returns-14 : tie.Need-returns-14
-returns-14 c = rw (c .match .keys14)
+returns-14 c = rw (c .before .match .keys14) (c .tilt .ensures)
 
 returns-15 : tie.Need-returns-15
-returns-15 c = rw (c .match .keys15)
+returns-15 c = rw (c .before .match .keys15) (c .tilt2 .ensures)
 
 returns-16 : tie.Need-returns-16
-returns-16 c = rest-illegal (c .before .args .low) (c .match .rest)
+returns-16 c = rest-illegal (c .before .args .machine) (c .before .args .low) (c .match .rest)
 
 pub control-spec : {M : Type 1} → statement M
 control-spec =
     tie.close
     (tie.spec
+    tilt-requires
+    tilt-requires-2
     returns
     returns-2
     returns-3
