@@ -90,8 +90,8 @@ fn lengths(limit: usize) -> impl Iterator<Item = usize> {
 fn galley_of_length(tape: &[u8], length: usize) -> Vec<u8> {
     let page = spatecanter::read_tape(tape, Machine::Eight).unwrap();
     let fields = &page[..page.len() - 7];
-    let count = (length - 7) / 9;
-    let mut galley: Vec<u8> = fields.iter().copied().cycle().take(9 * count).collect();
+    let count = (length - 7) / 11;
+    let mut galley: Vec<u8> = fields.iter().copied().cycle().take(11 * count).collect();
     galley.extend([2, 0, 4]);
     galley.extend((count as u32).to_be_bytes());
     galley
@@ -121,7 +121,7 @@ fn check_galley(galley: &[u8]) -> Contest<'_> {
 }
 
 fn read_back(galley: &[u8]) -> Contest<'_> {
-    let last = galley.len() / 9 - 1;
+    let last = galley.len() / 11 - 1;
     Contest {
         library: Box::new(move || done(spatecanter::read_back(black_box(galley), last))),
         quick: Box::new(move || done(quick::read_back(black_box(galley), last))),

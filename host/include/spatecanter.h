@@ -20,8 +20,8 @@
  * FORMATS. All numbers have the high byte first.
  *
  *   galley  a run of fields: tag (1 byte), length (2), body.
- *           character  tag 1, length 6: x (2, signed, units of 1/432 inch), height (2, quanta of 1/144
- *                      inch), font number (1), character 1 to 108 (1)
+ *           character  tag 7, length 8: x (2, signed, units of 1/432 inch), height (4, quanta of 1/144
+ *                      inch, 0 to SP_HEIGHT_LIMIT), font number (1), character 1 to 108 (1)
  *           cut        tag 6, length 0: the page ends and the next begins
  *           End        tag 2, length 4: the number of characters, cuts not counted; nothing follows
  *           At most SP_ITEM_LIMIT characters and cuts together.
@@ -51,11 +51,15 @@ extern "C" {
 
 /* The longest inputs that are taken, in bytes. */
 #define SP_TAPE_LIMIT   1048576
-#define SP_GALLEY_LIMIT 9437191
+#define SP_GALLEY_LIMIT 11534343
 #define SP_DVI_LIMIT    33554432
 
 /* The most characters and cuts, together, that a galley holds. */
 #define SP_ITEM_LIMIT   1048576
+
+/* The greatest height of a character, and the greatest that DVI holds. */
+#define SP_HEIGHT_LIMIT     1000000
+#define SP_DVI_HEIGHT_LIMIT 65535
 
 /* answer[0]; after the semicolon, what answer[1] then is. "Offset" counts bytes from 0. */
 enum sp_number {
@@ -69,8 +73,8 @@ enum sp_number {
     SP_AFTER_STOP        = 4,  /* after stop, another code than 00; the byte's offset */
     SP_PARKED            = 5,  /* parked: a flash, or an escape not forward 16; the byte's offset */
     SP_NO_SIZE           = 6,  /* a flash, and no size yet; the byte's offset */
-    SP_OUT_OF_RANGE      = 7,  /* the carriage would leave 0 to 3,239, or the height 0 to 65,535;
-                                  the byte's offset */
+    SP_OUT_OF_RANGE      = 7,  /* the carriage would leave 0 to 3,239, or the height 0 to
+                                  SP_HEIGHT_LIMIT; the byte's offset */
     SP_UPPER_HALF        = 8,  /* a flash above 45 in the upper half; the byte's offset */
     SP_NO_STOP           = 9,  /* the tape ends without stop; the tape's length */
     SP_AFTER_CUT         = 10, /* after a cut (4B), another code than 00 and initialize; the byte's offset.
@@ -101,7 +105,9 @@ enum sp_number {
                                   SP_ITEM_LIMIT; the first one's offset.
                                   Bytes after End; the first one's offset.
                                   No End; the galley's length */
-    SP_DVI_ROOM          = 42  /* DVI buffer too short; the bytes needed */
+    SP_DVI_ROOM          = 42, /* DVI buffer too short; the bytes needed */
+    SP_TOO_HIGH          = 43  /* to DVI: a height over SP_DVI_HEIGHT_LIMIT; the offset of the first such
+                                  character's field */
 };
 
 /*
@@ -115,7 +121,7 @@ enum sp_number {
  *     upper  upper  4        7 and 8
  *
  * Refusals: 1; then 50; then 2 to 10, of which the earliest place decides, and at one place the first of 2,
- * 3, 10, 4, 5, 6, 7, 8, 9; then 12. A galley has at most 9 bytes for each byte of tape, and 7.
+ * 3, 10, 4, 5, 6, 7, 8, 9; then 12. A galley has at most 11 bytes for each byte of tape, and 7.
  */
 void sp_read_tape(const uint8_t *tape, size_t tape_len, uint32_t machine,
                   uint8_t *galley, size_t galley_len,
@@ -138,8 +144,8 @@ void sp_read_back(const uint8_t *galley, size_t galley_len, size_t n,
 
 /*
  * Writes a galley as a DVI file. Its pages are numbered 1, 2, 3, ...: each cut ends a page and starts the
- * next, and an empty page is a page.
- * Refusals: 40; then 41; then 42.
+ * next, and an empty page is a page. DVI holds heights to SP_DVI_HEIGHT_LIMIT only.
+ * Refusals: 40; then 41; then 43; then 42.
  */
 void sp_write_dvi(const uint8_t *galley, size_t galley_len,
                   uint8_t *dvi, size_t dvi_len,
@@ -158,7 +164,7 @@ void sp_read_dvi(const uint8_t *dvi, size_t dvi_len,
 /*
  * Writes a galley as a DVI file and reads that file into a sheet, in one call. The length is the
  * sheet's; the DVI file's is the place that sp_write_dvi gives for a buffer of length 0.
- * Refusals: 40; then 41; then 31; then 42; then 30. A refusal changes neither buffer.
+ * Refusals: 40; then 41; then 43; then 31; then 42; then 30. A refusal changes neither buffer.
  */
 void sp_reprint(const uint8_t *galley, size_t galley_len,
                 const int32_t *widths, size_t widths_len,

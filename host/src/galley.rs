@@ -13,7 +13,7 @@ pub enum Item {
 pub struct Character {
     /// Its place across, in units of 1/432 inch.
     pub x: i32,
-    /// Its place down, in quanta of 1/144 inch.
+    /// Its place down, in quanta of 1/144 inch, 0 to 1,000,000.
     pub height: i32,
     /// 15 x (font - 1) + size index, 0 to 119.
     pub font_number: i32,
@@ -67,17 +67,17 @@ pub fn characters(galley: &[u8]) -> impl Iterator<Item = Character> + '_ {
 fn split(rest: &[u8]) -> Option<(Item, &[u8])> {
     let (header, body) = rest.split_first_chunk()?;
     match header {
-        [1, 0, 6] => body.split_first_chunk().map(|(body, after)| (Item::Character(character(body)), after)),
+        [7, 0, 8] => body.split_first_chunk().map(|(body, after)| (Item::Character(character(body)), after)),
         [6, 0, 0] => Some((Item::Cut, body)),
         _ => None,
     }
 }
 
-fn character(body: &[u8; 6]) -> Character {
-    let [x1, x2, height1, height2, font_number, code] = *body;
+fn character(body: &[u8; 8]) -> Character {
+    let [x1, x2, height @ .., font_number, code] = *body;
     Character {
         x: i16::from_be_bytes([x1, x2]).into(),
-        height: u16::from_be_bytes([height1, height2]).into(),
+        height: i32::from_be_bytes(height),
         font_number: font_number.into(),
         code: code.into(),
     }

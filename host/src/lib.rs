@@ -14,6 +14,7 @@ pub mod sheet;
 pub use machine::Machine;
 pub use operations::{
     check_galley, read_back, read_dvi, read_dvi_into, read_tape, read_tape_into, reprint, reprint_into,
-    write_dvi, write_dvi_into, Reprint, DVI_LIMIT, GALLEY_LIMIT, ITEM_LIMIT, TAPE_LIMIT, WIDTHS_PER_FONT,
+    write_dvi, write_dvi_into, Reprint, DVI_HEIGHT_LIMIT, DVI_LIMIT, GALLEY_LIMIT, HEIGHT_LIMIT, ITEM_LIMIT,
+    TAPE_LIMIT, WIDTHS_PER_FONT,
 };
 pub use refusal::{number, Outcome, Refusal};

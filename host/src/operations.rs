@@ -7,11 +7,15 @@ use crate::refusal::{number, Outcome, Refusal};
 
 /// The longest tape, galley and DVI file that are taken, in bytes.
 pub const TAPE_LIMIT: usize = 1_048_576;
-pub const GALLEY_LIMIT: usize = 9_437_191;
+pub const GALLEY_LIMIT: usize = 11_534_343;
 pub const DVI_LIMIT: usize = 33_554_432;
 
 /// The most characters and cuts, together, that a galley holds.
 pub const ITEM_LIMIT: usize = 1_048_576;
+
+/// The greatest height of a character, and the greatest that DVI holds.
+pub const HEIGHT_LIMIT: i32 = 1_000_000;
+pub const DVI_HEIGHT_LIMIT: i32 = 65_535;
 
 /// Widths in each font of a width table.
 pub const WIDTHS_PER_FONT: usize = 128;
@@ -42,7 +46,7 @@ pub fn read_tape_into(tape: &[u8], machine: Machine, galley: &mut [u8]) -> Outco
 
 /// The galley of a tape of this machine.
 pub fn read_tape(tape: &[u8], machine: Machine) -> Result<Vec<u8>, Refusal> {
-    let enough = 9 * tape.len().min(TAPE_LIMIT) + 7;
+    let enough = 11 * tape.len().min(TAPE_LIMIT) + 7;
     filled(enough, number::GALLEY_ROOM, |galley| read_tape_into(tape, machine, galley))
 }
 
@@ -66,7 +70,8 @@ pub fn read_back(galley: &[u8], n: usize) -> Result<Character, Refusal> {
     outcome(answer).map(|_| Character { x, height, font_number, code })
 }
 
-/// Writes a galley as a DVI file, with a new page for each cut; the length is the file's.
+/// Writes a galley as a DVI file, with a new page for each cut; the length is the file's. A height above
+/// 65,535 is refused.
 pub fn write_dvi_into(galley: &[u8], dvi: &mut [u8]) -> Outcome {
     let mut answer = [0; 3];
     // SAFETY: every pointer comes from a live slice, with its length.
@@ -76,7 +81,7 @@ pub fn write_dvi_into(galley: &[u8], dvi: &mut [u8]) -> Outcome {
     outcome(answer)
 }
 
-/// The DVI file of a galley.
+/// The DVI file of a galley whose heights are at most 65,535.
 pub fn write_dvi(galley: &[u8]) -> Result<Vec<u8>, Refusal> {
     let usual = 36 + galley.len().min(GALLEY_LIMIT);
     filled(usual, number::DVI_ROOM, |dvi| write_dvi_into(galley, dvi))
@@ -129,7 +134,7 @@ pub fn reprint_into(galley: &[u8], widths: &[i32], dvi: &mut [u8], sheet: &mut [
 /// The DVI file and the sheet of a galley.
 pub fn reprint(galley: &[u8], widths: &[i32]) -> Result<Reprint, Refusal> {
     let mut dvi = vec![0; room_for_dvi(galley)?];
-    // A cut's 3 bytes give 7, a character's 9 give 16, and End's 7 the first page and End, 14.
+    // A cut's 3 bytes give 7, a character's 11 give 16, and End's 7 the first page and End, 14.
     let enough = 7 * (galley.len() / 3);
     let sheet = filled(enough, number::SHEET_ROOM, |sheet| reprint_into(galley, widths, &mut dvi, sheet))?;
     Ok(Reprint { dvi, sheet })

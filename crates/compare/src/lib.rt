@@ -2,8 +2,8 @@
 use libc::STDOUT_FILENO;
 use octets::answer::Answer;
 
-// The byte that a buffer holds before a call.
-pub const UNTOUCHED: u8 = 7;
+// The byte that a buffer holds before a call; no field begins with it.
+pub const UNTOUCHED: u8 = 165;
 
 pub fn tell(right: bool) {
     if right {

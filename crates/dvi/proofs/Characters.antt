@@ -1,4 +1,4 @@
--- The commands of a valid character show it at its targets. The pen stands at targets of valid places, so every move between them and
+-- The commands of a valid character of a low height show it at its targets. The pen stands at targets of valid places, so every move between them and
 -- every place fits 32 bits.
 -- Assumes nothing.
 use mathlib.Core.Path.{_≡_, refl}
@@ -9,6 +9,7 @@ use lib.Signed.{_≤ℤ_}
 use mir.Syntax.{w32}
 use mir.Val.{SFits}
 use Rattle.integers.specs.Parts.{integers}
+use Rattle.measure.specs.Place.{lowEnd}
 use Rattle.measure.specs.Target.{xTarget, yTarget}
 use Rattle.measure.specs.TargetLaws.{target-parts, y-parts, x-move-fits, y-move-fits}
 use Rattle.galley_file.specs.declared.character.Character.{Character}
@@ -22,13 +23,13 @@ record Place (x h : ℤ) : Type 0 where
   left : negsuc 54 ≤ℤ x
   right : x ≤ℤ pos 3239
   top : pos 0 ≤ℤ h
-  bottom : h ≤ℤ pos 65535
+  bottom : h ≤ℤ lowEnd
 
-place-of : (c : Character) → Valid c → Place (c .x .0) (c .height .0)
+place-of : (c : Character) → Valid lowEnd c → Place (c .x .0) (c .height .0)
 place-of c v =
     let r = x-range v in
     let h = height-range v in
-    record { left = r .0; right = r .1; top = rw (h .height-is) (omega integers); bottom = rw (h .height-is) (omega (integers, h .below)) }
+    record { left = r .0; right = r .1; top = h .0; bottom = h .1 }
 
 x-fits : {x h : ℤ} → Place x h → SFits w32 (xTarget x)
 x-fits {x} p = omega (integers, p .left, p .right, target-parts x)
@@ -55,12 +56,12 @@ on-new =
       y-is = refl;
     }
 
-pub on-at : (c : Character) → Valid c → OnPage (penAt c)
+pub on-at : (c : Character) → Valid lowEnd c → OnPage (penAt c)
 unfolding penAt
 on-at c v = record { x = c .x .0; h = c .height .0; place = place-of c v; x-is = refl; y-is = refl }
 
 module _ (ws : List ℤ) (last : ℤ) where
-  pub leads-character : (pen : Pen) (c : Character) → OnPage pen → Valid c → Leads ws last pen (commandsOf pen c) (markOf c ∷ []) (penAt c)
+  pub leads-character : (pen : Pen) (c : Character) → OnPage pen → Valid lowEnd c → Leads ws last pen (commandsOf pen c) (markOf c ∷ []) (penAt c)
   unfolding commandsOf markOf penAt
   leads-character pen c o v =
       leads-append ws last (leads-font ws last pen (c .font) (v .font))

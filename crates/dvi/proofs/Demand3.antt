@@ -17,6 +17,7 @@ use Rattle.integers.specs.Parts.{integers}
 use Rattle.octets.specs.Answer.{written, ifRoom, noSheetRoom}
 use Rattle.measure.specs.Target.{xTarget, yTarget}
 use Rattle.measure.specs.TargetLaws.{target-near, target-only, target-injective, y-parts}
+use Rattle.measure.specs.Place.{lowEnd}
 use Rattle.galley_file.specs.declared.character.Character.{Character}
 use Rattle.galley_file.specs.declared.item.Item.{Item}
 use Rattle.galley_file.specs.declared.item.Item.the-variants.{Placed, Cut}
@@ -76,13 +77,13 @@ sheet-size is =
     let a = length-append (markField (pageMark (pos 1))) (markFields (marksOf 1 is)) in
     length-sheet (pageMark (pos 1) ∷ marksOf 1 is) ∙ (omega arith)
 
-pub file-result : (widths : List ℤ) {is : List Item} → length widths % fontChars ≡ 0 → AllValid is → length is ≤ maxItems → (room : ℕ)
+pub file-result : (widths : List ℤ) {is : List Item} → length widths % fontChars ≡ 0 → AllValid lowEnd is → length is ≤ maxItems → (room : ℕ)
     → sheetResult (dviFile is) widths room ≡ ifRoom noSheetRoom room (written (sheet (pageMark (pos 1) ∷ marksOf 1 is)))
 unfolding sheetResult shownResult
 file-result widths {is} w v h room =
     rw (le-ltb maxDvi (length (dviFile is)) (file-fits is h), eq-eqb (length widths % fontChars) 0 w, file-shows widths v h)
 
-pub demand3 : (widths : List ℤ) {is : List Item} → length widths % fontChars ≡ 0 → AllValid is → length is ≤ maxItems → Faithful widths is
+pub demand3 : (widths : List ℤ) {is : List Item} → length widths % fontChars ≡ 0 → AllValid lowEnd is → length is ≤ maxItems → Faithful widths is
 unfolding ifRoom
 demand3 widths {is} w v h =
     record {
@@ -139,7 +140,7 @@ marks-injective n (Cut ∷ is) [] e = cc
 marks-injective n (Cut ∷ is) (Placed d ∷ js) e = cc
 marks-injective n (Cut ∷ is) (Cut ∷ js) e = ap (λ (l : List Item). Cut ∷ l) (marks-injective (suc n) is js (cc))
 
-pub file-injective : {is js : List Item} → AllValid is → AllValid js → length is ≤ maxItems → length js ≤ maxItems → dviFile is ≡ dviFile js → is ≡ js
+pub file-injective : {is js : List Item} → AllValid lowEnd is → AllValid lowEnd js → length is ≤ maxItems → length js ≤ maxItems → dviFile is ≡ dviFile js → is ≡ js
 file-injective {is} {js} v w h k e =
     let s : shows (pageMark (pos 1) ∷ marksOf 1 is) ≡ shows (pageMark (pos 1) ∷ marksOf 1 js) = sym (file-shows [] v h) ∙ ap (readDvi []) e ∙ file-shows [] w k in
     marks-injective 1 is js (cc)
@@ -156,7 +157,7 @@ mark-at (shows-next s r) (suc i) c m e f = mark-at r i c m e f
 mark-at (shows-cut r) zero c m e f = cc
 mark-at (shows-cut r) (suc i) c m e f = mark-at r i c m e f
 
-pub compared : {is js : List Item} {ms ns : List Mark} → AllValid is → AllValid js → length is ≤ maxItems → length js ≤ maxItems → ShowsAll 1 is ms → ShowsAll 1 js ns
+pub compared : {is js : List Item} {ms ns : List Mark} → AllValid lowEnd is → AllValid lowEnd js → length is ≤ maxItems → length js ≤ maxItems → ShowsAll 1 is ms → ShowsAll 1 js ns
     → Compared is js ms ns
 compared v w h k s t =
     record {

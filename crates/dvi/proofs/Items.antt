@@ -13,6 +13,7 @@ use mir.Val.{SFits}
 use Rattle.integers.specs.Parts.{integers, true-eqZ}
 use Rattle.octets.specs.Octets.{bytes, signedBytes}
 use Rattle.octets.specs.OctetsLaws.{signed-first, holds-four}
+use Rattle.measure.specs.Place.{lowEnd}
 use Rattle.galley_file.specs.declared.character.Character.{Character}
 use Rattle.galley_file.specs.declared.item.Item.{Item}
 use Rattle.galley_file.specs.declared.item.Item.the-variants.{Placed, Cut}
@@ -63,7 +64,7 @@ module _ (ws : List ℤ) where
       → Prints ws mid (r .page) cs ns to → Prints ws from p (bs ++ cs) (ms ++ ns) to
   prints-append {from} r e s = record { page = s .page; stands = s .stands; goes = goes-append ws (from .at) (r .goes) (rw (← e) (s .goes)) }
 
-  prints-character : (from : Press) (c : Character) (p : Page) → OnPage (from .pen) → Valid c → Stands (from .pen) p
+  prints-character : (from : Press) (c : Character) (p : Page) → OnPage (from .pen) → Valid lowEnd c → Stands (from .pen) p
       → Prints ws from p (itemBytes from (Placed c)) (markOf c ∷ []) (pressAfter from (Placed c))
   unfolding itemBytes pressAfter
   prints-character from c p o v h =
@@ -81,7 +82,7 @@ module _ (ws : List ℤ) where
             (begin-page (from .at + 1) (suc (from .page)) (pos (from .bop)) (omega (integers, s .page-small)) (omega (integers, s .bop-before, s .at-small)));
       }
 
-  pub prints-items : (from : Press) {is : List Item} → OnPage (from .pen) → Small from (length is) → AllValid is → (p : Page) → Stands (from .pen) p
+  pub prints-items : (from : Press) {is : List Item} → OnPage (from .pen) → Small from (length is) → AllValid lowEnd is → (p : Page) → Stands (from .pen) p
       → Prints ws from p (itemsBytes from is) (marksOf (from .page) is) (pressAll from is)
   unfolding itemsBytes marksOf pressAll pressAfter
   prints-items from o s galley.nil p h = record { page = p; stands = h; goes = goes-nil ws (from .at) (inside (pos (from .bop)) p) }

@@ -9,6 +9,7 @@ use lib.IntN.{ℤ, pos, negsuc}
 use lib.ListN.{length}
 use Rattle.integers.specs.Parts.{integers}
 use Rattle.octets.specs.Octets.{bytes, signedBytes}
+use Rattle.measure.specs.Place.{lowEnd}
 use Rattle.galley_file.specs.declared.character.Character.{Character}
 use Rattle.galley_file.specs.declared.item.Item.{Item}
 use Rattle.galley_file.specs.Item.{charactersOf}
@@ -24,7 +25,7 @@ use Rattle.dvi.proofs.Items.{stands-new, Prints, begin-page, end-page, 
 use Rattle.dvi.proofs.Postambles.{postamble-right}
 
 module _ (ws : List ℤ) where
-  pages-go : {is : List Item} → AllValid is → length is ≤ maxItems
+  pages-go : {is : List Item} → AllValid lowEnd is → length is ≤ maxItems
       → Goes ws 0 (between (negsuc 0)) (pagesBytes is) (pageMark (pos 1) ∷ marksOf 1 is) (between (pos (pressAll firstPress is .bop)))
   unfolding pagesBytes bopBytes signedBytes bytes firstPress
   pages-go {is} v h = whole (prints-items ws firstPress on-new (small-first (length is) h) v newPage stands-new)
@@ -41,7 +42,7 @@ module _ (ws : List ℤ) where
   unfolding run step endFile follow postambleBytes
   end-file at last cs h k = rw (postamble-right at last cs h k)
 
-  pub file-shows : {is : List Item} → AllValid is → length is ≤ maxItems → readDvi ws (dviFile is) ≡ shows (pageMark (pos 1) ∷ marksOf 1 is)
+  pub file-shows : {is : List Item} → AllValid lowEnd is → length is ≤ maxItems → readDvi ws (dviFile is) ≡ shows (pageMark (pos 1) ∷ marksOf 1 is)
   unfolding readDvi dviFile showsFirst
   file-shows {is} v h =
       pages-go v h .goes (postambleBytes last n (charactersOf is))

@@ -1,5 +1,5 @@
--- Demand 3 over lists of items (document 01, "Demand 3 in these terms"; document 02, "Software cuts"): what the file of a list
--- shows, in terms of the characters and cuts alone, clause by clause.
+-- Demand 3 over lists of items (document 01, "Demand 3 in these terms"; document 02, "Software cuts" and "Longer
+-- columns"): what the file of a list shows, in terms of the characters and cuts alone, clause by clause.
 --     ShowsCharacter     a mark shows a character
 --     ShowsAll           marks show characters and cuts, in order, from a page on
 --     markOf             the one mark that shows a character

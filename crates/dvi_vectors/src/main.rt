@@ -55,6 +55,8 @@ fn run_writings() {
     writings::with_fonts();
     line(b"not written");
     writings::not_written();
+    line(b"too high");
+    writings::too_high();
     line(b"cuts");
     writings::cuts();
 }

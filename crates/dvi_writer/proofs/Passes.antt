@@ -14,11 +14,12 @@ use Rattle.octets.specs.Write.{Wrote, wrote-none, then, named}
 use Rattle.galley_file.specs.declared.character.Character.{Character}
 use Rattle.galley_file.specs.declared.item.Item.{Item}
 use Rattle.galley_file.specs.declared.item.Item.the-variants.{Placed, Cut}
-use Rattle.galley_file.specs.Item.{validItem, itemSize, itemAt, charactersOf}
-use Rattle.galley_file.specs.Galley.{maxItems}
+use Rattle.measure.specs.Place.{lowEnd}
+use Rattle.galley_file.specs.Item.{validItem, itemSize, itemAt, WholeAt, charactersOf}
+use Rattle.galley_file.specs.Galley.{maxItems, AllValid, itemsOf}
 use Rattle.galley_file.specs.ItemLaws.{characters-append}
-use Rattle.galley_file.specs.Walk.{Midway, Onward, midway-inside, midway-end, midway-next, midway-room}
-use Rattle.galley_file.specs.Outcome.{checkOutcome}
+use Rattle.galley_file.specs.Walk.{Midway, Onward, midway-inside, midway-end, midway-next, midway-whole}
+use Rattle.galley_file.specs.Low.{lowOutcome}
 use Rattle.dvi.specs.Writer.{xTargetOf, yTargetOf, newPen, commandsOf, bopBytes, Press, firstPress, itemBytes, pressAfter, itemsBytes, pressAll, largest}
 use Rattle.dvi.specs.WriterLaws.{itemsBytes-most, itemsBytes-append, itemsBytes-more, itemsBytes-part, pressAll-more, press-small, largest-more}
 use Rattle.dvi.specs.FontMarks.{FontsAre}
@@ -26,11 +27,10 @@ use Rattle.dvi.specs.FontMarksLaws.{fonts-more}
 use Rattle.dvi_writer.specs.declared.pen.Pen.{Pen}
 use Rattle.dvi_writer.specs.declared.press.Press.{Press as CodePress}
 use Rattle.dvi_writer.specs.declared.extents.Extents.{Extents}
-use Rattle.dvi_writer.specs.Result.{itemsOf}
 use Rattle.dvi_writer.specs.Pen.{penOf, OnPage, PenIs, penPast}
 use Rattle.dvi_writer.specs.Press.{pressOf, PressIs}
 use Rattle.dvi_writer.specs.Extents.{Extended, ExtentsAre}
-use Rattle.dvi_writer.proofs.Galleys.{few, within, begun}
+use Rattle.dvi_writer.proofs.Galleys.{begun, low-next}
 
 pub extents-none : (e : Extents) → e .length ≡ 0 → e .x .0 ≡ pos 0 → e .y .0 ≡ pos 0 → FontsAre (e .fonts .low) (e .fonts .high) [] → ExtentsAre e []
 unfolding itemsBytes charactersOf largest
@@ -100,19 +100,19 @@ pub record Measured (g : List ℕ) (at : ℕ) (e : Extents) (last : Pen) : Type 
   pub extents : ExtentsAre e done
   pub pen : PenIs last (pressAll firstPress done .pen)
 
-pub measured-start : (g : List ℕ) (count : ℕ) → accepted count ≡ checkOutcome g → (e : Extents) (p : Pen) → ExtentsAre e [] → PenIs p newPen → Measured g 0 e p
+pub measured-start : (g : List ℕ) (count : ℕ) → accepted count ≡ lowOutcome g → (e : Extents) (p : Pen) → ExtentsAre e [] → PenIs p newPen → Measured g 0 e p
 unfolding pressAll firstPress
 measured-start g count a e p x n = record { done = []; midway = begun g count a; extents = x; pen = n }
 
 module _ (g : List ℕ) (at : ℕ) (e : Extents) (last : Pen) (m : Measured g at e last) where
-  pub measured-room : at + 7 < length g → at + 9 ≤ length g
-  measured-room h = midway-room g (itemsOf g) (m .done) at (m .midway) h
+  pub measured-whole : at + 7 < length g → WholeAt g at
+  measured-whole h = midway-whole g (itemsOf g) (m .done) at (m .midway) h
 
   pub measured-inside : at ≤ length g
   measured-inside = midway-inside g (itemsOf g) (m .done) at (m .midway)
 
-  pub measured-valid : at + 7 < length g → validItem (itemAt g at) ≡ true
-  measured-valid h = midway-next g (itemsOf g) (m .done) at (m .midway) h .is-valid
+  pub measured-low : AllValid lowEnd (itemsOf g) → at + 7 < length g → validItem lowEnd (itemAt g at) ≡ true
+  measured-low v h = low-next g (m .done) at v (m .midway) h
 
   pub measured-size : at + 7 < length g → at + itemSize (itemAt g at) + 7 ≤ length g
   measured-size h = midway-next g (itemsOf g) (m .done) at (m .midway) h .room
@@ -150,15 +150,15 @@ pub record Printed (g : List ℕ) (at : ℕ) (first out : List ℕ) (p : CodePre
   pub wrote : Wrote first 9 (itemsBytes firstPress done) out (p .at)
   pub press : PressIs p (pressAll firstPress done)
 
-pub printed-start : (g : List ℕ) (count : ℕ) → accepted count ≡ checkOutcome g → (first : List ℕ) (p : CodePress) → PressIs p firstPress → Printed g 0 first first p
+pub printed-start : (g : List ℕ) (count : ℕ) → accepted count ≡ lowOutcome g → (first : List ℕ) (p : CodePress) → PressIs p firstPress → Printed g 0 first first p
 unfolding pressAll itemsBytes pressOf firstPress
 printed-start g count a first p n =
     let e : p .at ≡ 9 = ap (λ (q : Press). q .at) (n .press-is) in
     record { done = []; midway = begun g count a; same = refl; wrote = rw e (wrote-none first 9); press = n }
 
 module _ (g : List ℕ) (at : ℕ) (first out : List ℕ) (p : CodePress) (m : Printed g at first out p) where
-  pub printed-room : at + 7 < length g → at + 9 ≤ length g
-  printed-room h = midway-room g (itemsOf g) (m .done) at (m .midway) h
+  pub printed-whole : at + 7 < length g → WholeAt g at
+  printed-whole h = midway-whole g (itemsOf g) (m .done) at (m .midway) h
 
   pub printed-inside : at ≤ length g
   printed-inside = midway-inside g (itemsOf g) (m .done) at (m .midway)
@@ -167,10 +167,10 @@ module _ (g : List ℕ) (at : ℕ) (first out : List ℕ) (p : CodePress) (m : P
   printed-size h = midway-next g (itemsOf g) (m .done) at (m .midway) h .room
 
   -- what writing one item more asks
-  pub printed-asks : at + 7 < length g → length (itemsOf g) ≤ maxItems → 9 + length (itemsBytes firstPress (itemsOf g)) ≤ length first → (i : Item) → i ≡ itemAt g at
-      → ((p .at + length (itemBytes (pressOf p) i) ≤ length out) × ((p .at < 2147483648) × (p .bop < 2147483648))) × ((p .page < 4294967295) × (OnPage (penOf (p .pen)) × (validItem i ≡ true)))
+  pub printed-asks : at + 7 < length g → AllValid lowEnd (itemsOf g) → length (itemsOf g) ≤ maxItems → 9 + length (itemsBytes firstPress (itemsOf g)) ≤ length first → (i : Item) → i ≡ itemAt g at
+      → ((p .at + length (itemBytes (pressOf p) i) ≤ length out) × ((p .at < 2147483648) × (p .bop < 2147483648))) × ((p .page < 4294967295) × (OnPage (penOf (p .pen)) × (validItem lowEnd i ≡ true)))
   unfolding pressOf
-  printed-asks h f room i q =
+  printed-asks h v f room i q =
       let d = m .done in
       let n = subst (Onward g (itemsOf g) d at) (sym q) (midway-next g (itemsOf g) d at (m .midway) h) in
       let all = n .next .all in
@@ -195,7 +195,7 @@ module _ (g : List ℕ) (at : ℕ) (first out : List ℕ) (p : CodePress) (m : P
           ),
           (omega (arith, place, small .at-small), omega (arith, bop, place, small .bop-before, small .at-small)),
         ),
-        (omega (arith, page, small .page-small), (m .press .on-page, n .is-valid)),
+        (omega (arith, page, small .page-small), (m .press .on-page, ap (validItem lowEnd) q ∙ low-next g d at v (m .midway) h)),
       )
 
   pub printed-next : at + 7 < length g → (i : Item) → i ≡ itemAt g at → (later : List ℕ) (r : CodePress) → length later ≡ length out

@@ -13,6 +13,7 @@ use lib.Signed.{_≤ℤ_}
 use mir.Syntax.{w32}
 use mir.Val.{SFits}
 use Rattle.integers.specs.Parts.{integers, dif-parts}
+use Rattle.measure.specs.Place.{lowEnd}
 use Rattle.measure.specs.TargetLaws.{target-least, target-greatest, y-parts}
 use Rattle.galley_file.specs.declared.character.Character.{Character}
 use Rattle.galley_file.specs.declared.item.Item.{Item}
@@ -49,12 +50,12 @@ pen-start p f x y = record {
   pen-is = rw (f, x, y);
 }
 
-module _ (c : Character) (v : valid c ≡ true) where
+module _ (c : Character) (v : valid lowEnd c ≡ true) where
   pub x-between : (negsuc 54 ≤ℤ c .x .0) × (c .x .0 ≤ℤ pos 3239)
   x-between = x-range (valid-parts v)
 
-  pub y-between : (pos 0 ≤ℤ c .height .0) × (c .height .0 ≤ℤ pos 65535)
-  y-between = let h = height-range (valid-parts v) in rw (h .height-is) (omega (integers, h .below), omega (integers, h .below))
+  pub y-between : (pos 0 ≤ℤ c .height .0) × (c .height .0 ≤ℤ lowEnd)
+  y-between = height-range (valid-parts v)
 
   pub font-valid : c .font < 120
   font-valid = valid-parts v .font

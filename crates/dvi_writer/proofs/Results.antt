@@ -1,31 +1,28 @@
 -- The whole file, and the result of a call.
 -- Assumes nothing.
 use mathlib.Core.Path.{_≡_, sym, ap, _∙_}
-use mathlib.Core.Bool.{Bool, true, false, cond}
 use mathlib.Core.List.{List}
 use Prim.Native.Nat.{ℕ, _+_, _*_, _≤_, _<_}
 use native.Mathlib.Nat.{zero-add}
 use native.Mathlib.Omega.{arith}
-use borrow.Author.Tests.{le-ltb}
 use lib.Count.{ones}
-use lib.Dec.{ltb}
 use lib.ListN.{length, length-append}
 use lib.Seq.{sets}
-use Rattle.octets.specs.Answer.{accepted, refused, refusal, written, outcome, after, ifRoom, galleyTooLong, noDviRoom}
+use Rattle.octets.specs.Answer.{accepted, refused, refusal, written, outcome, after, ifRoom, noDviRoom}
 use Rattle.octets.specs.AnswerLaws.{room-short, room-enough}
 use Rattle.octets.specs.Write.{Wrote, then, named, sets-start}
 use Rattle.galley_file.specs.declared.item.Item.{Item}
 use Rattle.galley_file.specs.Item.{charactersOf}
-use Rattle.galley_file.specs.Galley.{maxGalley, Reading, whole, malformed, readGalley}
-use Rattle.galley_file.specs.Outcome.{countOutcome, checkOutcome}
+use Rattle.galley_file.specs.Galley.{itemsOf}
+use Rattle.galley_file.specs.Low.{lowOutcome}
+use Rattle.galley_file.specs.LowLaws.{low-made, low-refused}
 use Rattle.dvi.specs.Writer.{firstPress, pressAll, pagesBytes, postambleBytes, dviFile}
 use Rattle.dvi.specs.WriterLaws.{length-file}
 use Rattle.dvi.specs.FontMarksLaws.{fonts-count}
 use Rattle.dvi_writer.specs.declared.extents.Extents.{Extents}
-use Rattle.dvi_writer.specs.Result.{fileResult, dviResult, itemsOf, checkedResult}
+use Rattle.dvi_writer.specs.Result.{dviResult}
 use Rattle.dvi_writer.specs.Extents.{ExtentsAre}
 use Rattle.dvi_writer.specs.Postamble.{postambleOf}
-use Rattle.dvi_writer.proofs.Galleys.{read-as, within}
 use Rattle.dvi_writer.proofs.Postambles.{post-is}
 
 -- ---- the file
@@ -51,38 +48,27 @@ module _ (e : Extents) (is : List Item) (a : ExtentsAre e is) where
     unfolding dviFile
     file-is o₂ r w = then pages (named post-bytes w) .buffer-is
 
--- ---- room
+-- ---- the call
 
-module _ (g out : List ℕ) (need : ℕ) (e : need ≡ length (dviFile (itemsOf g))) where
-  pub no-room : length out < need → checkedResult g (length out) ≡ refusal noDviRoom need
-  unfolding checkedResult
-  no-room h = room-short noDviRoom (length out) (dviFile (itemsOf g)) (omega arith) ∙ ap (refusal noDviRoom) (sym e)
+-- what the check refuses is refused
+pub check-refused : (g : List ℕ) (room n place : ℕ) → refused n place ≡ lowOutcome g → dviResult g room ≡ refusal n place
+unfolding dviResult ifRoom
+check-refused g room n place e = ap (ifRoom noDviRoom room) (sym (low-refused dviFile g n place e))
 
-  enough : need ≤ length out → checkedResult g (length out) ≡ written (dviFile (itemsOf g))
-  unfolding checkedResult
-  enough h = room-enough noDviRoom (length out) (dviFile (itemsOf g)) (omega arith)
+module _ (g out : List ℕ) (count : ℕ) (a : accepted count ≡ lowOutcome g) (need : ℕ) (e : need ≡ length (dviFile (itemsOf g))) where
+  made : dviResult g (length out) ≡ ifRoom noDviRoom (length out) (written (dviFile (itemsOf g)))
+  unfolding dviResult
+  made = ap (ifRoom noDviRoom (length out)) (low-made dviFile g count a)
+
+  pub no-room : length out < need → dviResult g (length out) ≡ refusal noDviRoom need
+  no-room h = made ∙ room-short noDviRoom (length out) (dviFile (itemsOf g)) (omega arith) ∙ ap (refusal noDviRoom) (sym e)
+
+  enough : need ≤ length out → dviResult g (length out) ≡ written (dviFile (itemsOf g))
+  enough h = made ∙ room-enough noDviRoom (length out) (dviFile (itemsOf g)) (omega arith)
 
   pub with-room : need ≤ length out → (o : List ℕ) → o ≡ sets out 0 (dviFile (itemsOf g))
-      → (accepted need ≡ outcome (checkedResult g (length out))) × (o ≡ after out (checkedResult g (length out)))
+      → (accepted need ≡ outcome (dviResult g (length out))) × (o ≡ after out (dviResult g (length out)))
   with-room h o q = (
     ap accepted e ∙ sym (ap outcome (enough h)),
     q ∙ sets-start out (dviFile (itemsOf g)) (omega arith) ∙ sym (ap (after out) (enough h)),
   )
-
--- ---- the call
-
-module _ (g : List ℕ) (room : ℕ) where
-  -- what the check refuses is refused
-  pub check-refused : (n place : ℕ) → refused n place ≡ checkOutcome g → dviResult g room ≡ refusal n place
-  unfolding checkOutcome dviResult ifRoom
-  check-refused n place = go (ltb maxGalley (length g)) (readGalley g)
-    where
-      go : (t : Bool) (r : Reading) → refused n place ≡ cond t (refused galleyTooLong 0) (countOutcome 0 r) → cond t (refusal galleyTooLong 0) (ifRoom noDviRoom room (fileResult r)) ≡ refusal n place
-      go true r e = cc
-      go false (whole is) e = let z : _≡_ {A = ℕ} 0 1 = cc in absurd (omega arith)
-      go false (malformed q) e = cc
-
-  pub check-accepted : (count : ℕ) → accepted count ≡ checkOutcome g → dviResult g room ≡ checkedResult g room
-  unfolding dviResult checkedResult
-  check-accepted count e =
-      rw (le-ltb maxGalley (length g) (within g count e)) (ap (λ (r : Reading). ifRoom noDviRoom room (fileResult r)) (read-as g count e))

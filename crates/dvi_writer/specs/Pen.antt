@@ -4,7 +4,7 @@
 --     OnPage       a pen is at a place that a character can have, or at the page's start
 --     PenIs        a pen of the code is this one, and on the page
 --     penPast      the pen after an item
---     PenAt        a pen of the code is that after a valid character
+--     PenAt        a pen of the code is that after a valid character of a low height
 use mathlib.Core.Path.{_≡_}
 use mathlib.Core.Bool.{true, cond}
 use mathlib.Core.Option.{Option, none, some}
@@ -12,6 +12,7 @@ use Prim.Native.Nat.{ℕ}
 use lib.Dec.{eqb}
 use lib.IntN.{pos, negsuc}
 use lib.Signed.{_≤ℤ_}
+use Rattle.measure.specs.Place.{lowEnd}
 use Rattle.galley_file.specs.declared.character.Character.{Character}
 use Rattle.galley_file.specs.declared.item.Item.{Item}
 use Rattle.galley_file.specs.declared.item.Item.the-variants.{Placed, Cut}
@@ -43,5 +44,5 @@ penPast (Placed c) = W.penAt c
 penPast Cut = W.newPen
 
 pub record PenAt (p : Pen) (c : Character) : Type 0 where
-  pub is-valid : valid c ≡ true
+  pub is-valid : valid lowEnd c ≡ true
   pub pen-is : penOf p ≡ W.penAt c

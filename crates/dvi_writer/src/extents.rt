@@ -16,11 +16,12 @@ ghost use mathlib.Core.List.{List, [], _∷_, _++_};
 ghost use Prim.Native.Nat.{_≤_, _<_};
 ghost use lib.ListN.{length};
 ghost use Rattle.octets.specs.Answer.{accepted};
+ghost use Rattle.measure.specs.Place.{lowEnd};
 ghost use Rattle.galley_file.specs.declared.item.Item.{Item as ItemOf};
 ghost use Rattle.galley_file.specs.Item.{validItem};
-ghost use Rattle.galley_file.specs.Outcome.{checkOutcome};
+ghost use Rattle.galley_file.specs.Galley.{itemsOf};
+ghost use Rattle.galley_file.specs.Low.{lowOutcome};
 ghost use Rattle.dvi.specs.Writer.{fontChange, move, commandsOf, firstPress, pressAll};
-ghost use Rattle.dvi_writer.specs.Result.{itemsOf};
 ghost use Rattle.dvi_writer.specs.Pen.{fontIn, penOf, OnPage, PenIs, penPast, PenAt};
 ghost use Rattle.dvi_writer.specs.Extents.{Extended, ExtentsAre};
 
@@ -103,7 +104,7 @@ fn with_character(e: Extents, last: Pen, next: Pen, c: Character) -> Extents
 
 // The extents with one item more: a cut has only its length.
 fn with_item(e: Extents, last: Pen, next: Pen, i: Item) -> Extents
-    requires { ⌜ ((e .length ≤ 33554432) × (validItem i ≡ true)) × (OnPage (penOf last) × PenIs next (penPast i)) ⌝ }
+    requires { ⌜ ((e .length ≤ 33554432) × (validItem lowEnd i ≡ true)) × (OnPage (penOf last) × PenIs next (penPast i)) ⌝ }
     ensures { λ r. ⌜ ((is : List ItemOf) → ExtentsAre e is → pressAll firstPress is .pen ≡ penOf last → ExtentsAre r (is ++ (i ∷ []))) ⌝ }
 {
     match i {
@@ -118,7 +119,7 @@ fn with_item(e: Extents, last: Pen, next: Pen, i: Item) -> Extents
 
 // The extents of the items of a checked galley.
 pub fn extents_of(g: &[u8], count: usize) -> Extents
-    requires { ⌜ accepted count ≡ checkOutcome (now g) ⌝ }
+    requires { ⌜ accepted count ≡ lowOutcome (now g) ⌝ }
     ensures { λ r. ⌜ ExtentsAre r (itemsOf (now (g .entry))) ⌝ }
 {
     let mut e = none();

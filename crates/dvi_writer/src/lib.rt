@@ -14,9 +14,10 @@ ghost use Prim.Native.Nat.{_≤_};
 ghost use lib.ListN.{length};
 ghost use lib.Seq.{sets};
 ghost use Rattle.octets.specs.Answer.{accepted, outcomeOf, outcome, after};
-ghost use Rattle.galley_file.specs.Outcome.{checkOutcome};
+ghost use Rattle.galley_file.specs.Galley.{itemsOf};
+ghost use Rattle.galley_file.specs.Low.{lowOutcome};
 ghost use Rattle.dvi.specs.Writer.{dviFile};
-ghost use Rattle.dvi_writer.specs.Result.{itemsOf, checkedResult, dviResult};
+ghost use Rattle.dvi_writer.specs.Result.{dviResult};
 ghost use Rattle.dvi_writer.specs.Extents.{ExtentsAre};
 
 // The bytes of a file without items and without definitions.
@@ -24,7 +25,7 @@ const FRAME: usize = page::FRAME + postamble::FRAME;
 
 // Writes the file of a checked galley, for which there is room: the pages and the postamble.
 fn put_file(g: &[u8], count: usize, e: Extents, out: &mut [u8])
-    requires { ⌜ (accepted count ≡ checkOutcome (now g)) × (ExtentsAre e (itemsOf (now g)) × (length (dviFile (itemsOf (now g))) ≤ length (now out))) ⌝ }
+    requires { ⌜ (accepted count ≡ lowOutcome (now g)) × (ExtentsAre e (itemsOf (now g)) × (length (dviFile (itemsOf (now g))) ≤ length (now out))) ⌝ }
     ensures { λ _. ⌜ now (out .exit) ≡ sets (now (out .entry)) 0 (dviFile (itemsOf (now (g .entry)))) ⌝ }
 {
     let p = page::put_pages(g, count, out);
@@ -33,8 +34,8 @@ fn put_file(g: &[u8], count: usize, e: Extents, out: &mut [u8])
 
 // Writes the file of a checked galley, if there is room.
 fn write_checked(g: &[u8], count: usize, out: &mut [u8]) -> Answer
-    requires { ⌜ accepted count ≡ checkOutcome (now g) ⌝ }
-    ensures { λ r. ⌜ (outcomeOf r ≡ outcome (checkedResult (now (g .entry)) (length (now (out .entry))))) × (now (out .exit) ≡ after (now (out .entry)) (checkedResult (now (g .entry)) (length (now (out .entry))))) ⌝ }
+    requires { ⌜ accepted count ≡ lowOutcome (now g) ⌝ }
+    ensures { λ r. ⌜ (outcomeOf r ≡ outcome (dviResult (now (g .entry)) (length (now (out .entry))))) × (now (out .exit) ≡ after (now (out .entry)) (dviResult (now (g .entry)) (length (now (out .entry))))) ⌝ }
 {
     let e = extents::extents_of(g, count);
     let needed = FRAME + e.length + postamble::DEFINITION * fonts::count(e.fonts);
@@ -49,7 +50,7 @@ fn write_checked(g: &[u8], count: usize, out: &mut [u8]) -> Answer
 pub fn write_dvi(galley: &[u8], dvi: &mut [u8]) -> Answer
     ensures { λ r. ⌜ (outcomeOf r ≡ outcome (dviResult (now (galley .entry)) (length (now (dvi .entry))))) × (now (dvi .exit) ≡ after (now (dvi .entry)) (dviResult (now (galley .entry)) (length (now (dvi .entry))))) ⌝ }
 {
-    let checked = galley_file::check_galley(galley);
+    let checked = galley_file::check_low(galley);
     match checked {
         Answer::Refused(number, place) => Answer::Refused(number, place),
         Answer::Accepted(count) => write_checked(galley, count, dvi),

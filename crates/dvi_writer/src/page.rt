@@ -14,12 +14,13 @@ ghost use mathlib.Core.Bool.{true};
 ghost use Prim.Native.Nat.{_+_, _≤_, _<_};
 ghost use lib.ListN.{length};
 ghost use Rattle.octets.specs.Answer.{accepted};
+ghost use Rattle.measure.specs.Place.{lowEnd};
 ghost use Rattle.octets.specs.Write.{Wrote};
 ghost use Rattle.galley_file.specs.declared.item.Item.the-variants.{Placed, Cut};
 ghost use Rattle.galley_file.specs.Item.{validItem};
-ghost use Rattle.galley_file.specs.Outcome.{checkOutcome};
+ghost use Rattle.galley_file.specs.Galley.{itemsOf};
+ghost use Rattle.galley_file.specs.Low.{lowOutcome};
 ghost use Rattle.dvi.specs.Writer.{newPen, fontChange, move, commandsOf, bopBytes, firstPress, itemBytes, pressAfter, itemsBytes, pressAll, pagesBytes};
-ghost use Rattle.dvi_writer.specs.Result.{itemsOf};
 ghost use Rattle.dvi_writer.specs.Pen.{fontIn, penOf, OnPage, PenIs, PenAt};
 ghost use Rattle.dvi_writer.specs.Press.{pressOf, PressIs};
 
@@ -139,7 +140,7 @@ fn put_cut(out: &mut [u8], p: Press, next: Pen) -> Press
 
 // Writes an item.
 fn put_item(out: &mut [u8], p: Press, i: Item) -> Press
-    requires { ⌜ ((p .at + length (itemBytes (pressOf p) i) ≤ length (now out)) × ((p .at < 2147483648) × (p .bop < 2147483648))) × ((p .page < 4294967295) × (OnPage (penOf (p .pen)) × (validItem i ≡ true))) ⌝ }
+    requires { ⌜ ((p .at + length (itemBytes (pressOf p) i) ≤ length (now out)) × ((p .at < 2147483648) × (p .bop < 2147483648))) × ((p .page < 4294967295) × (OnPage (penOf (p .pen)) × (validItem lowEnd i ≡ true))) ⌝ }
     ensures { λ r. ⌜ (Wrote (now (out .entry)) (p .at) (itemBytes (pressOf p) i) (now (out .exit)) (r .at)) × PressIs r (pressAfter (pressOf p) i) ⌝ }
 {
     let next = pen::pen_after(i);
@@ -151,7 +152,7 @@ fn put_item(out: &mut [u8], p: Press, i: Item) -> Press
 
 // Writes the items of a checked galley after the first BOP.
 fn put_items(g: &[u8], count: usize, out: &mut [u8]) -> Press
-    requires { ⌜ (accepted count ≡ checkOutcome (now g)) × (9 + length (itemsBytes firstPress (itemsOf (now g))) ≤ length (now out)) ⌝ }
+    requires { ⌜ (accepted count ≡ lowOutcome (now g)) × (9 + length (itemsBytes firstPress (itemsOf (now g))) ≤ length (now out)) ⌝ }
     ensures { λ r. ⌜ (Wrote (now (out .entry)) 9 (itemsBytes firstPress (itemsOf (now (g .entry)))) (now (out .exit)) (r .at)) × PressIs r (pressAll firstPress (itemsOf (now (g .entry)))) ⌝ }
 {
     let mut p = press::first_press();
@@ -166,7 +167,7 @@ fn put_items(g: &[u8], count: usize, out: &mut [u8]) -> Press
 
 // Writes the pages of a checked galley; gives the press after the last EOP.
 pub fn put_pages(g: &[u8], count: usize, out: &mut [u8]) -> Press
-    requires { ⌜ (accepted count ≡ checkOutcome (now g)) × (length (pagesBytes (itemsOf (now g))) ≤ length (now out)) ⌝ }
+    requires { ⌜ (accepted count ≡ lowOutcome (now g)) × (length (pagesBytes (itemsOf (now g))) ≤ length (now out)) ⌝ }
     ensures { λ r. ⌜ (Wrote (now (out .entry)) 0 (pagesBytes (itemsOf (now (g .entry)))) (now (out .exit)) (r .at)) × (r .bop ≡ pressAll firstPress (itemsOf (now (g .entry))) .bop) ⌝ }
 {
     put_bop(out, 0, 1, -1);

@@ -4,6 +4,7 @@ use galley_file::item::Item;
 use measure::Rsu;
 ghost use mathlib.Core.Path.{_≡_};
 ghost use mathlib.Core.Bool.{true};
+ghost use Rattle.measure.specs.Place.{lowEnd};
 ghost use Rattle.galley_file.specs.Character.{valid};
 ghost use Rattle.galley_file.specs.Item.{validItem};
 ghost use Rattle.dvi.specs.Writer.{newPen};
@@ -32,7 +33,7 @@ pub fn new_pen() -> Pen
 
 // The pen after c: its font and its targets.
 fn pen_at(c: Character) -> Pen
-    requires { ⌜ valid c ≡ true ⌝ }
+    requires { ⌜ valid lowEnd c ≡ true ⌝ }
     ensures { λ r. ⌜ PenAt r c ⌝ }
 {
     let x = c.x.target();
@@ -46,7 +47,7 @@ fn pen_at(c: Character) -> Pen
 
 // The pen after an item: a cut starts a page.
 pub fn pen_after(i: Item) -> Pen
-    requires { ⌜ validItem i ≡ true ⌝ }
+    requires { ⌜ validItem lowEnd i ≡ true ⌝ }
     ensures { λ r. ⌜ PenIs r (penPast i) ⌝ }
 {
     match i {

@@ -1,5 +1,4 @@
 // Reads a tape on standard input and lists its galley (document 01, "Proof sheet").
-use galley_file::character;
 use galley_file::character::Character;
 use galley_file::font;
 use galley_file::item;
@@ -7,9 +6,11 @@ use galley_file::item::Item;
 use libc::STDIN_FILENO;
 use libc::STDOUT_FILENO;
 use octets::answer::Answer;
+use octets::field;
 ghost use mathlib.Core.Path.{_≡_};
-ghost use Prim.Native.Nat.{_≤_};
 ghost use lib.IntN.{natAbs};
+ghost use Rattle.octets.specs.Answer.{accepted};
+ghost use Rattle.galley_file.specs.Outcome.{checkOutcome};
 
 // The cabinet's 8-font machine.
 const MACHINE: u32 = 8;
@@ -46,34 +47,26 @@ fn write_character(c: Character) {
     io::write_all(STDOUT_FILENO, b"\n");
 }
 
-// A line for a character, or `cut`; how many characters it is.
-fn write_item(i: Item) -> u64
-    ensures { λ r. ⌜ r ≤ 1 ⌝ }
-{
+// A line for a character, or `cut`.
+fn write_item(i: Item) {
     match i {
-        Item::Placed(c) => {
-            write_character(c);
-            1
-        }
+        Item::Placed(c) => write_character(c),
         Item::Cut => {
             io::write_all(STDOUT_FILENO, b"cut\n");
-            0
         }
     }
 }
 
-// The items of an accepted galley: after each comes another, or End.
-fn write_galley(g: &[u8]) {
-    io::write_all(STDOUT_FILENO, b"x y font size char\n");
+// The items of a checked galley: after each comes another, or End.
+fn write_items(g: &[u8], count: usize)
+    requires { ⌜ accepted count ≡ checkOutcome (now g) ⌝ }
+{
     let mut at: usize = 0;
-    let mut count: u64 = 0;
-    while character::FIELD < g.len() - at {
+    while at + field::END_FIELD < g.len() {
         let i = item::item_at(g, at);
-        count += write_item(i);
+        write_item(i);
         at += item::item_size(i);
     }
-    io::print_decimal(STDOUT_FILENO, count);
-    io::write_all(STDOUT_FILENO, b" glyphs\n");
 }
 
 fn write_refusal(number: u8, place: usize) {
@@ -82,6 +75,20 @@ fn write_refusal(number: u8, place: usize) {
     io::write_all(STDOUT_FILENO, b" at ");
     io::print_decimal(STDOUT_FILENO, place as u64);
     io::write_all(STDOUT_FILENO, b"\n");
+}
+
+// A galley that a tape gave: the check accepts it, and counts its characters.
+fn write_galley(g: &[u8]) {
+    let checked = galley_file::check_galley(g);
+    match checked {
+        Answer::Refused(number, place) => write_refusal(number, place),
+        Answer::Accepted(count) => {
+            io::write_all(STDOUT_FILENO, b"x y font size char\n");
+            write_items(g, count);
+            io::print_decimal(STDOUT_FILENO, count as u64);
+            io::write_all(STDOUT_FILENO, b" glyphs\n");
+        }
+    }
 }
 
 // Reads a tape into the lent buffer, and lists it or says why not.
@@ -101,6 +108,6 @@ fn main() {
         return;
     }
     // Room for a character for each byte, and End.
-    let mut galley = [0u8; 18439];
+    let mut galley = [0u8; 22535];
     list(&tape[..n], &mut galley);
 }

@@ -8,16 +8,19 @@ use native.Mathlib.Omega.{arith}
 use borrow.Author.Tests.{lt-ltb, le-ltb}
 use lib.Dec.{ltb, eqb}
 use lib.ListN.{length, getD, length-append}
+use Rattle.measure.specs.Place.{heightEnd}
+use Rattle.octets.specs.Octets.{natAt}
 use Rattle.octets.specs.Answer.{accepted, refused, noCharacter, galleyTooLong}
 use Rattle.galley_file.specs.declared.character.Character.{Character}
 use Rattle.galley_file.specs.declared.item.Item.{Item}
 use Rattle.galley_file.specs.declared.item.Item.the-variants.{Placed, Cut}
-use Rattle.galley_file.specs.Character.{characterAt}
-use Rattle.galley_file.specs.Item.{itemAt, itemSize, tally, charactersOf, cutsOf}
+use Rattle.galley_file.specs.Character.{valid, characterAt}
+use Rattle.galley_file.specs.CharacterLaws.{height-number}
+use Rattle.galley_file.specs.Item.{validItem, itemAt, itemSize, WholeAt, tally, charactersOf, cutsOf}
 use Rattle.galley_file.specs.ItemLaws.{characters-append, count-item}
 use Rattle.galley_file.specs.Galley.{maxGalley, maxItems, Reading, whole, malformed, readGalley}
 use Rattle.galley_file.specs.GalleyLaws.{Checked, checked, reading-length, length-fields}
-use Rattle.galley_file.specs.Walk.{Walk, walk-start, walk-step, Midway, midway-start, midway-end, Onward, midway-next, midway-room}
+use Rattle.galley_file.specs.Walk.{Walk, walk-start, walk-step, Midway, midway-start, midway-end, Onward, midway-next, midway-whole}
 use Rattle.galley_file.specs.Outcome.{countOutcome, checkOutcome, FoundOutcome, found, notFound, pickFound, readBackOutcome, zeros}
 
 -- where the check refuses, so does reading back
@@ -44,7 +47,7 @@ pub back-none : (g : List ℕ) (n count : ℕ) → accepted count ≡ checkOutco
 back-none g n count e h = let c = checked g count e in missing g n (c .items) (c .fits) (c .read) (omega (arith, c .counted))
 
 -- a galley within the limit has few characters
-pub back-few : (g : List ℕ) (count : ℕ) → accepted count ≡ checkOutcome g → 9 * count + 7 ≤ maxGalley
+pub back-few : (g : List ℕ) (count : ℕ) → accepted count ≡ checkOutcome g → 11 * count + 7 ≤ maxGalley
 unfolding readGalley
 back-few g count e =
     let c = checked g count e in
@@ -73,8 +76,8 @@ getD-at (d ∷ cs) c ds zero e = absurd (omega arith)
 getD-at (d ∷ cs) c ds (suc n) e = getD-at cs c ds n (omega arith)
 
 module _ (g : List ℕ) (n left at : ℕ) (p : Passing g n left at) where
-  pub passing-room : at + 7 < length g → at + 9 ≤ length g
-  passing-room h = midway-room g (p .items) (p .done) at (p .midway) h
+  pub passing-whole : at + 7 < length g → WholeAt g at
+  passing-whole h = midway-whole g (p .items) (p .done) at (p .midway) h
 
   -- there is no character n
   pub passing-none : length g ≤ at + 7 → notFound noCharacter 0 ≡ readBackOutcome g n
@@ -115,22 +118,28 @@ module _ (g : List ℕ) (n left at : ℕ) (p : Passing g n left at) where
       let room : n < length (charactersOf (p .items)) = omega (arith, k, ap length all, length-append cs (c ∷ r)) in
       ap found (sym is-there) ∙ picked g n (p .items) (p .fits) (p .read) room
 
--- ---- a galley without cuts: character n stands at byte 9 n
+-- ---- a galley without cuts: character n stands at byte 11 n
+
+-- the character c stands at i
+record Stands (g : List ℕ) (i : ℕ) (c : Character) : Type 0 where
+  item-is : itemAt g i ≡ Placed c
+  room : i + 11 ≤ length g
+  is-valid : valid heightEnd c ≡ true
 
 uncut : (g : List ℕ) (done rest : List Item) (at n : ℕ) → Walk g done rest at → cutsOf rest ≡ 0 → n < length (charactersOf rest)
-    → (itemAt g (at + 9 * n) ≡ Placed (getD (charactersOf rest) n zeros)) × (at + 9 * n + 9 ≤ length g)
+    → Stands g (at + 11 * n) (getD (charactersOf rest) n zeros)
 unfolding charactersOf cutsOf
 uncut g done [] at n w z h = absurd (omega arith)
 uncut g done (Cut ∷ rest) at n w z h = absurd (omega arith)
 uncut g done (Placed c ∷ rest) at zero w z h =
     let s = walk-step g done (Placed c) rest at w in
-    let y : at + 9 * 0 ≡ at = omega arith in
-    (ap (itemAt g) y ∙ s .here, omega (arith, s .room))
+    let y : at + 11 * 0 ≡ at = omega arith in
+    record { item-is = ap (itemAt g) y ∙ s .here; room = omega (arith, s .room); is-valid = s .is-valid }
 uncut g done (Placed c ∷ rest) at (suc n) w z h =
     let s = walk-step g done (Placed c) rest at w in
-    let r = uncut g (done ++ (Placed c ∷ [])) rest (at + 9) n (s .walk) z (omega arith) in
-    let y : at + 9 + 9 * n ≡ at + 9 * suc n = omega arith in
-    (ap (itemAt g) (sym y) ∙ r .0, omega (arith, r .1))
+    let r = uncut g (done ++ (Placed c ∷ [])) rest (at + 11) n (s .walk) z (omega arith) in
+    let y : at + 11 + 11 * n ≡ at + 11 * suc n = omega arith in
+    subst (λ (i : ℕ). Stands g i (getD (charactersOf rest) n zeros)) y r
 
 by-tag : (s : List ℕ) (i : ℕ) (c : Character) → itemAt s i ≡ Placed c → characterAt s i ≡ c
 unfolding itemAt
@@ -140,20 +149,23 @@ by-tag s i c = go (eqb (getD s i 0) 6)
     go true e = let z : _≡_ {A = ℕ} 0 1 = cc in absurd (omega arith)
     go false e = cc
 
-module _ (g : List ℕ) (n count : ℕ) (e : accepted count ≡ checkOutcome g) (short : length g ≡ 9 * count + 7) (h : n < count) where
-  at-nine : (itemAt g (0 + 9 * n) ≡ Placed (getD (charactersOf (checked g count e .items)) n zeros)) × (0 + 9 * n + 9 ≤ length g)
+module _ (g : List ℕ) (n count : ℕ) (e : accepted count ≡ checkOutcome g) (short : length g ≡ 11 * count + 7) (h : n < count) where
+  stands : Stands g (n * 11) (getD (charactersOf (checked g count e .items)) n zeros)
   unfolding readGalley
-  at-nine =
+  stands =
       let c = checked g count e in
       let l = reading-length (c .items) maxItems g 0 0 (c .read) in
-      uncut g [] (c .items) 0 n (walk-start g (c .items) (c .read)) (omega (arith, l, length-fields (c .items), c .counted)) (omega (arith, c .counted))
+      let z : 0 + 11 * n ≡ n * 11 = omega arith in
+      subst (λ (i : ℕ). Stands g i (getD (charactersOf (c .items)) n zeros)) z
+      (uncut g [] (c .items) 0 n (walk-start g (c .items) (c .read)) (omega (arith, l, length-fields (c .items), c .counted)) (omega (arith, c .counted)))
 
-  pub back-room : n * 9 + 9 ≤ length g
-  back-room = omega (arith, at-nine .1)
+  character-is : characterAt g (n * 11) ≡ getD (charactersOf (checked g count e .items)) n zeros
+  character-is = by-tag g (n * 11) (getD (charactersOf (checked g count e .items)) n zeros) (stands .item-is)
 
-  pub back-found : found (characterAt g (n * 9)) ≡ readBackOutcome g n
+  pub back-room : (n * 11 + 11 ≤ length g) × (natAt 4 (n * 11 + 5) g ≤ 1000000)
+  back-room = (stands .room, height-number g (n * 11) (ap (valid heightEnd) character-is ∙ stands .is-valid))
+
+  pub back-found : found (characterAt g (n * 11)) ≡ readBackOutcome g n
   back-found =
       let c = checked g count e in
-      let z : 0 + 9 * n ≡ n * 9 = omega arith in
-      ap found (by-tag g (n * 9) (getD (charactersOf (c .items)) n zeros) (ap (itemAt g) (sym z) ∙ at-nine .0))
-      ∙ picked g n (c .items) (c .fits) (c .read) (omega (arith, c .counted))
+      ap found character-is ∙ picked g n (c .items) (c .fits) (c .read) (omega (arith, c .counted))

@@ -116,12 +116,12 @@ module _ (m : ℕ) (s : List ℕ) where
   pub span-stop : isCharacter s ≡ false → isCut s ≡ false → SpanOf none-span (leading m s)
   span-stop e f = nothing (leading-stop m s (next-no s e f))
 
-  pub span-character : (r : Span) → (m ≡ 0 → ⊥) → isCharacter s ≡ true → SpanOf r (leading (m - 1) (take (length s - 9) (drop 9 s)))
+  pub span-character : (r : Span) → (m ≡ 0 → ⊥) → isCharacter s ≡ true → SpanOf r (leading (m - 1) (take (length s - 11) (drop 11 s)))
       → SpanOf (record { characters = r .characters + 1; cuts = r .cuts }) (leading m s)
   unfolding charactersOf cutsOf
   span-character r h e q =
-      let p = part 9 s in
-      let w : SpanOf r (leading (m - 1) (drop 9 s)) = rw (← p) q in
+      let p = part 11 s in
+      let w : SpanOf r (leading (m - 1) (drop 11 s)) = rw (← p) q in
       rw (leading-more m s (Placed (characterAt s 0)) h (next-character s e))
       (record { characters-are = omega (arith, w .characters-are); cuts-are = w .cuts-are })
 
@@ -156,35 +156,35 @@ module _ (n : ℕ) (s : List ℕ) (b : Block n s) where
   block-items : length (leading n s) ≡ n
   block-items = omega (arith, all-counted (leading n s), b .characters-are, b .cuts-are)
 
-  block-bytes : length (fields (leading n s)) ≡ 9 * n
+  block-bytes : length (fields (leading n s)) ≡ 11 * n
   block-bytes = omega (arith, length-fields (leading n s), b .characters-are, b .cuts-are)
 
-  pub block-fits : 9 * n ≤ length s
+  pub block-fits : 11 * n ≤ length s
   block-fits = omega (arith, block-bytes, leading-fits n s)
 
-  go-on : (r : ℕ) → leading (n + r) s ≡ leading n s ++ leading r (drop (9 * n) s)
+  go-on : (r : ℕ) → leading (n + r) s ≡ leading n s ++ leading r (drop (11 * n) s)
   go-on r = leading-split n s r block-items ∙ ap (λ (k : ℕ). leading n s ++ leading r (drop k s)) block-bytes
 
   -- the items of a block and those after it
-  pub block-span : (m : ℕ) (r : Span) → n ≤ m → SpanOf r (leading (m - n) (take (length s - 9 * n) (drop (9 * n) s))) → SpanOf (record { characters = n + r .characters; cuts = r .cuts }) (leading m s)
+  pub block-span : (m : ℕ) (r : Span) → n ≤ m → SpanOf r (leading (m - n) (take (length s - 11 * n) (drop (11 * n) s))) → SpanOf (record { characters = n + r .characters; cuts = r .cuts }) (leading m s)
   block-span m r h q =
-      let p = part (9 * n) s in
-      let w : SpanOf r (leading (m - n) (drop (9 * n) s)) = rw (← p) q in
+      let p = part (11 * n) s in
+      let w : SpanOf r (leading (m - n) (drop (11 * n) s)) = rw (← p) q in
       let z : n + (m - n) ≡ m = omega arith in
-      let all : leading m s ≡ leading n s ++ leading (m - n) (drop (9 * n) s) = ap (λ (k : ℕ). leading k s) (sym z) ∙ go-on (m - n) in
-      let rest = leading (m - n) (drop (9 * n) s) in
+      let all : leading m s ≡ leading n s ++ leading (m - n) (drop (11 * n) s) = ap (λ (k : ℕ). leading k s) (sym z) ∙ go-on (m - n) in
+      let rest = leading (m - n) (drop (11 * n) s) in
       record {
         characters-are = omega (arith, ap (λ (l : List Item). length (charactersOf l)) all, ap length (characters-append (leading n s) rest), length-append (charactersOf (leading n s)) (charactersOf rest), b .characters-are, w .characters-are);
         cuts-are = omega (arith, ap cutsOf all, cuts-append (leading n s) rest, b .cuts-are, w .cuts-are);
       }
 
   -- one more
-  pub block-next : isCharacter (take (length s - 9 * n) (drop (9 * n) s)) ≡ true → Block (n + 1) s
+  pub block-next : isCharacter (take (length s - 11 * n) (drop (11 * n) s)) ≡ true → Block (n + 1) s
   block-next e =
-      let t = take (length s - 9 * n) (drop (9 * n) s) in
+      let t = take (length s - 11 * n) (drop (11 * n) s) in
       let x : n + 1 - n ≡ 1 = omega arith in
       block-span (n + 1) (record { characters = 1; cuts = 0 }) (omega arith)
-      (rw x (span-character 1 t (record { characters = 0; cuts = 0 }) (λ q. omega arith) e (span-none 0 (take (length t - 9) (drop 9 t)) refl)))
+      (rw x (span-character 1 t (record { characters = 0; cuts = 0 }) (λ q. omega arith) e (span-none 0 (take (length t - 11) (drop 11 t)) refl)))
 
 -- ---- past a run
 
@@ -235,7 +235,7 @@ short =
 
 module _ (r : Span) (m : ℕ) (s : List ℕ) (e : SpanOf r (leading m s)) where
   abbrev start : ℕ
-  start = 9 * r .characters + 3 * r .cuts
+  start = 11 * r .characters + 3 * r .cuts
 
   run-start : start ≡ length (fields (leading m s))
   run-start = omega (arith, length-fields (leading m s), e .characters-are, e .cuts-are)

@@ -1,5 +1,5 @@
--- A galley's characters (document 01, "Galley").
---     valid              a character is valid
+-- A galley's characters (document 01, "Galley"; document 02, "Longer columns").
+--     valid              a character is valid, its height at most so many quanta
 --     characterField     its field
 --     characterAt        the character whose field starts at a place
 --     isCharacter        the bytes start with the whole field of a valid character
@@ -21,28 +21,28 @@ abbrev pub validX : Bool → ℤ → Bool
 validX false x = leZ (pos 0) x && leZ x (pos 3239)
 validX true x = leZ (negsuc 54) x && leZ x (pos 3184)
 
--- font number 0 to 119, character 1 to 108, x by its size, height 0 to 65,535
-unfoldable pub valid : Character → Bool
-valid c =
+-- font number 0 to 119, character 1 to 108, x by its size, height 0 to `top`
+unfoldable pub valid : ℤ → Character → Bool
+valid top c =
     ltb (c .font) 120 && leb 1 (c .code) && leb (c .code) 108 && validX (isDouble (sizeIndex (c .font))) (c .x .0)
-    && within heightEnd (c .height .0)
+    && within top (c .height .0)
 
--- x (2), height (2), font number (1), character (1). Two bytes hold a valid height as it is.
+-- x (2), height (4), font number (1), character (1). Four bytes hold a valid height as it is.
 unfoldable pub characterBody : Character → List ℕ
-characterBody c = signedBytes 2 (c .x .0) ++ (signedBytes 2 (c .height .0) ++ (c .font ∷ c .code ∷ []))
+characterBody c = signedBytes 2 (c .x .0) ++ (signedBytes 4 (c .height .0) ++ (c .font ∷ c .code ∷ []))
 
--- tag 1, length 6
+-- tag 7, length 8
 unfoldable pub characterField : Character → List ℕ
-characterField c = field 1 (characterBody c)
+characterField c = field 7 (characterBody c)
 
 unfoldable pub characterAt : List ℕ → ℕ → Character
 characterAt s i =
     record {
       x = record { 0 = signedAt 2 (i + 3) s };
-      height = record { 0 = pos (natAt 2 (i + 5) s) };
-      font = getD s (i + 7) 0;
-      code = getD s (i + 8) 0;
+      height = record { 0 = pos (natAt 4 (i + 5) s) };
+      font = getD s (i + 9) 0;
+      code = getD s (i + 10) 0;
     }
 
 unfoldable pub isCharacter : List ℕ → Bool
-isCharacter s = startsField 1 6 s && valid (characterAt s 0)
+isCharacter s = startsField 7 8 s && valid heightEnd (characterAt s 0)

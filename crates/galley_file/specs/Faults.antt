@@ -12,6 +12,7 @@ use native.Mathlib.Omega.{arith}
 use borrow.Author.Tests.{eqb-false, ltb-false}
 use lib.Dec.{ltb, eqb}
 use lib.ListN.{length, drop, length-drop, length-append}
+use Rattle.measure.specs.Place.{heightEnd}
 use Rattle.octets.specs.Octets.{Bytes}
 use Rattle.octets.specs.OctetsLaws.{bytes-drop}
 use Rattle.octets.specs.Field.{endField, startsEnd}
@@ -26,7 +27,7 @@ use Rattle.galley_file.specs.Outcome.{countOutcome, checkOutcome}
 
 -- s starts with no field of a valid item
 pub NoItem : List ℕ → Type 0
-NoItem s = (i : Item) (rest : List ℕ) → validItem i ≡ true → s ≡ itemField i ++ rest → ⊥
+NoItem s = (i : Item) (rest : List ℕ) → validItem heightEnd i ≡ true → s ≡ itemField i ++ rest → ⊥
 
 -- s starts with no End that counts n characters
 pub NoEnd : List ℕ → ℕ → Type 0
@@ -39,7 +40,7 @@ At rest at n p = (NoEnd rest n × (p ≡ at)) ⊎ ((b : ℕ) × (l : List ℕ) �
 -- The run s starts at `at` after n characters and may have k items, and its first fault is at p
 pub record Fault (k : ℕ) (s : List ℕ) (at n p : ℕ) : Type 0 where
   pub items : List Item
-  pub valid : AllValid items
+  pub valid : AllValid heightEnd items
   pub rest : List ℕ
   pub bytes : s ≡ fields items ++ rest
   pub next : NoItem rest ⊎ (length items ≡ k)

@@ -1,9 +1,9 @@
--- A whole galley, and what a run of bytes holds when it is read as one (document 01, "Galley"; document 02, "Software cuts").
+-- A whole galley, and what a run of bytes holds when it is read as one (document 01, "Galley"; document 02, "Software cuts" and "Longer columns").
 --     galley         the bytes of a list of items
---     AllValid       each item of a list is valid
+--     AllValid       each item of a list is valid, its height at most so many quanta
 --     Reading        the items that a run of bytes holds, or the place of its first fault
 --     reading        what a run holds that starts at a place, follows so many characters, and may have so many items
---     readGalley     what a whole galley holds
+--     readGalley     what a whole galley holds, and itemsOf the items, none where it is malformed
 --     leading        the items that a run of bytes starts with
 use Prim.Native.Nat.{ℕ, zero, suc, _+_}
 use mathlib.Core.Bool.{Bool, true, cond}
@@ -11,6 +11,7 @@ use mathlib.Core.List.{List, [], _∷_, _++_}
 use mathlib.Core.Option.{Option, none, some}
 use mathlib.Core.Path.{_≡_}
 use lib.Dec.{eqb}
+use lib.IntN.{ℤ}
 use lib.ListN.{length, drop}
 use Rattle.octets.specs.Field.{endField, startsEnd}
 use Rattle.galley_file.specs.declared.item.Item.{Item}
@@ -18,15 +19,15 @@ use Rattle.galley_file.specs.Item.{validItem, itemField, itemSize, nextI
 
 -- the longest galley: 1,048,576 characters
 abbrev pub maxGalley : ℕ
-maxGalley = 9437191
+maxGalley = 11534343
 
 -- the most characters and cuts together
 abbrev pub maxItems : ℕ
 maxItems = 1048576
 
-pub data AllValid : List Item → Type 0 where
-  nil : AllValid []
-  more : {i : Item} {is : List Item} → validItem i ≡ true → AllValid is → AllValid (i ∷ is)
+pub data AllValid (top : ℤ) : List Item → Type 0 where
+  nil : AllValid top []
+  more : {i : Item} {is : List Item} → validItem top i ≡ true → AllValid top is → AllValid top (i ∷ is)
 
 unfoldable pub fields : List Item → List ℕ
 fields [] = []
@@ -60,6 +61,13 @@ reading (suc k) s at n =
 
 unfoldable pub readGalley : List ℕ → Reading
 readGalley g = reading maxItems g 0 0
+
+abbrev pub itemsIn : Reading → List Item
+itemsIn (whole is) = is
+itemsIn (malformed place) = []
+
+unfoldable pub itemsOf : List ℕ → List Item
+itemsOf g = itemsIn (readGalley g)
 
 -- the items that s starts with, at most m
 unfoldable pub leading : ℕ → List ℕ → List Item

@@ -18,6 +18,7 @@ use borrow.Author.Tests.{le-ltb, eqb-true, ltb-false}
 use lib.Dec.{ltb, eqb, lit<}
 use lib.ListN.{length, getD, drop, length-append, length-drop, drop-of-length-le}
 use lib.Seq.{getD-drop, drop-drop}
+use Rattle.measure.specs.Place.{heightEnd}
 use Rattle.octets.specs.Octets.{Bytes, bytes, residue, signedBytes}
 use Rattle.octets.specs.OctetsLaws.{bytes-drop, length-bytes}
 use Rattle.octets.specs.Field.{field, endField, startsField, startsEnd}
@@ -30,7 +31,7 @@ use Rattle.galley_file.specs.Character.{valid, characterBody, characterF
 use Rattle.galley_file.specs.CharacterLaws.{valid-parts}
 use Rattle.galley_file.specs.Item.{cutField, validItem, itemField, itemSize, nextItem, itemAt, tally, charactersOf, cutsOf}
 use Rattle.galley_file.specs.ItemLaws.{length-itemField, drop-itemField, next-none, next-field, Next, next-is, field-next, next-itemAt, count-item, all-counted}
-use Rattle.galley_file.specs.Galley.{maxGalley, maxItems, AllValid, nil, more, fields, galley, Reading, whole, malformed, after, readEnd, reading, readGalley}
+use Rattle.galley_file.specs.Galley.{maxGalley, maxItems, AllValid, nil, more, fields, galley, Reading, whole, malformed, after, readEnd, reading, readGalley, itemsIn, itemsOf}
 use Rattle.galley_file.specs.Outcome.{countOutcome, checkOutcome}
 
 -- ---- how a run of fields is read, field by field
@@ -112,6 +113,17 @@ checked g count e = go (ltb maxGalley (length g)) refl (readGalley g) refl e
         record { items = is; read = q; counted = omega arith; few = reading-few is maxItems g 0 0 q; fits = ltb-false _ _ l }
     go false l (malformed p) q h = let z : _≡_ {A = ℕ} 0 1 = cc in absurd (omega arith)
 
+-- the items of an accepted galley
+pub read-as : (g : List ℕ) (count : ℕ) → accepted count ≡ checkOutcome g → readGalley g ≡ whole (itemsOf g)
+unfolding itemsOf
+read-as g count e = let r = checked g count e .read in r ∙ ap whole (sym (ap itemsIn r))
+
+pub reading-valid : (is : List Item) (k : ℕ) (s : List ℕ) (at n : ℕ) → reading k s at n ≡ whole is → AllValid heightEnd is
+reading-valid [] k s at n e = nil
+reading-valid (i ∷ is) k s at n e =
+    let f = first k s at n i is e in
+    more (next-is s i (f .next) .is-valid) (reading-valid is (f .left) (drop (itemSize i) s) (at + itemSize i) (n + tally i) (f .rest))
+
 -- ---- runs of fields
 
 end-written : (s : List ℕ) (n : ℕ) → Bytes s → length s ≡ 7 → startsEnd n s ≡ true → s ≡ endField n
@@ -130,7 +142,7 @@ end-alone k n at h =
     reading-end k (endField n) at n (end-none n) ∙ rw e
 
 -- a run of fields and its End are read as their items
-pub accept : (is : List Item) (k at n m : ℕ) → AllValid is → length is ≤ k → m ≡ n + length (charactersOf is) → m < 4294967296
+pub accept : (is : List Item) (k at n m : ℕ) → AllValid heightEnd is → length is ≤ k → m ≡ n + length (charactersOf is) → m < 4294967296
     → reading k (fields is ++ endField m) at n ≡ whole is
 unfolding fields charactersOf
 accept [] k at n m nil l e h = let z : m ≡ n = omega arith in rw z (end-alone k n at (omega arith))
@@ -170,26 +182,19 @@ last (suc k) s at n e = go (nextItem s) refl
     go (some j) q = absurd (no-more j (reading k (drop (itemSize j) s) (at + itemSize j) (n + tally j)) (sym (reading-next k s at n j q) ∙ e))
 
 -- bytes that are read as items are their fields and their End
-pub record Decoded (s : List ℕ) (n : ℕ) (is : List Item) : Type 0 where
-  pub bytes : s ≡ fields is ++ endField (n + length (charactersOf is))
-  pub valid : AllValid is
-
-pub decoded : (is : List Item) (k : ℕ) (s : List ℕ) (at n : ℕ) → Bytes s → reading k s at n ≡ whole is → Decoded s n is
+pub decoded : (is : List Item) (k : ℕ) (s : List ℕ) (at n : ℕ) → Bytes s → reading k s at n ≡ whole is → s ≡ fields is ++ endField (n + length (charactersOf is))
 unfolding fields charactersOf
 decoded [] k s at n b e =
     let z : n + 0 ≡ n = omega arith in
     let f = last k s at n e in
-    record { bytes = rw z (end-written s n b (f .long) (f .starts)); valid = nil }
+    rw z (end-written s n b (f .long) (f .starts))
 decoded (i ∷ is) k s at n b e =
     let f = first k s at n i is e in
     let r = decoded is (f .left) (drop (itemSize i) s) (at + itemSize i) (n + tally i) (bytes-drop (itemSize i) s b) (f .rest) in
     let z : n + tally i + length (charactersOf is) ≡ n + length (charactersOf (i ∷ is)) = omega (arith, count-item i is) in
-    record {
-      bytes = field-next s i b (f .next)
-          ∙ ap (λ (l : List ℕ). itemField i ++ l) (r .bytes ∙ ap (λ (t : ℕ). fields is ++ endField t) z)
-          ∙ sym (append-assoc (itemField i) (fields is) (endField (n + length (charactersOf (i ∷ is)))));
-      valid = more (next-is s i (f .next) .is-valid) (r .valid);
-    }
+    field-next s i b (f .next)
+    ∙ ap (λ (l : List ℕ). itemField i ++ l) (r ∙ ap (λ (t : ℕ). fields is ++ endField t) z)
+    ∙ sym (append-assoc (itemField i) (fields is) (endField (n + length (charactersOf (i ∷ is)))))
 
 -- a run is as long as its items' fields and End
 pub reading-length : (is : List Item) (k : ℕ) (s : List ℕ) (at n : ℕ) → reading k s at n ≡ whole is → length s ≡ length (fields is) + 7
@@ -208,8 +213,8 @@ reading-length (i ∷ is) k s at n e =
 
 -- ---- whole galleys
 
--- nine bytes for a character and three for a cut
-pub length-fields : (is : List Item) → length (fields is) ≡ 9 * length (charactersOf is) + 3 * cutsOf is
+-- eleven bytes for a character and three for a cut
+pub length-fields : (is : List Item) → length (fields is) ≡ 11 * length (charactersOf is) + 3 * cutsOf is
 unfolding fields charactersOf cutsOf
 length-fields [] = refl
 length-fields (Placed c ∷ is) = length-append (characterField c) (fields is) ∙ omega (arith, length-fields is, length-itemField (Placed c))
@@ -229,19 +234,19 @@ pub length-galley : (is : List Item) → length (galley is) ≡ length (fields i
 unfolding galley
 length-galley is = let l = length-end (length (charactersOf is)) in length-append (fields is) (endField (length (charactersOf is))) ∙ (omega arith)
 
--- at most nine bytes for each item
-pub fields-few : (is : List Item) → length (fields is) ≤ 9 * length is
+-- at most eleven bytes for each item
+pub fields-few : (is : List Item) → length (fields is) ≤ 11 * length is
 fields-few is = omega (arith, length-fields is, all-counted is)
 
 -- decode (encode is) = is
-pub accepts : (is : List Item) → AllValid is → length is ≤ maxItems → readGalley (galley is) ≡ whole is
+pub accepts : (is : List Item) → AllValid heightEnd is → length is ≤ maxItems → readGalley (galley is) ≡ whole is
 unfolding readGalley galley
 accepts is v h =
     let n = length (charactersOf is) in
     accept is maxItems 0 0 n v h (omega arith) (omega (arith, all-counted is))
 
 -- the check accepts the galley of valid items, and counts their characters
-pub accepts-check : (is : List Item) → AllValid is → length is ≤ maxItems → checkOutcome (galley is) ≡ accepted (length (charactersOf is))
+pub accepts-check : (is : List Item) → AllValid heightEnd is → length is ≤ maxItems → checkOutcome (galley is) ≡ accepted (length (charactersOf is))
 unfolding checkOutcome
 accepts-check is v h =
     let k : length (galley is) ≤ maxGalley = omega (arith, length-galley is, fields-few is) in
@@ -252,7 +257,7 @@ pub record Accepted (g : List ℕ) (count : ℕ) : Type 0 where
   pub items : List Item
   pub read : readGalley g ≡ whole items
   pub bytes : g ≡ galley items
-  pub valid : AllValid items
+  pub valid : AllValid heightEnd items
   pub counted : length (charactersOf items) ≡ count
   pub few : length items ≤ maxItems
 
@@ -261,13 +266,12 @@ pub accepted-is : (g : List ℕ) (count : ℕ) → Bytes g → checkOutcome g �
 unfolding readGalley galley
 accepted-is g count b e =
     let c = checked g count (sym e) in
-    let d = decoded (c .items) maxItems g 0 0 b (c .read) in
     let z : 0 + length (charactersOf (c .items)) ≡ length (charactersOf (c .items)) = omega arith in
     record {
       items = c .items;
       read = c .read;
-      bytes = d .bytes ∙ ap (λ (n : ℕ). fields (c .items) ++ endField n) z;
-      valid = d .valid;
+      bytes = decoded (c .items) maxItems g 0 0 b (c .read) ∙ ap (λ (n : ℕ). fields (c .items) ++ endField n) z;
+      valid = reading-valid (c .items) maxItems g 0 0 (c .read);
       counted = c .counted;
       few = c .few;
     }
@@ -275,11 +279,11 @@ accepted-is g count b e =
 -- two accepted galleys with the same items are the same bytes
 pub same-bytes : (g h : List ℕ) (is : List Item) → Bytes g → Bytes h → readGalley g ≡ whole is → readGalley h ≡ whole is → g ≡ h
 unfolding readGalley
-same-bytes g h is b d e f = decoded is maxItems g 0 0 b e .bytes ∙ sym (decoded is maxItems h 0 0 d f .bytes)
+same-bytes g h is b d e f = decoded is maxItems g 0 0 b e ∙ sym (decoded is maxItems h 0 0 d f)
 
 -- the check accepts exactly the galleys of lists of valid items
 pub accepted-exactly : (g : List ℕ) → Bytes g
-    → ((count : ℕ) × (checkOutcome g ≡ accepted count)) ↔ ((is : List Item) × AllValid is × (length is ≤ maxItems) × (g ≡ galley is))
+    → ((count : ℕ) × (checkOutcome g ≡ accepted count)) ↔ ((is : List Item) × AllValid heightEnd is × (length is ≤ maxItems) × (g ≡ galley is))
 accepted-exactly g b = (
   λ p. let r = accepted-is g (p .0) b (p .1) in (r .items, r .valid, r .few, r .bytes),
   λ p. (length (charactersOf (p .0)), ap checkOutcome (p .3) ∙ accepts-check (p .0) (p .1) (p .2)),
@@ -309,25 +313,25 @@ each-field : (tag : ℕ) (body : List ℕ) → tag < 256 → Each body → Each 
 unfolding field
 each-field tag body h b = byte h (join (each-bytes 2 (length body)) b)
 
-each-character : (c : Character) → valid c ≡ true → Each (characterField c)
+each-character : (c : Character) → valid heightEnd c ≡ true → Each (characterField c)
 unfolding characterField characterBody signedBytes
 each-character c v =
     let p = valid-parts v in
     let f : c .font < 256 = omega (arith, p .font) in
     let k : c .code < 256 = omega (arith, p .last) in
-    each-field 1 (characterBody c) (lit< tt) (join (each-bytes 2 (residue 65536 (c .x .0))) (join (each-bytes 2 (residue 65536 (c .height .0))) (byte f (byte k stop))))
+    each-field 7 (characterBody c) (lit< tt) (join (each-bytes 2 (residue 65536 (c .x .0))) (join (each-bytes 4 (residue 4294967296 (c .height .0))) (byte f (byte k stop))))
 
-each-item : (i : Item) → validItem i ≡ true → Each (itemField i)
+each-item : (i : Item) → validItem heightEnd i ≡ true → Each (itemField i)
 unfolding cutField
 each-item (Placed c) v = each-character c v
 each-item Cut v = each-field 6 [] (lit< tt) stop
 
-each-fields : {is : List Item} → AllValid is → Each (fields is)
+each-fields : {is : List Item} → AllValid heightEnd is → Each (fields is)
 unfolding fields
 each-fields nil = stop
 each-fields (more {i = i} v vs) = join (each-item i v) (each-fields vs)
 
-pub galley-bytes : (is : List Item) → AllValid is → Bytes (galley is)
+pub galley-bytes : (is : List Item) → AllValid heightEnd is → Bytes (galley is)
 unfolding galley endField
 galley-bytes is v =
     let n = length (charactersOf is) in

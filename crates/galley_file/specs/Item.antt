@@ -1,16 +1,21 @@
 -- What a galley lists: characters, and the cuts between pages (document 02, "Software cuts").
 --     cutField       a cut's field
---     validItem      a character is valid; a cut always is
+--     validItem      a character is valid, its height at most so many quanta; a cut always is
 --     itemField      an item's field, and itemSize its bytes
 --     nextItem       the item whose whole field the bytes start with
---     itemAt         the item whose field starts at a place
+--     itemAt         the item whose field starts at a place, and WholeAt that one does
+--     isLow          a DVI file holds the height
 --     charactersOf   the characters of a list of items, and cutsOf the number of its cuts
-use Prim.Native.Nat.{ℕ, _+_}
+use Prim.Native.Nat.{ℕ, _+_, _≤_}
 use mathlib.Core.Bool.{Bool, true, cond}
 use mathlib.Core.List.{List, [], _∷_}
 use mathlib.Core.Option.{Option, none, some}
+use mathlib.Core.Path.{_≡_}
 use lib.Dec.{eqb}
-use lib.ListN.{getD}
+use lib.IntN.{ℤ}
+use lib.ListN.{length, getD}
+use lib.Signed.{leZ}
+use Rattle.measure.specs.Place.{heightEnd, lowEnd}
 use Rattle.octets.specs.Field.{field, startsField}
 use Rattle.galley_file.specs.declared.character.Character.{Character}
 use Rattle.galley_file.specs.declared.item.Item.{Item}
@@ -24,16 +29,16 @@ cutField = field 6 []
 unfoldable pub isCut : List ℕ → Bool
 isCut s = startsField 6 0 s
 
-abbrev pub validItem : Item → Bool
-validItem (Placed c) = valid c
-validItem Cut = true
+abbrev pub validItem : ℤ → Item → Bool
+validItem top (Placed c) = valid top c
+validItem top Cut = true
 
 abbrev pub itemField : Item → List ℕ
 itemField (Placed c) = characterField c
 itemField Cut = cutField
 
 abbrev pub itemSize : Item → ℕ
-itemSize (Placed c) = 9
+itemSize (Placed c) = 11
 itemSize Cut = 3
 
 unfoldable pub nextItem : List ℕ → Option Item
@@ -42,6 +47,16 @@ nextItem s = cond (isCharacter s) (some (Placed (characterAt s 0))) (cond (isCut
 -- by the tag alone
 unfoldable pub itemAt : List ℕ → ℕ → Item
 itemAt s i = cond (eqb (getD s i 0) 6) Cut (Placed (characterAt s i))
+
+-- a DVI file holds a character's height; a cut has none
+abbrev pub isLow : Item → Bool
+isLow (Placed c) = leZ (c .height .0) lowEnd
+isLow Cut = true
+
+-- a whole field starts at i, of a valid item
+pub record WholeAt (s : List ℕ) (i : ℕ) : Type 0 where
+  pub inside : i + itemSize (itemAt s i) ≤ length s
+  pub is-valid : validItem heightEnd (itemAt s i) ≡ true
 
 -- a character counts 1, and a cut 0
 abbrev pub tally : Item → ℕ

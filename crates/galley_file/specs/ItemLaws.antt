@@ -16,6 +16,7 @@ use borrow.Author.Tests.{ne-eqb, eq-eqb}
 use lib.Dec.{leb, eqb}
 use lib.ListN.{length, getD, take, drop, length-append}
 use lib.Seq.{getD-drop, drop-drop}
+use Rattle.measure.specs.Place.{heightEnd}
 use Rattle.octets.specs.Octets.{Bytes, natAt, bytes}
 use Rattle.octets.specs.Field.{field, startsField, endField}
 use Rattle.octets.specs.FieldLaws.{length-field, field-starts, starts, starts-field}
@@ -23,8 +24,8 @@ use Rattle.galley_file.specs.declared.character.Character.{Character}
 use Rattle.galley_file.specs.declared.item.Item.{Item}
 use Rattle.galley_file.specs.declared.item.Item.the-variants.{Placed, Cut}
 use Rattle.galley_file.specs.Character.{valid, characterField, characterAt, isCharacter}
-use Rattle.galley_file.specs.CharacterLaws.{length-characterField, characterAt-field, field-isCharacter, drop-field, read-character, isCharacter-field}
-use Rattle.galley_file.specs.Item.{cutField, isCut, validItem, itemField, itemSize, nextItem, itemAt, tally, charactersOf, cutsOf}
+use Rattle.galley_file.specs.CharacterLaws.{length-characterField, characterAt-field, field-isCharacter, drop-field, height-number, read-character, isCharacter-field}
+use Rattle.galley_file.specs.Item.{cutField, isCut, validItem, itemField, itemSize, nextItem, itemAt, WholeAt, tally, charactersOf, cutsOf}
 
 pub length-itemField : (i : Item) → length (itemField i) ≡ itemSize i
 unfolding cutField field bytes
@@ -35,11 +36,11 @@ pub size-least : (i : Item) → 3 ≤ itemSize i
 size-least (Placed c) = omega arith
 size-least Cut = omega arith
 
-pub size-most : (i : Item) → itemSize i ≤ 9
+pub size-most : (i : Item) → itemSize i ≤ 11
 size-most (Placed c) = omega arith
 size-most Cut = omega arith
 
-pub drop-itemField : (i : Item) → validItem i ≡ true → (rest : List ℕ) → drop (itemSize i) (itemField i ++ rest) ≡ rest
+pub drop-itemField : (i : Item) → validItem heightEnd i ≡ true → (rest : List ℕ) → drop (itemSize i) (itemField i ++ rest) ≡ rest
 unfolding cutField field bytes
 drop-itemField (Placed c) v rest = drop-field c v rest
 drop-itemField Cut v rest = refl
@@ -54,17 +55,17 @@ other-tag tag len s h = rw (ne-eqb _ _ h) (go (leb (3 + len) (length s)))
     go true = refl
     go false = refl
 
-no-character : (s : List ℕ) → (getD s 0 0 ≡ 1 → ⊥) → isCharacter s ≡ false
+no-character : (s : List ℕ) → (getD s 0 0 ≡ 7 → ⊥) → isCharacter s ≡ false
 unfolding isCharacter
-no-character s h = rw (other-tag 1 6 s h)
+no-character s h = rw (other-tag 7 8 s h)
 
-pub next-none : (s : List ℕ) → (getD s 0 0 ≡ 1 → ⊥) → (getD s 0 0 ≡ 6 → ⊥) → nextItem s ≡ none
+pub next-none : (s : List ℕ) → (getD s 0 0 ≡ 7 → ⊥) → (getD s 0 0 ≡ 6 → ⊥) → nextItem s ≡ none
 unfolding nextItem isCut
 next-none s h k = rw (no-character s h, other-tag 6 0 s k)
 
 -- ---- a field, and what it holds
 
-cut-tag : (rest : List ℕ) → getD (cutField ++ rest) 0 0 ≡ 1 → ⊥
+cut-tag : (rest : List ℕ) → getD (cutField ++ rest) 0 0 ≡ 7 → ⊥
 unfolding cutField field
 cut-tag rest e = omega arith
 
@@ -72,13 +73,13 @@ cut-starts : (rest : List ℕ) → startsField 6 0 (cutField ++ rest) ≡ true
 unfolding cutField
 cut-starts rest = field-starts 6 [] rest 0 refl (omega arith)
 
-pub next-field : (i : Item) → validItem i ≡ true → (rest : List ℕ) → nextItem (itemField i ++ rest) ≡ some i
+pub next-field : (i : Item) → validItem heightEnd i ≡ true → (rest : List ℕ) → nextItem (itemField i ++ rest) ≡ some i
 unfolding nextItem isCut
 next-field (Placed c) v rest = rw (field-isCharacter c v rest, characterAt-field c v rest)
 next-field Cut v rest = rw (no-character (cutField ++ rest) (cut-tag rest), cut-starts rest)
 
 pub record Next (s : List ℕ) (i : Item) : Type 0 where
-  pub is-valid : validItem i ≡ true
+  pub is-valid : validItem heightEnd i ≡ true
   pub long : itemSize i ≤ length s
   pub here : itemAt s 0 ≡ i
 
@@ -106,7 +107,7 @@ tag-cut : (s : List ℕ) → isCut s ≡ true → getD s 0 0 ≡ 6
 unfolding isCut
 tag-cut s e = starts e .tag-is
 
-tag-character : (s : List ℕ) → isCharacter s ≡ true → getD s 0 0 ≡ 1
+tag-character : (s : List ℕ) → isCharacter s ≡ true → getD s 0 0 ≡ 7
 tag-character s e = starts (read-character s e .head) .tag-is
 
 pub next-is : (s : List ℕ) (i : Item) → nextItem s ≡ some i → Next s i
@@ -137,6 +138,13 @@ shift s at i = simp (drop-drop, getD-drop, add-assoc)
 
 pub next-itemAt : (s : List ℕ) (at : ℕ) (i : Item) → nextItem (drop at s) ≡ some i → itemAt s at ≡ i
 next-itemAt s at i e = let z : at + 0 ≡ at = omega arith in ap (itemAt s) (sym z) ∙ sym (shift s at 0) ∙ next-is (drop at s) i e .here
+
+-- what reading a character asks: an item of another tag than a cut's is one
+pub whole-character : (s : List ℕ) (i : ℕ) → WholeAt s i → (getD s i 0 ≡ 6 → ⊥) → (i + 11 ≤ length s) × (natAt 4 (i + 5) s ≤ 1000000)
+unfolding itemAt
+whole-character s i w h =
+    let e : itemAt s i ≡ Placed (characterAt s i) = rw (ne-eqb _ _ h) in
+    (omega (arith, w .inside, ap itemSize e), height-number s i (sym (ap (validItem heightEnd) e) ∙ w .is-valid))
 
 -- ---- counting
 

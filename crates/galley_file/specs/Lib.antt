@@ -9,4 +9,6 @@ pub mod Span
 pub mod Outcome
 pub mod GalleyLaws
 pub mod Walk
+pub mod Low
+pub mod LowLaws
 pub mod Faults

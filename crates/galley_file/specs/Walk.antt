@@ -12,8 +12,9 @@ use Prim.Native.Nat.{ℕ, _+_, _≤_, _<_}
 use native.Mathlib.Omega.{arith}
 use lib.ListN.{length, drop, length-append, length-drop}
 use lib.Seq.{drop-drop}
+use Rattle.measure.specs.Place.{heightEnd}
 use Rattle.galley_file.specs.declared.item.Item.{Item}
-use Rattle.galley_file.specs.Item.{validItem, itemField, itemSize, itemAt, tally}
+use Rattle.galley_file.specs.Item.{validItem, itemField, itemSize, itemAt, WholeAt, tally}
 use Rattle.galley_file.specs.ItemLaws.{length-itemField, size-least, next-is, next-itemAt}
 use Rattle.galley_file.specs.Galley.{maxItems, fields, whole, reading, readGalley}
 use Rattle.galley_file.specs.GalleyLaws.{first, last, reading-length, fields-append, fields-one}
@@ -31,7 +32,7 @@ walk-ended g done at w = let l = last (w .left) (drop at g) at (w .before) (w .h
 
 pub record Stepped (g : List ℕ) (done : List Item) (i : Item) (rest : List Item) (at : ℕ) : Type 0 where
   pub here : itemAt g at ≡ i
-  pub is-valid : validItem i ≡ true
+  pub is-valid : validItem heightEnd i ≡ true
   pub room : at + itemSize i + 7 ≤ length g
   pub walk : Walk g (done ++ (i ∷ [])) rest (at + itemSize i)
 
@@ -69,7 +70,7 @@ midway-start g is e = record { rest = is; all = refl; walk = walk-start g is e }
 
 -- the next item is i
 pub record Onward (g : List ℕ) (is done : List Item) (at : ℕ) (i : Item) : Type 0 where
-  pub is-valid : validItem i ≡ true
+  pub is-valid : validItem heightEnd i ≡ true
   pub room : at + itemSize i + 7 ≤ length g
   pub next : Midway g is (done ++ (i ∷ [])) (at + itemSize i)
 
@@ -102,5 +103,6 @@ module _ (g : List ℕ) (is done : List Item) (at : ℕ) (m : Midway g is done a
             next = record { rest = r; all = e ∙ sym (append-assoc done (i ∷ []) r); walk = s .walk };
           })
 
-  pub midway-room : at + 7 < length g → at + 9 ≤ length g
-  midway-room h = omega (arith, midway-next h .room, size-least (itemAt g at))
+  -- what reading it asks
+  pub midway-whole : at + 7 < length g → WholeAt g at
+  midway-whole h = let n = midway-next h in record { inside = omega (arith, n .room); is-valid = n .is-valid }

@@ -1,4 +1,4 @@
-// A galley's characters and their fields (document 01, "Galley").
+// A galley's characters and their fields (document 01, "Galley"; document 02, "Longer columns").
 use measure::Quanta;
 use measure::Units;
 use octets::field;
@@ -8,6 +8,7 @@ ghost use mathlib.Core.Bool.{_&&_};
 ghost use Prim.Native.Nat.{_+_, _≤_};
 ghost use lib.Dec.{leb, ltb};
 ghost use lib.ListN.{length};
+ghost use Rattle.octets.specs.Octets.{natAt};
 ghost use Rattle.octets.specs.Write.{Wrote};
 ghost use Rattle.measure.specs.Place.{heightEnd, within};
 ghost use Rattle.galley_file.specs.Character.{validX, valid, characterField, characterAt, isCharacter};
@@ -21,12 +22,15 @@ pub struct Character {
     pub code: u8,
 }
 
-const TAG: u8 = 1;
+const TAG: u8 = 7;
 
-const LENGTH: u32 = 6;
+const LENGTH: u32 = 8;
 
 // The bytes of a whole field.
-pub const FIELD: usize = 9;
+pub const FIELD: usize = 11;
+
+// Where the height starts in a field.
+const HEIGHT_AT: usize = 5;
 
 const FONTS: u8 = 120;
 
@@ -34,6 +38,9 @@ const LAST_CODE: u8 = 108;
 
 // The last x that is valid in every size.
 const LAST_X: u32 = 3_184;
+
+// The greatest height, as a natural number.
+const LAST_HEIGHT: u32 = 1_000_000;
 
 // Whether x is valid in a single or a double size.
 fn valid_x(double: bool, x: Units) -> bool
@@ -81,7 +88,7 @@ fn valid_beside_x(c: Character, across: bool) -> bool
 }
 
 pub fn is_valid(c: Character) -> bool
-    ensures { λ r. ⌜ r ≡ valid c ⌝ }
+    ensures { λ r. ⌜ r ≡ valid heightEnd c ⌝ }
 {
     valid_beside_x(
         c,
@@ -89,31 +96,43 @@ pub fn is_valid(c: Character) -> bool
     )
 }
 
-// The character whose field starts at i.
+// The character whose field starts at i, of a height in range.
 pub fn character_at(s: &[u8], i: usize) -> Character
-    requires { ⌜ i + 9 ≤ length (now s) ⌝ }
+    requires { ⌜ (i + 11 ≤ length (now s)) × (natAt 4 (i + 5) (now s) ≤ 1000000) ⌝ }
     ensures { λ r. ⌜ r ≡ characterAt (now (s .entry)) i ⌝ }
 {
     let x = number::signed2_at(s, i + 3);
-    let height = number::nat2_at(s, i + 5) as i32;
+    let height = number::nat4_at(s, i + 5) as i32;
     Character {
         x: Units(x),
         height: Quanta(height),
-        font: s[i + 7],
-        code: s[i + 8],
+        font: s[i + 9],
+        code: s[i + 10],
     }
 }
 
-// Whether s starts with the whole field of a valid character. An x of 0 to LAST_X is valid in every size.
+// Whether the character whose field s starts with is valid, of a height in range. An x of 0 to LAST_X is valid in every size.
+fn is_valid_first(s: &[u8]) -> bool
+    requires { ⌜ (11 ≤ length (now s)) × (natAt 4 5 (now s) ≤ 1000000) ⌝ }
+    ensures { λ r. ⌜ r ≡ valid heightEnd (characterAt (now (s .entry)) 0) ⌝ }
+{
+    let c = character_at(s, 0);
+    if number::nat2_at(s, field::HEAD) <= LAST_X {
+        valid_beside_x(c, true)
+    } else {
+        is_valid(c)
+    }
+}
+
+// Whether s starts with the whole field of a valid character.
 pub fn is_character(s: &[u8]) -> bool
     ensures { λ r. ⌜ r ≡ isCharacter (now (s .entry)) ⌝ }
 {
     if field::starts_field(s, TAG, LENGTH) {
-        let c = character_at(s, 0);
-        if number::nat2_at(s, field::HEAD) <= LAST_X {
-            valid_beside_x(c, true)
+        if number::nat4_at(s, HEIGHT_AT) <= LAST_HEIGHT {
+            is_valid_first(s)
         } else {
-            is_valid(c)
+            false
         }
     } else {
         false
@@ -122,12 +141,12 @@ pub fn is_character(s: &[u8]) -> bool
 
 // Writes a character's field; gives the place after it.
 pub fn put_character(out: &mut [u8], at: usize, c: Character) -> usize
-    requires { ⌜ at + 9 ≤ length (now out) ⌝ }
+    requires { ⌜ at + 11 ≤ length (now out) ⌝ }
     ensures { λ r. ⌜ Wrote (now (out .entry)) at (characterField c) (now (out .exit)) r ⌝ }
 {
     let mut to = field::put_head(out, at, TAG, LENGTH);
     to = number::put_signed2(out, to, c.x.0);
-    to = number::put_signed2(out, to, c.height.0);
+    to = number::put_signed4(out, to, c.height.0);
     to = number::put_byte(out, to, c.font);
     number::put_byte(out, to, c.code)
 }

@@ -6,7 +6,7 @@ ghost use mathlib.Core.Path.{_≡_};
 ghost use Prim.Native.Nat.{_+_, _≤_};
 ghost use lib.ListN.{length};
 ghost use Rattle.octets.specs.Write.{Wrote};
-ghost use Rattle.galley_file.specs.Item.{cutField, isCut, itemField, itemSize, itemAt};
+ghost use Rattle.galley_file.specs.Item.{cutField, isCut, itemField, itemSize, itemAt, WholeAt, isLow};
 
 pub enum Item {
     Placed(Character),
@@ -37,15 +37,25 @@ pub fn item_size(i: Item) -> usize
     }
 }
 
-// The item whose field starts at `at`, where one does.
+// The item whose whole field starts at `at`.
 pub fn item_at(s: &[u8], at: usize) -> Item
-    requires { ⌜ at + 9 ≤ length (now s) ⌝ }
+    requires { ⌜ WholeAt (now s) at ⌝ }
     ensures { λ r. ⌜ r ≡ itemAt (now (s .entry)) at ⌝ }
 {
     if s[at] == CUT_TAG {
         return Item::Cut;
     }
     Item::Placed(character::character_at(s, at))
+}
+
+// Whether a DVI file holds an item's height. A cut has none.
+pub fn is_low(i: Item) -> bool
+    ensures { λ r. ⌜ r ≡ isLow i ⌝ }
+{
+    match i {
+        Item::Placed(c) => c.height.0 <= measure::LOW_END,
+        Item::Cut => true,
+    }
 }
 
 // Writes a cut field; gives the place after it.

@@ -1,4 +1,4 @@
-// Galleys (document 01, "Galley"): the check, and reading a character back.
+// Galleys (document 01, "Galley"): the check, with or without a limit of heights, and reading a character back.
 pub mod character;
 pub mod font;
 pub mod item;
@@ -16,6 +16,7 @@ ghost use Rattle.octets.specs.Answer.{accepted, outcomeOf};
 ghost use Rattle.galley_file.specs.Galley.{maxGalley, reading, readEnd, leading};
 ghost use Rattle.galley_file.specs.Span.{SpanOf, Block};
 ghost use Rattle.galley_file.specs.Outcome.{countOutcome, checkOutcome, foundOf, readBackOutcome};
+ghost use Rattle.galley_file.specs.Low.{lowOutcome};
 
 // What reading back answers: the character, or a refusal's number and place.
 pub enum Found {
@@ -24,7 +25,7 @@ pub enum Found {
 }
 
 // The longest galley: 1,048,576 characters.
-pub const MAX_GALLEY: usize = 9_437_191;
+pub const MAX_GALLEY: usize = 11_534_343;
 
 // A galley has at most 1,024 runs of 1,024 items.
 const RUN: usize = 1_024;
@@ -35,7 +36,7 @@ const RUNS: usize = 1_024;
 const BLOCK: usize = 64;
 
 // The bytes of their fields.
-const BLOCK_BYTES: usize = 576;
+const BLOCK_BYTES: usize = 704;
 
 // The characters and the cuts of some fields.
 pub struct Span {
@@ -145,6 +146,33 @@ pub fn check_galley(g: &[u8]) -> Answer
         return Answer::Refused(answer::GALLEY_TOO_LONG, 0);
     }
     check_fields(g, 0, 0, RUNS)
+}
+
+// Checks the heights of a checked galley: a DVI file must hold them.
+fn check_heights(g: &[u8], count: usize) -> Answer
+    requires { ⌜ accepted count ≡ checkOutcome (now g) ⌝ }
+    ensures { λ r. ⌜ outcomeOf r ≡ lowOutcome (now (g .entry)) ⌝ }
+{
+    let mut at: usize = 0;
+    while at + field::END_FIELD < g.len() {
+        let i = item::item_at(g, at);
+        if !item::is_low(i) {
+            return Answer::Refused(answer::HEIGHT_TOO_GREAT, at);
+        }
+        at += item::item_size(i);
+    }
+    Answer::Accepted(count)
+}
+
+// The number of characters of the galley g, or the refusal of a galley that is too long, malformed or too high for a DVI file.
+pub fn check_low(g: &[u8]) -> Answer
+    ensures { λ r. ⌜ outcomeOf r ≡ lowOutcome (now (g .entry)) ⌝ }
+{
+    let checked = check_galley(g);
+    match checked {
+        Answer::Refused(number, place) => Answer::Refused(number, place),
+        Answer::Accepted(count) => check_heights(g, count),
+    }
 }
 
 // Character n of a checked galley, field by field.

@@ -1,7 +1,8 @@
--- Moves of the carriage and of the height (document 01, "Tape codes"): a move ends at a place in its range, or outside it.
+-- Moves of the carriage and of the height (document 01, "Tape codes"; document 02, "Longer columns"): a move ends at a place in its range, or outside it.
 --     directedBy      a distance, negative where it goes backward
 --     carriageAt      where the carriage stands: 0 to 3,239, or outside
---     heightAt        the height: 0 to 65,535, or outside
+--     heightAt        the height: 0 to 1,000,000, or outside
+--     lowEnd          the greatest height that a DVI file holds
 use mathlib.Core.Bool.{Bool, true, false, cond, _&&_}
 use Prim.Native.Nat.{ℕ}
 use lib.IntN.{ℤ, pos, negℤ}
@@ -18,7 +19,11 @@ abbrev pub carriageEnd : ℤ
 carriageEnd = pos 3239
 
 abbrev pub heightEnd : ℤ
-heightEnd = pos 65535
+heightEnd = pos 1000000
+
+-- the greatest height that a DVI file holds (document 02, "Longer columns")
+abbrev pub lowEnd : ℤ
+lowEnd = pos 65535
 
 unfoldable pub directedBy : Bool → ℕ → ℤ
 directedBy true n = negℤ (pos n)

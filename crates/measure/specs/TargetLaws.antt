@@ -9,6 +9,7 @@ use mir.Syntax.{w32}
 use mir.Val.{SFits}
 use lib.Signed.{quotZ, _≤ℤ_, _<ℤ_}
 use Rattle.integers.specs.Parts.{integers, up, dn, sum-parts, dif-parts, scale-parts, neg-up, neg-dn, abs-parts, abs-le, parts-eq}
+use Rattle.measure.specs.Place.{lowEnd}
 use Rattle.measure.specs.Target.{third, xTarget, yTarget, Near}
 
 third-up : (n : ℤ) → up (third n) ≡ (up n + 1) / 3
@@ -78,7 +79,7 @@ target-greatest x h = omega (integers, target-parts x)
 
 -- ---- moves
 
--- heights are below 2 to the power 16, so their targets and the moves between them fit
+-- low heights are below 2 to the power 16, so their targets and the moves between them fit
 pub y-parts : (h : ℤ) → up (yTarget h) + 32768 * dn h ≡ 32768 * up h + dn (yTarget h)
 unfolding yTarget
 y-parts h = scale-parts 32768 h
@@ -86,7 +87,7 @@ y-parts h = scale-parts 32768 h
 pub x-move-fits : (x y : ℤ) → negsuc 54 ≤ℤ x → x ≤ℤ pos 3239 → negsuc 54 ≤ℤ y → y ≤ℤ pos 3239 → SFits w32 (xTarget x -ℤ xTarget y)
 x-move-fits x y a b c d = omega (integers, target-parts x, target-parts y, dif-parts (xTarget x) (xTarget y))
 
-pub y-move-fits : (h g : ℤ) → pos 0 ≤ℤ h → h ≤ℤ pos 65535 → pos 0 ≤ℤ g → g ≤ℤ pos 65535 → SFits w32 (yTarget h -ℤ yTarget g)
+pub y-move-fits : (h g : ℤ) → pos 0 ≤ℤ h → h ≤ℤ lowEnd → pos 0 ≤ℤ g → g ≤ℤ lowEnd → SFits w32 (yTarget h -ℤ yTarget g)
 y-move-fits h g a b c d = omega (integers, y-parts h, y-parts g, dif-parts (yTarget h) (yTarget g))
 
 -- a move from a place to a target ends at the target

@@ -92,6 +92,9 @@ galleyMalformed = 41
 abbrev pub noCharacter : ℕ
 noCharacter = 11
 
+abbrev pub heightTooGreat : ℕ
+heightTooGreat = 43
+
 abbrev pub noDviRoom : ℕ
 noDviRoom = 42
 

@@ -58,6 +58,8 @@ pub const GALLEY_MALFORMED: u8 = 41;
 
 pub const NO_CHARACTER: u8 = 11;
 
+pub const HEIGHT_TOO_GREAT: u8 = 43;
+
 pub const NO_DVI_ROOM: u8 = 42;
 
 pub const NO_MACHINE: u8 = 50;

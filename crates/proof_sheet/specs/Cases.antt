@@ -1,4 +1,5 @@
--- Document 01, "Proof sheet": the cases marked P, as one table and one statement.
+-- Document 01, "Proof sheet": the cases marked P, as one table and one statement. P3's galley is in the form of document 02, "Longer
+-- columns".
 -- Assumes nothing.
 use Prim.Native.Nat.{ℕ}
 use mathlib.Core.Path.{_≡_, refl}
@@ -17,6 +18,7 @@ use Rattle.galley_file.specs.Galley.{Reading, whole, fields, galley, readEnd, r
 use Rattle.integers.specs.Parts.{eqZ, maxZ}
 use Rattle.dvi.specs.Command.{Y4}
 use Rattle.dvi.specs.Writer.{newPen, penAt, fontCommand, fontChange, shortest, move, commandsOf, bopBytes, firstPress, itemBytes, pressAfter, itemsBytes, pressAll, pagesBytes, largest, uses, usedFonts, nameOf, definition, definitionBytes, trailerBytes, postambleBytes, dviFile}
+use Rattle.galley_file.specs.Low.{firstHigh, lowResult}
 use Rattle.dvi_writer.specs.Result.{dviResult}
 use Rattle.tape.specs.Code.{codeOf}
 use Rattle.tape.specs.Machine.{flashOf, escapeOf, leadOf, orderOf, codeEffect, effectOf}
@@ -74,8 +76,8 @@ cases =
   where
     p3 : List ℕ
     p3 =
-        0x01 ∷ 0x00 ∷ 0x06 ∷ 0x00 ∷ 0x00 ∷ 0x00 ∷ 0x00 ∷ 0x02 ∷ 0x01
-        ∷ 0x01 ∷ 0x00 ∷ 0x06 ∷ 0x00 ∷ 0x03 ∷ 0x00 ∷ 0x00 ∷ 0x02 ∷ 0x02
+        0x07 ∷ 0x00 ∷ 0x08 ∷ 0x00 ∷ 0x00 ∷ 0x00 ∷ 0x00 ∷ 0x00 ∷ 0x00 ∷ 0x02 ∷ 0x01
+        ∷ 0x07 ∷ 0x00 ∷ 0x08 ∷ 0x00 ∷ 0x03 ∷ 0x00 ∷ 0x00 ∷ 0x00 ∷ 0x00 ∷ 0x02 ∷ 0x02
         ∷ 0x02 ∷ 0x00 ∷ 0x04 ∷ 0x00 ∷ 0x00 ∷ 0x00 ∷ 0x02 ∷ []
 
     p3File : List ℕ
@@ -87,12 +89,12 @@ cases =
 
     p7 : List ℕ
     p7 =
-        0x01 ∷ 0x00 ∷ 0x06 ∷ 0x00 ∷ 0x00 ∷ 0x00 ∷ 0x00 ∷ 0x11 ∷ 0x6C
+        0x07 ∷ 0x00 ∷ 0x08 ∷ 0x00 ∷ 0x00 ∷ 0x00 ∷ 0x00 ∷ 0x00 ∷ 0x00 ∷ 0x11 ∷ 0x6C
         ∷ 0x02 ∷ 0x00 ∷ 0x04 ∷ 0x00 ∷ 0x00 ∷ 0x00 ∷ 0x01 ∷ []
 
     p8 : List ℕ
     p8 =
-        0x01 ∷ 0x00 ∷ 0x06 ∷ 0xFF ∷ 0xC9 ∷ 0x00 ∷ 0x00 ∷ 0x18 ∷ 0x01
+        0x07 ∷ 0x00 ∷ 0x08 ∷ 0xFF ∷ 0xC9 ∷ 0x00 ∷ 0x00 ∷ 0x00 ∷ 0x00 ∷ 0x18 ∷ 0x01
         ∷ 0x02 ∷ 0x00 ∷ 0x04 ∷ 0x00 ∷ 0x00 ∷ 0x00 ∷ 0x01 ∷ []
 
 -- a row with what the definitions give in place of what the sheet says
@@ -104,5 +106,5 @@ given (fileCase g r) = fileCase g (dviResult g 64)
 given (downCase m bs) = downCase m (move Y4 m)
 
 pub sheet : map given cases ≡ cases
-unfolding eqZ maxZ numberFrom twos signed bytes residue signedBytes widthOf field endField startsField startsEnd ifRoom directedBy placeAt carriageAt heightAt xOf xTarget yTarget valid characterBody characterField characterAt isCharacter fields galley isCut nextItem charactersOf readEnd reading readGalley codeOf flashOf escapeOf leadOf orderOf codeEffect effectOf run readResult tapeResult newPen penAt fontCommand fontChange shortest move commandsOf bopBytes firstPress itemBytes pressAfter itemsBytes pressAll pagesBytes largest uses usedFonts nameOf definition definitionBytes trailerBytes postambleBytes dviFile dviResult
+unfolding eqZ maxZ numberFrom twos signed bytes residue signedBytes widthOf field endField startsField startsEnd ifRoom directedBy placeAt carriageAt heightAt xOf xTarget yTarget valid characterBody characterField characterAt isCharacter fields galley isCut nextItem charactersOf readEnd reading readGalley firstHigh lowResult codeOf flashOf escapeOf leadOf orderOf codeEffect effectOf run readResult tapeResult newPen penAt fontCommand fontChange shortest move commandsOf bopBytes firstPress itemBytes pressAfter itemsBytes pressAll pagesBytes largest uses usedFonts nameOf definition definitionBytes trailerBytes postambleBytes dviFile dviResult
 sheet = refl

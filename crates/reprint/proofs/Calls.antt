@@ -11,13 +11,14 @@ use Rattle.octets.specs.Octets.{Bytes}
 use Rattle.octets.specs.Answer.{Outcome, accepted, refused, Result, refusal, written, outcome, after, ifRoom, noDviRoom, noSheetRoom}
 use Rattle.octets.specs.AnswerLaws.{room-short, room-enough, accepted-length, refused-length, accepted-room}
 use Rattle.galley_file.specs.Item.{charactersOf, cutsOf}
-use Rattle.galley_file.specs.Galley.{maxGalley, maxItems, Reading, readGalley}
+use Rattle.galley_file.specs.Galley.{maxGalley, maxItems, Reading, readGalley, itemsIn, itemsOf}
 use Rattle.galley_file.specs.GalleyLaws.{checked, reading-length, length-fields}
-use Rattle.galley_file.specs.Outcome.{checkOutcome}
+use Rattle.galley_file.specs.Low.{lowOutcome}
+use Rattle.galley_file.specs.LowLaws.{low-checked}
 use Rattle.dvi.specs.Page.{fontChars}
 use Rattle.dvi.specs.Sheet.{sheetResult}
 use Rattle.dvi.specs.Writer.{dviFile}
-use Rattle.dvi_writer.specs.Result.{itemsIn, itemsOf, dviResult}
+use Rattle.dvi_writer.specs.Result.{dviResult}
 use Rattle.reprint.specs.Reprint.{Reprint, stopped, reprinted, reprintResult, reprintOutcome, dviAfter, sheetAfter, sheetSize, ReprintedWhenever}
 use Rattle.reprint.specs.ReprintLaws.{reprints, found, file, file-written, shownSheet, sheet-size, sheet-written, both-written}
 
@@ -27,25 +28,25 @@ pub refuses : {r : Reprint} {number place : ℕ} (dvi out : List ℕ) → r ≡ 
 refuses dvi out q = (sym (ap reprintOutcome q), (sym (ap (dviAfter dvi) q), sym (ap (sheetAfter out) q)))
 
 -- what is not of characters in a galley is of cuts
-module _ (g : List ℕ) (count : ℕ) (e : accepted count ≡ checkOutcome g) where
-  pub galley-length : length g ≡ 9 * count + 3 * cutsOf (itemsOf g) + 7
+module _ (g : List ℕ) (count : ℕ) (e : accepted count ≡ lowOutcome g) where
+  pub galley-length : length g ≡ 11 * count + 3 * cutsOf (itemsOf g) + 7
   unfolding itemsOf readGalley
   galley-length =
-      let c = checked g count e in
+      let c = checked g count (low-checked g count e .checked) in
       let same = ap (λ (r : Reading). cutsOf (itemsIn r)) (c .read) in
       omega (arith, same, reading-length (c .items) maxItems g 0 0 (c .read), length-fields (c .items), c .counted)
 
   pub galley-short : length g ≤ maxGalley
-  galley-short = checked g count e .fits
+  galley-short = checked g count (low-checked g count e .checked) .fits
 
-  pub sheet-size-is : 16 * count + 7 * ((length g - 7 - 9 * count) / 3) + 14 ≡ sheetSize (itemsOf g)
+  pub sheet-size-is : 16 * count + 7 * ((length g - 7 - 11 * count) / 3) + 14 ≡ sheetSize (itemsOf g)
   unfolding itemsOf
   sheet-size-is =
-      let c = checked g count e in
+      let c = checked g count (low-checked g count e .checked) in
       let same = ap (λ (r : Reading). length (charactersOf (itemsIn r))) (c .read) in
       omega (arith, galley-length, same, c .counted)
 
-module _ (g : List ℕ) (count : ℕ) (b : Bytes g) (e : checkOutcome g ≡ accepted count) where
+module _ (g : List ℕ) (count : ℕ) (b : Bytes g) (e : lowOutcome g ≡ accepted count) where
   pub same-file : file g count b e ≡ dviFile (itemsOf g)
   unfolding itemsOf
   same-file = ap dviFile (sym (ap itemsIn (found g count b e .read)))
@@ -120,8 +121,8 @@ claims g widths dvi out b o dvi′ out′ e = (
     e .1 .0,
     (
       e .1 .1,
-      λ count is c r w f s.
-          let x = reprints g widths dvi out b (reprintResult g widths (length dvi) (length out)) refl count is c r w f s in
+      λ count is c r v w f s.
+          let x = reprints g widths dvi out b (reprintResult g widths (length dvi) (length out)) refl count is c r v w f s in
           record {
             items = x .items;
             galley-is = x .galley-is;

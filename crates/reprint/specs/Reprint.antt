@@ -1,4 +1,5 @@
--- A galley made into a DVI file, and the file into a sheet, in one call; and demand 3 (document 01) from the galley's bytes to the sheet's.
+-- A galley made into a DVI file, and the file into a sheet, in one call; and demand 3 (document 01) from the galley's bytes to the sheet's,
+-- "over heights at most 65,535" (document 02, "Longer columns").
 --     Reprint            the file and the sheet, or a refusal
 --     reprintResult      of any galley, table of widths, and two buffers of so many bytes
 --     reprintOutcome     its outcome: the length is the sheet's
@@ -12,13 +13,15 @@ use mathlib.Core.Bool.{cond}
 use mathlib.Core.List.{List, _∷_, _++_}
 use mathlib.Core.Logic.{_↔_}
 use mathlib.Core.Path.{_≡_}
-use lib.Dec.{ltb, eqb}
+use lib.Dec.{eqb}
 use lib.IntN.{ℤ, pos}
 use lib.ListN.{length, drop}
-use Rattle.octets.specs.Answer.{Outcome, accepted, refused, Result, refusal, written, ifRoom, galleyTooLong, galleyMalformed, widthsNotWhole, noDviRoom}
+use Rattle.octets.specs.Answer.{Outcome, accepted, refused, Result, refusal, written, ifRoom, widthsNotWhole, noDviRoom}
+use Rattle.measure.specs.Place.{lowEnd}
 use Rattle.galley_file.specs.declared.item.Item.{Item}
 use Rattle.galley_file.specs.Item.{charactersOf, cutsOf}
-use Rattle.galley_file.specs.Galley.{maxGalley, AllValid, galley, Reading, whole, malformed, readGalley}
+use Rattle.galley_file.specs.Galley.{AllValid, galley, whole, readGalley}
+use Rattle.galley_file.specs.Low.{lowResult}
 use Rattle.galley_file.specs.Outcome.{checkOutcome}
 use Rattle.dvi.specs.Page.{fontChars, Mark, pageMark}
 use Rattle.dvi.specs.File.{shows, readDvi}
@@ -41,16 +44,15 @@ abbrev pub fileOf : List ℤ → ℕ → Result → Reprint
 fileOf widths room (refusal number place) = stopped number place
 fileOf widths room (written file) = sheetOf file (sheetResult file widths room)
 
--- 41, then 31, then 42, then 30
-abbrev pub reprintRead : List ℤ → ℕ → ℕ → Reading → Reprint
-reprintRead widths dviRoom sheetRoom (malformed place) = stopped galleyMalformed place
-reprintRead widths dviRoom sheetRoom (whole is) =
-    cond (eqb (length widths % fontChars) 0) (fileOf widths sheetRoom (ifRoom noDviRoom dviRoom (written (dviFile is)))) (stopped widthsNotWhole 0)
+-- of what the galley is made into: 31, then 42, then 30
+abbrev pub reprintMade : List ℤ → ℕ → ℕ → Result → Reprint
+reprintMade widths dviRoom sheetRoom (refusal number place) = stopped number place
+reprintMade widths dviRoom sheetRoom (written file) =
+    cond (eqb (length widths % fontChars) 0) (fileOf widths sheetRoom (ifRoom noDviRoom dviRoom (written file))) (stopped widthsNotWhole 0)
 
--- 40 first
+-- 40, 41 and 43 first
 unfoldable pub reprintResult : List ℕ → List ℤ → ℕ → ℕ → Reprint
-reprintResult g widths dviRoom sheetRoom =
-    cond (ltb maxGalley (length g)) (stopped galleyTooLong 0) (reprintRead widths dviRoom sheetRoom (readGalley g))
+reprintResult g widths dviRoom sheetRoom = reprintMade widths dviRoom sheetRoom (lowResult dviFile g)
 
 abbrev pub reprintOutcome : Reprint → Outcome
 reprintOutcome (stopped number place) = refused number place
@@ -73,10 +75,10 @@ sheetSize is = 16 * length (charactersOf is) + 7 * cutsOf is + 14
 
 -- of a galley g and a table of widths, with the two buffers before the call, its outcome and the two buffers after it
 pub record Reprinted (g : List ℕ) (widths : List ℤ) (dvi out : List ℕ) (o : Outcome) (dvi′ out′ : List ℕ) : Type 0 where
-  -- "every valid galley": the characters and cuts that its bytes encode
+  -- "every valid galley": the characters and cuts that its bytes encode, of heights at most 65,535
   pub items : List Item
   pub galley-is : g ≡ galley items
-  pub valid : AllValid items
+  pub valid : AllValid lowEnd items
   -- "The writer accepts the galley"
   pub writer-accepts : dviResult g (length dvi) ≡ written (dviFile items)
   -- "the DVI file is the bytes it wrote, .. without the buffer beyond them"
@@ -92,13 +94,13 @@ pub record Reprinted (g : List ℕ) (widths : List ℤ) (dvi out : List ℕ) (o 
   pub sheet-is : out′ ≡ sheet (pageMark (pos 1) ∷ marks) ++ drop (length (sheet (pageMark (pos 1) ∷ marks))) out
   pub outcome-is : o ≡ accepted (sheetSize items)
 
--- for every galley that the check accepts, every table of whole fonts, and buffers with room
+-- for every galley that the check accepts and whose heights are at most 65,535, every table of whole fonts, and buffers with room
 abbrev pub ReprintedWhenever : List ℕ → List ℤ → List ℕ → List ℕ → Outcome → List ℕ → List ℕ → Type 0
 ReprintedWhenever g widths dvi out o dvi′ out′ =
-    (count : ℕ) (is : List Item) → checkOutcome g ≡ accepted count → readGalley g ≡ whole is → length widths % fontChars ≡ 0 → length (dviFile is) ≤ length dvi
+    (count : ℕ) (is : List Item) → checkOutcome g ≡ accepted count → readGalley g ≡ whole is → AllValid lowEnd is → length widths % fontChars ≡ 0 → length (dviFile is) ≤ length dvi
     → sheetSize is ≤ length out → Reprinted g widths dvi out o dvi′ out′
 
--- two galleys that the check accepts, of the items is and js, and the marks that their files show
+-- two such galleys, of the items is and js, and the marks that their files show
 pub record Distinguished (g h : List ℕ) (is js : List Item) (ms ns : List Mark) : Type 0 where
   -- the same file exactly where the galleys are equal
   pub same-file : (dviFile is ≡ dviFile js) ↔ (g ≡ h)

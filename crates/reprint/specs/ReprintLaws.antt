@@ -1,76 +1,78 @@
--- The laws of a reprint: demand 3 of every galley that the check accepts, and what each refusal is.
+-- The laws of a reprint: demand 3 of every galley that the check accepts and whose heights are low, and what each refusal is.
 -- Assumes nothing.
-use mathlib.Core.Path.{_≡_, refl, sym, ap, _∙_}
-use mathlib.Core.Bool.{Bool, true, false, cond}
+use mathlib.Core.Path.{_≡_, sym, ap, subst, _∙_}
 use mathlib.Core.List.{List, [], _∷_, _++_, map}
 use mathlib.Core.Logic.{_↔_}
 use Prim.Native.Nat.{ℕ, _+_, _*_, _%_, _≤_, _<_}
 use native.Mathlib.Omega.{arith}
-use borrow.Author.Tests.{le-ltb, lt-ltb, eq-eqb, ne-eqb}
-use lib.Dec.{ltb, eqb}
+use borrow.Author.Tests.{eq-eqb, ne-eqb}
 use lib.IntN.{ℤ, pos}
 use lib.ListN.{length, drop}
 use Rattle.octets.specs.Octets.{Bytes}
-use Rattle.octets.specs.Answer.{Outcome, accepted, refused, Result, refusal, written, outcome, after, ifRoom, galleyTooLong, galleyMalformed, widthsNotWhole, noDviRoom, noSheetRoom}
+use Rattle.octets.specs.Answer.{Outcome, accepted, refused, Result, refusal, written, outcome, after, ifRoom, widthsNotWhole, noDviRoom, noSheetRoom}
 use Rattle.octets.specs.AnswerLaws.{room-short, room-enough}
+use Rattle.measure.specs.Place.{lowEnd}
 use Rattle.galley_file.specs.declared.item.Item.{Item}
 use Rattle.galley_file.specs.Item.{charactersOf, cutsOf}
-use Rattle.galley_file.specs.Galley.{maxGalley, maxItems, AllValid, galley, Reading, whole, malformed, readGalley}
-use Rattle.galley_file.specs.GalleyLaws.{Checked, checked, Accepted, accepted-is}
-use Rattle.galley_file.specs.Outcome.{countOutcome, checkOutcome}
+use Rattle.galley_file.specs.Galley.{maxItems, AllValid, galley, whole, readGalley, itemsIn, itemsOf}
+use Rattle.galley_file.specs.GalleyLaws.{Accepted, accepted-is}
+use Rattle.galley_file.specs.Low.{lowOutcome, lowResult}
+use Rattle.galley_file.specs.LowLaws.{low-checked, low-made, low-refused, low-accepts}
 use Rattle.dvi.specs.Page.{fontChars, Mark, pageMark}
 use Rattle.dvi.specs.File.{shows, readDvi}
 use Rattle.dvi.specs.Sheet.{sheet, sheetResult}
 use Rattle.dvi.specs.Writer.{dviFile}
 use Rattle.dvi.specs.Demand3.{ShowsAll, Faithful, Compared, markOf}
 use Rattle.dvi.proofs.Demand3.{demand3, file-result, shows-all-only, compared}
-use Rattle.dvi_writer.specs.Result.{dviResult, fileResult}
-use Rattle.reprint.specs.Reprint.{Reprint, stopped, reprinted, sheetOf, fileOf, reprintRead, reprintResult, reprintOutcome, dviAfter, sheetAfter, sheetSize, Reprinted, ReprintedWhenever, Distinguished}
+use Rattle.dvi_writer.specs.Result.{dviResult}
+use Rattle.reprint.specs.Reprint.{Reprint, stopped, reprinted, sheetOf, fileOf, reprintMade, reprintResult, reprintOutcome, dviAfter, sheetAfter, sheetSize, Reprinted, ReprintedWhenever, Distinguished}
 
--- a galley that the check refuses
-pub refused-galley : (g : List ℕ) (widths : List ℤ) (dviRoom sheetRoom number place : ℕ) → checkOutcome g ≡ refused number place
+-- a galley that the check of heights refuses
+pub refused-galley : (g : List ℕ) (widths : List ℤ) (dviRoom sheetRoom number place : ℕ) → lowOutcome g ≡ refused number place
     → reprintResult g widths dviRoom sheetRoom ≡ stopped number place
-unfolding checkOutcome reprintResult
-refused-galley g widths dviRoom sheetRoom number place e = go (ltb maxGalley (length g)) (readGalley g) e
-  where
-    go : (t : Bool) (r : Reading) → cond t (refused galleyTooLong 0) (countOutcome 0 r) ≡ refused number place
-        → cond t (stopped galleyTooLong 0) (reprintRead widths dviRoom sheetRoom r) ≡ stopped number place
-    go true r h = cc
-    go false (whole is) h = let z : _≡_ {A = ℕ} 0 1 = cc in absurd (omega arith)
-    go false (malformed p) h = cc
+unfolding reprintResult
+refused-galley g widths dviRoom sheetRoom number place e =
+    ap (reprintMade widths dviRoom sheetRoom) (sym (low-refused dviFile g number place (sym e)))
 
--- a galley that the check accepts
-module _ (g : List ℕ) (count : ℕ) (b : Bytes g) (e : checkOutcome g ≡ accepted count) where
+-- a galley that it accepts
+module _ (g : List ℕ) (count : ℕ) (b : Bytes g) (e : lowOutcome g ≡ accepted count) where
   -- its items
   pub found : Accepted g count
-  found = accepted-is g count b e
+  found = accepted-is g count b (sym (low-checked g count (sym e) .checked))
+
+  items-are : itemsOf g ≡ found .items
+  unfolding itemsOf
+  items-are = ap itemsIn (found .read)
+
+  low : AllValid lowEnd (found .items)
+  low = subst (AllValid lowEnd) items-are (low-checked g count (sym e) .valid)
 
   few : length (found .items) ≤ maxItems
   few = found .few
 
-  short : length g ≤ maxGalley
-  short = checked g count (sym e) .fits
-
   abbrev pub file : List ℕ
   file = dviFile (found .items)
+
+  made : lowResult dviFile g ≡ written file
+  made = low-made dviFile g count (sym e) ∙ ap (λ (is : List Item). written (dviFile is)) items-are
 
   -- the writer's result
   pub file-written : (room : ℕ) → dviResult g room ≡ ifRoom noDviRoom room (written file)
   unfolding dviResult
-  file-written room = rw (le-ltb _ _ short, found .read)
+  file-written room = ap (ifRoom noDviRoom room) made
 
   module _ (widths : List ℤ) where
-    by-reading : (dviRoom sheetRoom : ℕ) → reprintResult g widths dviRoom sheetRoom ≡ reprintRead widths dviRoom sheetRoom (whole (found .items))
+    by-galley : (dviRoom sheetRoom : ℕ) → reprintResult g widths dviRoom sheetRoom ≡ reprintMade widths dviRoom sheetRoom (written file)
     unfolding reprintResult
-    by-reading dviRoom sheetRoom = rw (le-ltb _ _ short, found .read)
+    by-galley dviRoom sheetRoom = ap (reprintMade widths dviRoom sheetRoom) made
 
     pub not-whole : (dviRoom sheetRoom : ℕ) → (length widths % fontChars ≡ 0 → ⊥) → reprintResult g widths dviRoom sheetRoom ≡ stopped widthsNotWhole 0
-    not-whole dviRoom sheetRoom h = by-reading dviRoom sheetRoom ∙ rw (ne-eqb _ _ h)
+    not-whole dviRoom sheetRoom h = by-galley dviRoom sheetRoom ∙ rw (ne-eqb _ _ h)
 
     module _ (w : length widths % fontChars ≡ 0) where
       -- demand 3 over its items
       pub faithful : Faithful widths (found .items)
-      faithful = demand3 widths w (found .valid) few
+      faithful = demand3 widths w low few
 
       abbrev pub shownSheet : List ℕ
       shownSheet = sheet (pageMark (pos 1) ∷ faithful .marks)
@@ -81,12 +83,12 @@ module _ (g : List ℕ) (count : ℕ) (b : Bytes g) (e : checkOutcome g ≡ acce
       -- the reader's result
       pub sheet-written : (room : ℕ) → sheetResult file widths room ≡ ifRoom noSheetRoom room (written shownSheet)
       sheet-written room =
-          file-result widths w (found .valid) few room
+          file-result widths w low few room
           ∙ ap (λ (ms : List Mark). ifRoom noSheetRoom room (written (sheet (pageMark (pos 1) ∷ ms)))) (sym (shows-all-only (faithful .all-shown)))
 
       module _ (dviRoom sheetRoom : ℕ) where
         by-file : reprintResult g widths dviRoom sheetRoom ≡ fileOf widths sheetRoom (ifRoom noDviRoom dviRoom (written file))
-        by-file = by-reading dviRoom sheetRoom ∙ rw (eq-eqb _ _ w)
+        by-file = by-galley dviRoom sheetRoom ∙ rw (eq-eqb _ _ w)
 
         pub short-file : dviRoom < length file → reprintResult g widths dviRoom sheetRoom ≡ stopped noDviRoom (length file)
         short-file h = by-file ∙ ap (fileOf widths sheetRoom) (room-short noDviRoom dviRoom file h)
@@ -107,7 +109,8 @@ module _ (g : List ℕ) (count : ℕ) (b : Bytes g) (e : checkOutcome g ≡ acce
 -- demand 3, from the galley's bytes to the sheet's
 pub reprints : (g : List ℕ) (widths : List ℤ) (dvi out : List ℕ) → Bytes g → (r : Reprint) → r ≡ reprintResult g widths (length dvi) (length out)
     → ReprintedWhenever g widths dvi out (reprintOutcome r) (dviAfter dvi r) (sheetAfter out r)
-reprints g widths dvi out b r q count is e readAs w f s =
+reprints g widths dvi out b r q count is c readAs v w f s =
+    let e = low-accepts g count is c readAs v in
     let a = found g count b e in
     let t = faithful g count b e widths w in
     let same : a .items ≡ is = (let h : whole (a .items) ≡ whole is = sym (a .read) ∙ readAs in cc) in
@@ -117,7 +120,7 @@ reprints g widths dvi out b r q count is e readAs w f s =
     record {
       items = a .items;
       galley-is = a .bytes;
-      valid = a .valid;
+      valid = low g count b e;
       writer-accepts = file-written g count b e (length dvi) ∙ room-enough noDviRoom (length dvi) (dviFile (a .items)) room;
       file-is = ap (dviAfter dvi) done;
       marks = t .marks;
@@ -128,14 +131,14 @@ reprints g widths dvi out b r q count is e readAs w f s =
       outcome-is = ap reprintOutcome done ∙ ap accepted (t .sheet-size);
     }
 
--- two galleys that the check accepts, and what their files show
-module _ (g h : List ℕ) (n m : ℕ) (bg : Bytes g) (bh : Bytes h) (eg : checkOutcome g ≡ accepted n) (eh : checkOutcome h ≡ accepted m) where
+-- two such galleys, and what their files show
+module _ (g h : List ℕ) (n m : ℕ) (bg : Bytes g) (bh : Bytes h) (eg : lowOutcome g ≡ accepted n) (eh : lowOutcome h ≡ accepted m) where
   pub distinguished : {ms ns : List Mark} → ShowsAll 1 (found g n bg eg .items) ms → ShowsAll 1 (found h m bh eh .items) ns
       → Distinguished g h (found g n bg eg .items) (found h m bh eh .items) ms ns
   distinguished p q =
       let a = found g n bg eg in
       let c = found h m bh eh in
-      let k = compared (a .valid) (c .valid) (few g n bg eg) (few h m bh eh) p q in
+      let k = compared (low g n bg eg) (low h m bh eh) (few g n bg eg) (few h m bh eh) p q in
       record {
         same-file = (
           λ f. a .bytes ∙ ap galley (k .same-file .0 f) ∙ sym (c .bytes),

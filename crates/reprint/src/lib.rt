@@ -7,9 +7,9 @@ use octets::field;
 ghost use mathlib.Core.Path.{_≡_};
 ghost use lib.ListN.{length};
 ghost use Rattle.octets.specs.Answer.{accepted, outcomeOf};
-ghost use Rattle.galley_file.specs.Outcome.{checkOutcome};
+ghost use Rattle.galley_file.specs.Galley.{itemsOf};
+ghost use Rattle.galley_file.specs.Low.{lowOutcome};
 ghost use Rattle.dvi.specs.Writer.{dviFile};
-ghost use Rattle.dvi_writer.specs.Result.{itemsOf};
 ghost use Rattle.reprint.specs.Reprint.{reprintResult, reprintOutcome, dviAfter, sheetAfter, sheetSize, ReprintedWhenever};
 
 // The numbers of a font in a table of widths.
@@ -25,7 +25,7 @@ const OTHER_FIELDS: usize = 14;
 
 // The bytes of a checked galley's sheet: what is not of characters in the galley is of cuts.
 fn sheet_length(galley: &[u8], count: usize) -> usize
-    requires { ⌜ accepted count ≡ checkOutcome (now galley) ⌝ }
+    requires { ⌜ accepted count ≡ lowOutcome (now galley) ⌝ }
     ensures { λ r. ⌜ r ≡ sheetSize (itemsOf (now (galley .entry))) ⌝ }
 {
     let rest = galley.len() - field::END_FIELD - character::FIELD * count;
@@ -34,7 +34,7 @@ fn sheet_length(galley: &[u8], count: usize) -> usize
 
 // The bytes of a checked galley's file: the writer names them for a buffer that is too short.
 fn file_length(galley: &[u8], count: usize) -> usize
-    requires { ⌜ accepted count ≡ checkOutcome (now galley) ⌝ }
+    requires { ⌜ accepted count ≡ lowOutcome (now galley) ⌝ }
     ensures { λ r. ⌜ r ≡ length (dviFile (itemsOf (now (galley .entry)))) ⌝ }
 {
     let mut none = [0u8; 1];
@@ -53,7 +53,7 @@ fn reprint_checked(
     dvi: &mut [u8],
     sheet: &mut [u8],
 ) -> Answer
-    requires { ⌜ accepted count ≡ checkOutcome (now galley) ⌝ }
+    requires { ⌜ accepted count ≡ lowOutcome (now galley) ⌝ }
     ensures { λ r. ⌜ (outcomeOf r ≡ reprintOutcome (reprintResult (now (galley .entry)) (now (widths .entry)) (length (now (dvi .entry))) (length (now (sheet .entry))))) × ((now (dvi .exit) ≡ dviAfter (now (dvi .entry)) (reprintResult (now (galley .entry)) (now (widths .entry)) (length (now (dvi .entry))) (length (now (sheet .entry))))) × (now (sheet .exit) ≡ sheetAfter (now (sheet .entry)) (reprintResult (now (galley .entry)) (now (widths .entry)) (length (now (dvi .entry))) (length (now (sheet .entry)))))) ⌝ }
 {
     if widths.len() % FONT_WIDTHS != 0 {
@@ -78,7 +78,7 @@ fn reprint_checked(
 pub fn reprint(galley: &[u8], widths: &[i32], dvi: &mut [u8], sheet: &mut [u8]) -> Answer
     ensures { λ r. ⌜ (outcomeOf r ≡ reprintOutcome (reprintResult (now (galley .entry)) (now (widths .entry)) (length (now (dvi .entry))) (length (now (sheet .entry))))) × ((now (dvi .exit) ≡ dviAfter (now (dvi .entry)) (reprintResult (now (galley .entry)) (now (widths .entry)) (length (now (dvi .entry))) (length (now (sheet .entry))))) × ((now (sheet .exit) ≡ sheetAfter (now (sheet .entry)) (reprintResult (now (galley .entry)) (now (widths .entry)) (length (now (dvi .entry))) (length (now (sheet .entry))))) × ReprintedWhenever (now (galley .entry)) (now (widths .entry)) (now (dvi .entry)) (now (sheet .entry)) (outcomeOf r) (now (dvi .exit)) (now (sheet .exit)))) ⌝ }
 {
-    let checked = galley_file::check_galley(galley);
+    let checked = galley_file::check_low(galley);
     match checked {
         Answer::Refused(number, place) => Answer::Refused(number, place),
         Answer::Accepted(count) => reprint_checked(galley, count, widths, dvi, sheet),

@@ -37,7 +37,7 @@ put-more : (w : Bool) (first : List ℕ) (is : List Item) (i : Item) (n k : ℕ)
     → putAt w n k i (putIf w first 0 (fields is)) ≡ putIf w first 0 (fields (is ++ (i ∷ [])))
 put-more false first is i n k e d = refl
 put-more true first is i n k e d =
-    let place : 9 * n + k ≡ 0 + length (fields is) = omega (arith, length-fields is, e, d) in
+    let place : 11 * n + k ≡ 0 + length (fields is) = omega (arith, length-fields is, e, d) in
     ap (λ (m : ℕ). seq.sets (seq.sets first 0 (fields is)) m (itemField i)) place
     ∙ sym (sets-append first 0 (fields is) (itemField i))
     ∙ ap (λ (l : List ℕ). seq.sets first 0 l) (ap (λ (l : List ℕ). fields is ++ l) (sym (fields-one i)) ∙ sym (fields-append is (i ∷ [])))
@@ -95,7 +95,7 @@ module _ (s₀ : State) (at : ℕ) (tape first : List ℕ) (w : Bool) where
 
       -- a code that sets the item x and leaves the state t
       module _ {e : Effect} {x : Item} {t : State} (q : effectOf s (getD tape i 0) ≡ e) (m : Sets s e x t) where
-        pub going-room : (w ≡ true → length (fields (run s₀ at tape .items)) ≤ length first) → w ≡ true → 9 * count + cuts + itemSize x ≤ length out
+        pub going-room : (w ≡ true → length (fields (run s₀ at tape .items)) ≤ length first) → w ≡ true → 11 * count + cuts + itemSize x ≤ length out
         going-room p k =
             let is = soFar s₀ at tape i in
             let z = run-room s₀ at tape i s (r .ran) h q m in

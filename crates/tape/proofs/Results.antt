@@ -75,7 +75,7 @@ module _ (s : State) (tape : List ℕ) (room : ℕ) where
         read-whole h = closes d e ∙ room-enough noGalleyRoom room (galley (run s 0 tape .items)) (omega (arith, needed))
 
 -- the bytes of the fields that a pass has counted
-pub fields-counted : (is : List Item) (n k : ℕ) → n ≡ length (charactersOf is) → k ≡ 3 * cutsOf is → 9 * n + k ≡ length (fields is)
+pub fields-counted : (is : List Item) (n k : ℕ) → n ≡ length (charactersOf is) → k ≡ 3 * cutsOf is → 11 * n + k ≡ length (fields is)
 fields-counted is n k e d = omega (arith, length-fields is, e, d)
 
 -- the buffer after the second pass and End

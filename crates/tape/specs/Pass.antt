@@ -19,7 +19,7 @@ use Rattle.tape.specs.Quick.{placed}
 
 -- an item's field after n characters and k bytes of cuts
 abbrev pub putAt : Bool → ℕ → ℕ → Item → List ℕ → List ℕ
-putAt w n k i out = putIf w out (9 * n + k) (itemField i)
+putAt w n k i out = putIf w out (11 * n + k) (itemField i)
 
 -- what a pass keeps: the bytes passed so far, run from the first state, reach the present one; the count of characters, the bytes of
 -- cuts and the buffer are those of the items that they set

@@ -123,7 +123,7 @@ across true z r =
 in-range-within : (end z : ℤ) → InRange end z → within end z ≡ true
 in-range-within end z r = rw (true-leZ (pos 0) z (omega (integers, r .low)), true-leZ z end (omega (integers, r .high)))
 
-set-valid : (s : State) → Sound s → (v : ℕ) → (1 ≤ v) × (v ≤ 63) → s .size < 15 → pastHalf (s .modes .«upper_half») v ≡ false → valid (characterIn s v) ≡ true
+set-valid : (s : State) → Sound s → (v : ℕ) → (1 ≤ v) × (v ≤ 63) → s .size < 15 → pastHalf (s .modes .«upper_half») v ≡ false → valid heightEnd (characterIn s v) ≡ true
 set-valid s r v fv z a =
     let m = s .modes in
     let f = font-range (s .machine) (m .«upper_rail») (m .«upper_mag») (m .«tilt_down») in
@@ -142,7 +142,7 @@ set-valid s r v fv z a =
 -- the state left is sound, the character set is valid
 abbrev Good : Effect → Type 0
 Good (Moved t) = Sound t
-Good (Flashed c) = valid c ≡ true
+Good (Flashed c) = valid heightEnd c ≡ true
 Good (Parted t) = Sound t
 Good (Refused n) = Unit {0}
 
@@ -226,7 +226,7 @@ module _ (s : State) (r : Sound s) where
   pub parted-sound : (b : ℕ) {t : State} → effectOf s b ≡ Parted t → Sound t
   parted-sound b e = subst Good e (good b)
 
-  pub flashed-valid : (b : ℕ) {c : Character} → effectOf s b ≡ Flashed c → valid c ≡ true
+  pub flashed-valid : (b : ℕ) {c : Character} → effectOf s b ≡ Flashed c → valid heightEnd c ≡ true
   flashed-valid b e = subst Good e (good b)
 
 pub start-sound : (machine : Machine) → Sound (start machine)
@@ -235,12 +235,12 @@ start-sound machine =
 
 -- ---- runs
 
-pub run-valid : (s : State) (at : ℕ) (bs : List ℕ) → Sound s → AllValid (run s at bs .items)
+pub run-valid : (s : State) (at : ℕ) (bs : List ℕ) → Sound s → AllValid heightEnd (run s at bs .items)
 unfolding run
 run-valid s at [] r = nil
 run-valid s at (b ∷ bs) r = go (λ t q. run-valid t (suc at) bs q) (effectOf s b) refl
   where
-    go : ((t : State) → Sound t → AllValid (run t (suc at) bs .items)) → (e : Effect) → effectOf s b ≡ e → AllValid (run s at (b ∷ bs) .items)
+    go : ((t : State) → Sound t → AllValid heightEnd (run t (suc at) bs .items)) → (e : Effect) → effectOf s b ≡ e → AllValid heightEnd (run s at (b ∷ bs) .items)
     go later (Moved t) q = rw (q, run) (later t (stays-sound s r b q))
     go later (Flashed c) q = rw (q, run) (more (flashed-valid s r b q) (later s r))
     go later (Parted t) q = rw (q, run) (more refl (later t (parted-sound s r b q)))

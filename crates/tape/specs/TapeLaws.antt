@@ -13,6 +13,7 @@ use Rattle.octets.specs.Answer.{Result, refusal, written, outcome, ifRoom, acce
 use Rattle.octets.specs.AnswerLaws.{accepted-room}
 use Rattle.galley_file.specs.declared.item.Item.{Item}
 use Rattle.galley_file.specs.Item.{charactersOf}
+use Rattle.measure.specs.Place.{heightEnd}
 use Rattle.galley_file.specs.Galley.{maxGalley, maxItems, AllValid, galley, whole, readGalley}
 use Rattle.galley_file.specs.GalleyLaws.{length-galley, fields-few, accepts, accepts-check}
 use Rattle.galley_file.specs.Outcome.{checkOutcome}
@@ -34,7 +35,7 @@ pub record AcceptedTape (tape : List ℕ) (machine : ℕ) (bs : List ℕ) : Type
   pub named : machineOf machine ≡ some kind
   pub short-enough : length tape ≤ maxTape
   pub bytes-are : bs ≡ galley (itemsOn kind tape)
-  pub valid : AllValid (itemsOn kind tape)
+  pub valid : AllValid heightEnd (itemsOn kind tape)
   pub read-as : readGalley bs ≡ whole (itemsOn kind tape)
   pub checked : checkOutcome bs ≡ accepted (length (charactersOf (itemsOn kind tape)))
   pub size : length bs ≤ maxGalley

@@ -41,7 +41,7 @@ pub struct Reading {
 // Writes an item's field after `count` characters and so many bytes of cuts, if writing.
 fn put_after(writing: bool, out: &mut [u8], count: usize, cuts: usize, i: Item)
     requires { ⌜ (count ≤ maxTape) × (cuts ≤ 3 * maxTape) ⌝ }
-    requires { ⌜ (writing ≡ true → 9 * count + cuts + itemSize i ≤ length (now out)) ⌝ }
+    requires { ⌜ (writing ≡ true → 11 * count + cuts + itemSize i ≤ length (now out)) ⌝ }
     ensures { λ _. ⌜ now (out .exit) ≡ putAt writing count cuts i (now (out .entry)) ⌝ }
 {
     if writing {

@@ -24,7 +24,7 @@ pub fn lengths() {
     start_case(&illegal, 1048576, 5, 50, 0);
 }
 
-// 2,114 leads of 31 and one of 1: 65,535, the greatest height. Each tape then has a flash and stop.
+// 2,114 leads of 31 and one of 1: 65,535, the greatest height that DVI holds. Each tape then has a flash and stop.
 pub fn heights() {
     let mut tape = [0x60u8; 2121];
     tape[0] = 0x40;
@@ -39,12 +39,42 @@ pub fn heights() {
         256,
         0,
         0,
-        b"\x01\x00\x06\x00\x00\xFF\xFF\x11\x01\x02\x00\x04\x00\x00\x00\x01",
+        b"\x07\x00\x08\x00\x00\x00\x00\xFF\xFF\x11\x01\x02\x00\x04\x00\x00\x00\x01",
+    );
+    // one more, in the third byte
+    tape[2118] = 0x7E;
+    tape[2119] = 0x01;
+    tape[2120] = 0x49;
+    tape_case(
+        &tape,
+        256,
+        0,
+        0,
+        b"\x07\x00\x08\x00\x00\x00\x01\x00\x00\x11\x01\x02\x00\x04\x00\x00\x00\x01",
+    );
+}
+
+// 32,258 leads of 31 and one of 2: 1,000,000, the greatest height of all.
+pub fn greatest_height() {
+    let mut tape = [0x60u8; 32265];
+    tape[0] = 0x40;
+    tape[1] = 0xEF;
+    tape[2] = 0x52;
+    tape[32261] = 0x7D;
+    tape[32262] = 0x01;
+    tape[32263] = 0x49;
+    tape[32264] = 0x00;
+    tape_case(
+        &tape,
+        256,
+        0,
+        0,
+        b"\x07\x00\x08\x00\x00\x00\x0F\x42\x40\x11\x01\x02\x00\x04\x00\x00\x00\x01",
     );
     // one more is 7, at the last lead
-    tape[2118] = 0x7E;
-    tape_case(&tape, 256, 7, 2118, b"");
-    // and so is 31 more
-    tape[2117] = 0x60;
-    tape_case(&tape, 256, 7, 2117, b"");
+    tape[32262] = 0x7E;
+    tape_case(&tape, 256, 7, 32262, b"");
+    // and so is 31 in place of 2
+    tape[32261] = 0x60;
+    tape_case(&tape, 256, 7, 32261, b"");
 }

@@ -41,6 +41,7 @@ fn run_limits() {
     line(b"heights");
     tapes::heights();
     limits::heights();
+    limits::greatest_height();
     line(b"lengths");
     limits::lengths();
     line(b"room");
@@ -54,10 +55,16 @@ fn run_galleys() {
     galleys::fields();
     line(b"places");
     galleys::places();
+    line(b"old form");
+    galleys::old_form();
+    line(b"tall");
+    galleys::heights();
     line(b"values");
     galleys::values();
     line(b"read back");
     galleys::read_back();
+    line(b"tall read back");
+    galleys::tall_characters();
     line(b"with cuts");
     galleys::cuts();
     line(b"past cuts");

@@ -5,6 +5,9 @@ use super::{accepted, refused};
 /// Characters and cuts in a galley, together.
 const MOST: usize = 1_048_576;
 
+/// The field of a character.
+pub type Field = [u8; 11];
+
 pub fn check_galley(galley: &[u8]) -> [usize; 3] {
     match count(galley) {
         Ok(count) => accepted(count.characters),
@@ -20,8 +23,8 @@ pub fn read_back(galley: &[u8], n: usize) -> ([usize; 3], [i32; 4]) {
     let mut left = n;
     for page in pages(galley, count) {
         if let Some(field) = page.get(left) {
-            let (word, code) = split(field);
-            let character = [across(word), height(word), font_number(word) as i32, code.into()];
+            let word = body(field);
+            let character = [across(word), height(word) as i32, font_number(word) as i32, code(word).into()];
             return (accepted(0), character);
         }
         left -= page.len();
@@ -38,7 +41,7 @@ pub struct Count {
 
 /// The numbers of characters and cuts, or the refusal.
 pub fn count(galley: &[u8]) -> Result<Count, (usize, usize)> {
-    if galley.len() > 9_437_191 {
+    if galley.len() > 11_534_343 {
         return Err((40, 0));
     }
     let mut count = Count { characters: 0, cuts: 0 };
@@ -48,7 +51,7 @@ pub fn count(galley: &[u8]) -> Result<Count, (usize, usize)> {
         let (fields, _) = galley[place..].as_chunks();
         let run = good_fields(&fields[..fields.len().min(most)]);
         count.characters += run;
-        place += 9 * run;
+        place += 11 * run;
         match galley[place..] {
             [6, 0, 0, ..] if run < most => {
                 count.cuts += 1;
@@ -70,7 +73,7 @@ fn counts(characters: usize, body: [u8; 4]) -> bool {
 
 /// How many good character fields come first. Runs of 64 are tested without a branch for each; the first few
 /// fields are a run of their own, since a cut may be near.
-fn good_fields(fields: &[[u8; 9]]) -> usize {
+fn good_fields(fields: &[Field]) -> usize {
     let (few, rest) = fields.split_at(fields.len().min(4));
     let mut count = 0;
     for run in std::iter::once(few).chain(rest.chunks(64)) {
@@ -83,29 +86,33 @@ fn good_fields(fields: &[[u8; 9]]) -> usize {
 }
 
 /// The character fields of each page of a good galley. What is left after the last cut is a page.
-pub fn pages(galley: &[u8], count: Count) -> impl Iterator<Item = &[[u8; 9]]> {
+pub fn pages(galley: &[u8], count: Count) -> impl Iterator<Item = &[Field]> {
     let Count { mut characters, cuts } = count;
     let mut place = 0;
     (0..=cuts).map(move |page| {
         let (fields, _) = galley[place..].as_chunks();
         let length = if page == cuts { characters } else { leading_characters(fields) };
         characters -= length;
-        place += 9 * length + 3;
+        place += 11 * length + 3;
         &fields[..length]
     })
 }
 
 /// How many character fields come before the cut.
-fn leading_characters(fields: &[[u8; 9]]) -> usize {
-    fields.iter().take_while(|field| field[0] == 1).count()
+fn leading_characters(fields: &[Field]) -> usize {
+    fields.iter().take_while(|field| field[0] == 7).count()
 }
 
 #[inline(always)]
-fn is_good(field: &[u8; 9]) -> bool {
-    let (word, code) = split(field);
+fn is_good(field: &Field) -> bool {
+    let word = body(field);
     let font_number = font_number(word);
     let shifted = (across(word) + SHIFT[font_number]) as u32;
-    (word >> 40 == 0x01_0006) & (font_number < 120) & (shifted < 3_240) & (code.wrapping_sub(1) < 108)
+    (field[..3] == [7, 0, 8])
+        & (font_number < 120)
+        & (shifted < 3_240)
+        & (height(word) <= 1_000_000)
+        & (code(word).wrapping_sub(1) < 108)
 }
 
 /// By font number: 55 in the double sizes.
@@ -121,24 +128,29 @@ static SHIFT: [i32; 256] = {
     shift
 };
 
-/// A field's first eight bytes as one word, and the character.
+/// A field's body as one word: x, height, font number, character.
 #[inline(always)]
-pub fn split(field: &[u8; 9]) -> (u64, u8) {
-    let [word @ .., code] = field;
-    (u64::from_be_bytes(*word), *code)
+pub fn body(field: &Field) -> u64 {
+    let [_, _, _, word @ ..] = field;
+    u64::from_be_bytes(*word)
 }
 
 #[inline(always)]
 pub fn across(word: u64) -> i32 {
-    (word >> 24) as u16 as i16 as i32
+    (word >> 48) as u16 as i16 as i32
 }
 
 #[inline(always)]
-pub fn height(word: u64) -> i32 {
-    (word >> 8) as u16 as i32
+pub fn height(word: u64) -> u32 {
+    (word >> 16) as u32
 }
 
 #[inline(always)]
 pub fn font_number(word: u64) -> usize {
-    word as u8 as usize
+    (word >> 8) as u8 as usize
+}
+
+#[inline(always)]
+pub fn code(word: u64) -> u8 {
+    word as u8
 }

@@ -15,7 +15,7 @@ pub fn read_tape(tape: &[u8], machine: u32, galley: &mut [u8]) -> [usize; 3] {
     match scan(effects, tape) {
         Err(refusal) => refused(refusal),
         Ok(codes) => {
-            let needed = 9 * codes.count + 3 * codes.cuts + 7;
+            let needed = 11 * codes.count + 3 * codes.cuts + 7;
             if galley.len() < needed {
                 return refused((12, needed));
             }
@@ -161,12 +161,12 @@ const fn motion(code: i64, directions: usize) -> (i64, i64) {
 const WIDE: Packing = Packing { quantum: 1 << 32, unit: 1 };
 static WIDE_STEPS: [[u64; 256]; 4] = WIDE.steps();
 
-/// The second pass has them where they stand in a field's first eight bytes.
-const FIELD: Packing = Packing { quantum: 1 << 8, unit: 1 << 24 };
-static FIELD_STEPS: [[u64; 256]; 4] = FIELD.steps();
+/// The second pass has them where they stand in a field's body.
+const BODY: Packing = Packing { quantum: 1 << 16, unit: 1 << 48 };
+static BODY_STEPS: [[u64; 256]; 4] = BODY.steps();
 
 /// Added to a place, these make the top bit of a half that is beyond its range 1.
-const BEYOND: u64 = WIDE.word((1 << 31) - 65_536, (1 << 31) - 3_240);
+const BEYOND: u64 = WIDE.word((1 << 31) - 1_000_001, (1 << 31) - 3_240);
 const TOPS: u64 = 1 << 63 | 1 << 31;
 
 #[derive(Clone, Copy)]
@@ -341,11 +341,11 @@ fn write(effects: &Effects, codes: &[u8], galley: &mut [u8], count: usize) {
             }
             continue;
         }
-        let field = &mut fields[at..at + 9];
-        let word = body.wrapping_add(setting.shift_and_font) & BODY | 0x01_0006 << 40;
-        field[..8].copy_from_slice(&word.to_be_bytes());
-        field[8] = code.wrapping_add(setting.half);
-        at += 9 * usize::from(is_flash(code));
+        let field = &mut fields[at..at + 11];
+        let word = body.wrapping_add(setting.shift_and_font) | u64::from(code.wrapping_add(setting.half));
+        field[..3].copy_from_slice(&[7, 0, 8]);
+        field[3..].copy_from_slice(&word.to_be_bytes());
+        at += 11 * usize::from(is_flash(code));
         body = body.wrapping_add(setting.steps[usize::from(code)]);
     }
     for cut in fields[at..].chunks_exact_mut(3) {
@@ -358,11 +358,10 @@ fn write(effects: &Effects, codes: &[u8], galley: &mut [u8], count: usize) {
 /// The field of a cut.
 const CUT: [u8; 3] = [6, 0, 0];
 
-/// A field's x, height and font number in its first eight bytes, and the height alone.
-const BODY: u64 = 0xFF_FFFF_FFFF;
-const BODY_HEIGHT: u64 = 0xFF_FF00;
+/// The height in a field's body: x is above it, font number and character below.
+const BODY_HEIGHT: u64 = 0xFFFF_FFFF_0000;
 /// Parked: the escape of 16 leads to 0.
-const BODY_PARKED: u64 = FIELD.word(0, -16);
+const BODY_PARKED: u64 = BODY.word(0, -16);
 
 /// What the modes do to the fields.
 struct Setting {
@@ -377,9 +376,9 @@ impl Setting {
         let shift = 55 * i64::from(modes >> 7 & 1);
         let font_number = (modes & 127) - (modes >> 4 & 7);
         Setting {
-            shift_and_font: FIELD.word(0, -shift).wrapping_add(font_number.into()),
+            shift_and_font: BODY.word(0, -shift).wrapping_add(u64::from(font_number) << 8),
             half: 63 & ((modes >> 9 & 1) as u8).wrapping_sub(1),
-            steps: &FIELD_STEPS[(modes >> 11 & 3) as usize],
+            steps: &BODY_STEPS[(modes >> 11 & 3) as usize],
         }
     }
 }

@@ -1,12 +1,15 @@
 //! A galley to a DVI file.
 
-use super::galley::{across, count, font_number, height, pages, split, Count};
+use super::galley::{across, body, code, count, font_number, height, pages, Count, Field};
 use super::{accepted, reader, refused};
 
 /// Bytes of BOP and EOP, of a postamble without fonts, and of one font definition.
 const PAGE: usize = 10;
 const POSTAMBLE: usize = 26;
 const DEFINITION: usize = 14;
+
+/// The greatest height that DVI holds.
+const HIGHEST: u32 = 65_535;
 
 /// Before a page's first character: no font number.
 const NO_FONT: usize = 255;
@@ -19,6 +22,9 @@ pub fn write_dvi(galley: &[u8], dvi: &mut [u8]) -> [usize; 3] {
         Err(refusal) => return refused(refusal),
     };
     let measure = measure(galley, count);
+    if measure.highest > HIGHEST {
+        return refused((43, first_too_high(galley, count)));
+    }
     let needed = measure.length();
     if dvi.len() < needed {
         return refused((42, needed));
@@ -33,10 +39,13 @@ pub fn reprint(galley: &[u8], widths: &[i32], dvi: &mut [u8], sheet: &mut [u8]) 
         Ok(count) => count,
         Err(refusal) => return refused(refusal),
     };
+    let measure = measure(galley, count);
+    if measure.highest > HIGHEST {
+        return refused((43, first_too_high(galley, count)));
+    }
     if !widths.len().is_multiple_of(128) {
         return refused((31, 0));
     }
-    let measure = measure(galley, count);
     let needed = measure.length();
     let sheet_needed = 7 + 16 * count.characters + 7 * count.cuts + 7;
     if dvi.len() < needed {
@@ -54,7 +63,7 @@ struct Measure {
     pages: usize,
     commands: usize,
     widest: i32,
-    deepest: i32,
+    highest: u32,
     fonts: [u64; 2],
 }
 
@@ -65,18 +74,32 @@ impl Measure {
     }
 }
 
+/// The place of the first character with a height that is too great.
+#[cold]
+fn first_too_high(galley: &[u8], count: Count) -> usize {
+    let mut place = 0;
+    for page in pages(galley, count) {
+        match page.iter().position(|field| height(body(field)) > HIGHEST) {
+            Some(index) => return place + 11 * index,
+            None => place += 11 * page.len() + 3,
+        }
+    }
+    place
+}
+
+/// Moves to a height that is too great are measured wrongly; no file is written then.
 fn measure(galley: &[u8], count: Count) -> Measure {
-    let mut measure = Measure { pages: 0, commands: 0, widest: 0, deepest: 0, fonts: [0; 2] };
+    let mut measure = Measure { pages: 0, commands: 0, widest: 0, highest: 0, fonts: [0; 2] };
     for page in pages(galley, count) {
         measure.pages += 1;
         let (mut x, mut y, mut font) = (0, 0, NO_FONT);
         for field in page {
-            let (word, _) = split(field);
-            let (to_x, to_y, to_font) = (target(across(word)), height(word) << 15, font_number(word));
+            let word = body(field);
+            let (to_x, to_y, to_font) = (target(across(word)), down(word), font_number(word));
             measure.commands +=
-                font_length(font, to_font) + move_length(to_x - x) + move_length(to_y - y) + 2;
+                font_length(font, to_font) + move_length(to_x - x) + move_length(to_y.wrapping_sub(y)) + 2;
             measure.widest = measure.widest.max(to_x);
-            measure.deepest = measure.deepest.max(to_y);
+            measure.highest = measure.highest.max(height(word));
             measure.fonts[to_font / 64] |= 1 << (to_font % 64);
             (x, y, font) = (to_x, to_y, to_font);
         }
@@ -107,18 +130,18 @@ fn put_bop(dvi: &mut [u8], at: usize, number: i32, previous: i32) {
 }
 
 /// Puts the characters of a page; gives the place after them.
-fn put_characters(dvi: &mut [u8], start: usize, page: &[[u8; 9]]) -> usize {
+fn put_characters(dvi: &mut [u8], start: usize, page: &[Field]) -> usize {
     let (mut x, mut y, mut font) = (0, 0, NO_FONT);
     let mut at = start;
     for field in page {
-        let (word, code) = split(field);
-        let (to_x, to_y, to_font) = (target(across(word)), height(word) << 15, font_number(word));
+        let word = body(field);
+        let (to_x, to_y, to_font) = (target(across(word)), down(word), font_number(word));
         if to_font != font {
             at += put_font(dvi, at, to_font);
         }
         at += put_move(dvi, at, 144, to_x - x);
         at += put_move(dvi, at, 148, to_y - y);
-        dvi[at..at + 2].copy_from_slice(&[136, code]);
+        dvi[at..at + 2].copy_from_slice(&[136, code(word)]);
         at += 2;
         (x, y, font) = (to_x, to_y, to_font);
     }
@@ -130,6 +153,12 @@ fn put_characters(dvi: &mut [u8], start: usize, page: &[[u8; 9]]) -> usize {
 fn target(x: i32) -> i32 {
     // Made positive for the division, which is quicker unsigned: 3 x 55 is more than the doubler's shift.
     ((32_768 * (x + 165) as u32 + 1) / 3) as i32 - 32_768 * 55
+}
+
+/// 32,768 times the height.
+#[inline(always)]
+fn down(word: u64) -> i32 {
+    (height(word) << 15) as i32
 }
 
 #[inline(always)]
@@ -174,7 +203,7 @@ fn put_move(dvi: &mut [u8], at: usize, two: u8, distance: i32) -> usize {
 fn put_postamble(measure: &Measure, place: usize, last: i32, end: &mut [u8]) {
     end[0] = 131;
     end[1..5].copy_from_slice(&last.to_be_bytes());
-    end[5..9].copy_from_slice(&measure.deepest.to_be_bytes());
+    end[5..9].copy_from_slice(&(measure.highest << 15).to_be_bytes());
     end[9..13].copy_from_slice(&measure.widest.to_be_bytes());
     let (_, rest) = end.split_at_mut(13);
     let (definitions, tail) = rest.split_at_mut(rest.len() - 13);

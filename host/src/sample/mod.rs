@@ -1,9 +1,12 @@
 //! Made inputs for samples, tests and benchmarks: the same seed gives the same bytes.
 
 mod book;
+mod chart;
+mod punch;
 mod random;
 mod yearbook;
 
 pub use book::{book, book_widths};
+pub use chart::chart;
 pub use random::Random;
 pub use yearbook::{pages, yearbook};

@@ -1,16 +1,16 @@
 //! A yearbook on tape: tables of figures, in font 1 or font 2 by column, with words in font 3.
 
+use super::punch::Punch;
 use super::Random;
-use crate::Machine;
+use crate::{Machine, DVI_HEIGHT_LIMIT};
 
 const COLUMNS: usize = 8;
 const ROWS: usize = 36;
 /// The right edge of the first column, and from one column to the next, in units.
 const FIRST_EDGE: i32 = 620;
 const COLUMN_WIDTH: i32 = 370;
-/// From line to line, and the greatest height, in quanta.
+/// From line to line, in quanta.
 const SPACING: i32 = 24;
-const DEEPEST: i32 = 65_535;
 
 /// Size codes, and the width of a figure in them, in units.
 const SIZE_6: (u8, i32) = (0x58, 18);
@@ -19,7 +19,7 @@ const SIZE_9: (u8, i32) = (0x57, 27);
 const SIZE_16: (u8, i32) = (0x59, 48);
 
 /// A tape for a machine, of exactly `length` bytes, at least 100: as many whole lines as fit, stop, and 00 to
-/// the end. When the greatest height is near, the tape goes back to the top.
+/// the end. When the greatest height that DVI holds is near, the tape goes back to the top.
 pub fn yearbook(machine: Machine, seed: u64, length: usize) -> Vec<u8> {
     let mut random = Random::new(seed);
     let mut punch = Punch::new(machine);
@@ -114,46 +114,8 @@ struct Cell {
     size: (u8, i32),
 }
 
-/// The tape so far, and what the machine is set to.
-struct Punch {
-    machine: Machine,
-    tape: Vec<u8>,
-    carriage: i32,
-    height: i32,
-    backward: bool,
-    upper_half: bool,
-    upper_rail: bool,
-    upper_mag: bool,
-    tilt_down: bool,
-    size: u8,
-}
-
+/// What a table is punched of.
 impl Punch {
-    /// Initialized, and off the left switch by the escape of 16.
-    fn new(machine: Machine) -> Punch {
-        Punch {
-            machine,
-            tape: vec![0x40, 0xEF],
-            carriage: 0,
-            height: 0,
-            backward: false,
-            upper_half: false,
-            upper_rail: false,
-            upper_mag: false,
-            tilt_down: true,
-            size: 0,
-        }
-    }
-
-    /// A cut, blank tape, and the machine initialized anew, which keeps its size.
-    fn cut(&mut self) {
-        let anew = Punch::new(self.machine);
-        self.tape.push(0x4B);
-        self.tape.extend([0; 8]);
-        self.tape.extend(&anew.tape);
-        *self = Punch { tape: std::mem::take(&mut self.tape), size: self.size, ..anew };
-    }
-
     /// The first lines of a new table.
     fn table(&mut self, random: &mut Random, lines: usize) {
         let mut table = Table::new(random);
@@ -206,79 +168,10 @@ impl Punch {
         }
     }
 
-    /// Rail, mag and tilt as the font asks for. The 4-font machine has no tilt to change.
-    fn font(&mut self, font: u8) {
-        let (pair, tilt_down) = match self.machine {
-            Machine::Four => (font - 1, self.tilt_down),
-            Machine::Eight => ((font - 1) / 2, font.is_multiple_of(2)),
-        };
-        let (upper_rail, upper_mag) = (pair & 1 != 0, pair & 2 != 0);
-        if upper_rail != self.upper_rail {
-            self.tape.push(if upper_rail { 0x42 } else { 0x41 });
-        }
-        if upper_mag != self.upper_mag {
-            self.tape.push(if upper_mag { 0x43 } else { 0x44 });
-        }
-        if tilt_down != self.tilt_down {
-            self.tape.push(if tilt_down { 0x4F } else { 0x4E });
-        }
-        self.upper_rail = upper_rail;
-        self.upper_mag = upper_mag;
-        self.tilt_down = tilt_down;
-    }
-
-    fn size(&mut self, code: u8) {
-        if code != self.size {
-            self.tape.push(code);
-        }
-        self.size = code;
-    }
-
-    /// Moves so that a character stands at `x`; the doubler shifts it 55 units to the left.
-    fn go(&mut self, x: i32) {
-        let carriage = if self.size >= 0x59 { x + 55 } else { x };
-        let mut distance = (carriage - self.carriage).abs();
-        let backward = carriage < self.carriage;
-        if distance > 0 && backward != self.backward {
-            self.tape.push(if backward { 0x48 } else { 0x47 });
-            self.backward = backward;
-        }
-        while distance > 0 {
-            let step = distance.min(127);
-            self.tape.push(0xFF - step as u8);
-            distance -= step;
-        }
-        self.carriage = carriage;
-    }
-
-    /// Flashes a character, 1 to 108.
-    fn set(&mut self, character: u8) {
-        let upper_half = character > 63;
-        if upper_half != self.upper_half {
-            self.tape.push(if upper_half { 0x46 } else { 0x45 });
-        }
-        self.upper_half = upper_half;
-        self.tape.push(if upper_half { character - 63 } else { character });
-    }
-
     fn next_line(&mut self) {
-        if self.height + SPACING > DEEPEST {
-            self.tape.push(0x4C);
-            self.lead(self.height);
-            self.tape.push(0x4A);
-            self.height = 0;
+        if self.height + SPACING > DVI_HEIGHT_LIMIT {
+            self.back_to_the_top();
         }
-        self.lead(SPACING);
-        self.height += SPACING;
-    }
-
-    /// Leads so far in the direction that is set.
-    fn lead(&mut self, quanta: i32) {
-        let mut left = quanta;
-        while left > 0 {
-            let step = left.min(31);
-            self.tape.push(0x7F - step as u8);
-            left -= step;
-        }
+        self.down(SPACING);
     }
 }

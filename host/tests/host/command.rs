@@ -1,7 +1,7 @@
 //! The command `spatecanter`: files, exit status and texts.
 
 use crate::readings::hex;
-use spatecanter::sample::{pages, yearbook};
+use spatecanter::sample::{chart, pages, yearbook};
 use spatecanter::Machine;
 use std::fs;
 use std::io::Write;
@@ -129,7 +129,7 @@ fn the_way_of_a_tape() {
 fn standard_input_and_output() {
     let folder = folder("standard");
     let galley = run_on(&folder, &["read", "-"], &hex(P3_TAPE));
-    assert_eq!((galley.status, galley.out.len(), galley.err.as_str()), (0, 25, ""));
+    assert_eq!((galley.status, galley.out.len(), galley.err.as_str()), (0, 29, ""));
     assert_eq!(run_on(&folder, &["list", "-"], &galley.out).text(), P3_LIST);
     let dvi = run_on(&folder, &["set", "-", "-o", "-"], &galley.out);
     let sheet = run_on(&folder, &["show", "-"], &dvi.out);
@@ -152,7 +152,7 @@ fn a_refused_tape_says_why_and_writes_nothing() {
         ("40 F0", "refused 5 at 1", "expected: an escape of 16 (EF), forward"),
         ("40 EF 01", "refused 6 at 2", "expected: a size"),
         ("40 EF 80 48 80 FE", "refused 7 at 5", "keeps the carriage in 0 to 3,239; it would go from 0 to -1"),
-        ("40 60 4C 60 7E", "refused 7 at 4", "keeps the height in 0 to 65,535; it would go from 0 to -1"),
+        ("40 60 4C 60 7E", "refused 7 at 4", "keeps the height in 0 to 1,000,000; it would go from 0 to -1"),
         ("40 EF 46 52 2E", "refused 8 at 4", "byte 2E, a flash of 46"),
     ];
     for (tape, refusal, more) in rows {
@@ -277,15 +277,19 @@ fn a_tape_over_the_limit() {
 #[test]
 fn refused_galleys_and_dvi_files() {
     let folder = folder("others");
-    let rows: [(&str, &str, &str, &str); 11] = [
-        ("check", "", "refused 41 at 0", "expected: a character (01 00 06 ...), a cut (06 00 00) or End (02"),
+    let rows: [(&str, &str, &str, &str); 15] = [
+        ("check", "", "refused 41 at 0", "expected: a character (07 00 08 ...), a cut (06 00 00) or End (02"),
         ("check", "06 00 01 00", "refused 41 at 0", "bytes 06 00 01 00"),
         ("plot", "06 00 00 02 00 04 00 00 00 01", "refused 41 at 3", "an End that counts 0 characters"),
         ("list", "06 00 00 02 00 04 00 00 00 00 05", "refused 41 at 10", "since End was read"),
         ("list", "02 00 04 00 00 00 01", "refused 41 at 0", "an End that counts 0 characters"),
         ("set", "02 00 04 00 00 00 00 05", "refused 41 at 7", "since End was read"),
-        ("plot", "01 00 06 00 00 00 00 02 00", "refused 41 at 0", "a character of 1 to 108"),
-        ("check", "01 00 06 00 00 00", "refused 41 at 0", "cut short"),
+        ("plot", "07 00 08 00 00 00 00 00 00 02 00", "refused 41 at 0", "a character of 1 to 108"),
+        ("plot", "07 00 08 00 00 00 0F 42 41 02 01", "refused 41 at 0", "a height of 0 to 1,000,000"),
+        ("set", "06 00 00 07 00 08 00 00 FF FF FF FF 02 01", "refused 41 at 3", "a height of 0 to 1,000,000"),
+        ("check", "07 00 08 00 00 00", "refused 41 at 0", "cut short"),
+        ("check", "07 00 08 00 00 00 00 00 00 02 01 05", "refused 41 at 11", "offset 11 (hexadecimal B)"),
+        ("list", "01 00 06 00 00 00 00 02 01", "refused 41 at 0", "bytes 01 00 06 00 00 00 00 02 01"),
         ("show", "83", "refused 21 at 0", "command 131, PST"),
         ("show", "81 00 00 00 01 FF FF FF FF", "refused 22 at 9", "the end of the file"),
         ("show", "81 00 00 00 01 FF FF FF FF 88 01", "refused 27 at 9", "command 136, HORZCHAR"),
@@ -340,6 +344,49 @@ fn the_way_of_a_tape_with_cuts() {
 }
 
 #[test]
+fn a_column_that_dvi_cannot_hold() {
+    let folder = folder("column");
+    fs::write(folder.join("a.tape"), chart(1, 65_536)).unwrap();
+    assert_eq!(run(&folder, &["read", "a.tape"]).status, 0);
+    let count = run(&folder, &["list", "a.galley"]).text().lines().count() - 2;
+    assert_eq!(run(&folder, &["check", "a.galley"]).text(), format!("accepted, {count} characters\n"));
+    assert!(run(&folder, &["list", "a.galley"]).text().contains(" 65536 "));
+    // Every reading but the last is low enough.
+    let place = 11 * (count - 1);
+    let why =
+        format!("refused 43 at {place}: a height above 65,535, which DVI cannot hold\n  at offset {place} ");
+    let more = "\n  expected: a height of at most 65,535, to be set as DVI; it is 65,536\n";
+    let set = run(&folder, &["set", "a.galley"]);
+    assert_eq!((set.status, set.text().as_str()), (1, ""));
+    assert!(set.err.starts_with(&format!("spatecanter: a.galley: {why}")) && set.err.ends_with(more));
+    let reprint = run(&folder, &["reprint", "a.tape", "-d", "out"]);
+    assert_eq!((reprint.status, reprint.text().as_str()), (1, ""));
+    assert!(reprint.err.starts_with(&format!("spatecanter: a.tape: {why}")) && reprint.err.ends_with(more));
+    assert!(reprint.err.contains(" of the galley: bytes 07 00 08 "), "{}", reprint.err);
+    assert_eq!(names(&folder), ["a.galley", "a.tape"]);
+    fs::write(folder.join("b.tape"), chart(1, 65_535)).unwrap();
+    assert_eq!(run(&folder, &["reprint", "b.tape", "-d", "."]).status, 0);
+}
+
+#[test]
+fn the_longest_column() {
+    let folder = folder("longest");
+    fs::write(folder.join("a.tape"), chart(2, 1_000_000)).unwrap();
+    assert_eq!(run(&folder, &["plot", "a.tape"]).status, 0);
+    let picture = fs::read_to_string(folder.join("a.svg")).unwrap();
+    let galley = spatecanter::read_tape(&chart(2, 1_000_000), Machine::Eight).unwrap();
+    assert_eq!(Ok(marks(&picture)), spatecanter::check_galley(&galley));
+    // 1,000,000 quanta are 6,944 inches and 192 units.
+    assert!(picture.contains(" 3000000l0-32") || picture.contains(" 3000000l12-32"));
+    assert!(picture.contains(">6944</text>") && picture.contains("height=\"3000320\""));
+    fs::write(folder.join("b.tape"), chart(2, 1_000_001)).unwrap();
+    let more = run(&folder, &["read", "b.tape"]);
+    assert_eq!(more.status, 1);
+    assert!(more.err.contains("refused 7 at "), "{}", more.err);
+    assert!(more.err.contains("; it would go from 999998 to 1000001\n"), "{}", more.err);
+}
+
+#[test]
 fn an_input_is_never_written_over() {
     let folder = folder("inputs");
     let tape = hex(P3_TAPE);
@@ -376,7 +423,7 @@ fn links_and_devices_stay() {
     assert_eq!(run(&folder, &["read", "p3.tape", "-o", "link.galley"]).status, 0);
     assert!(fs::symlink_metadata(folder.join("link.galley")).unwrap().is_symlink());
     let old = fs::metadata(folder.join("old.galley")).unwrap();
-    assert_eq!((old.len(), old.permissions().mode() & 0o777), (25, 0o600));
+    assert_eq!((old.len(), old.permissions().mode() & 0o777), (29, 0o600));
     assert_eq!(run(&folder, &["read", "p3.tape", "-o", "link.tape"]).status, 2);
     assert_eq!(run(&folder, &["read", "p3.tape", "-o", "/dev/null"]).status, 0);
     assert!(fs::metadata("/dev/null").unwrap().file_type().is_char_device());
@@ -402,7 +449,7 @@ fn reprint_writes_three_files_and_a_summary() {
         line.rsplit(' ').next().unwrap().replace(',', "").parse().unwrap()
     };
     let font = |font| spatecanter::galley::characters(&galley).filter(|it| it.font() == font).count();
-    assert_eq!(count(&run.text(), "characters"), galley.len() / 9);
+    assert_eq!(count(&run.text(), "characters"), galley.len() / 11);
     assert_eq!(count(&run.text(), "pages"), 1);
     assert_eq!(count(&run.text(), "in font 1"), font(1));
     assert_eq!(count(&run.text(), "in font 2"), font(2));
@@ -419,7 +466,7 @@ fn a_picture_has_a_mark_for_each_character() {
     let picture = fs::read_to_string(folder.join("a&b.svg")).unwrap();
     let again = fs::read_to_string(folder.join("b.svg")).unwrap();
     assert_eq!(picture.replace("a&amp;b.tape", "a&amp;b.galley"), again);
-    assert_eq!(marks(&picture), spatecanter::read_tape(&tape, Machine::Eight).unwrap().len() / 9);
+    assert_eq!(marks(&picture), spatecanter::read_tape(&tape, Machine::Eight).unwrap().len() / 11);
     assert!(picture.starts_with("<svg ") && picture.ends_with("</svg>\n"));
 }
 

@@ -210,10 +210,12 @@ impl Comparison {
 
     pub fn read_back(&mut self, galley: &[u8]) {
         let lent = Lent::holding(&mut self.random, galley);
-        let count = plain::check_galley(galley).unwrap_or(galley.len() / 9);
+        let count = plain::check_galley(galley).unwrap_or(galley.len() / 11);
         let n = self.character_number(count);
         let (expected, expected_character) = match plain::read_back(galley, n) {
-            Ok(plain::Character { x, height, font_number, code }) => ([0; 3], [x, height, font_number, code]),
+            Ok(plain::Character { x, height, font_number, code }) => {
+                ([0; 3], [x, height as i32, font_number, code])
+            }
             Err((number, place)) => ([number, place, 0], [0; 4]),
         };
         let (answer, character) = (self.implementation.read_back)(lent.slice(), n);

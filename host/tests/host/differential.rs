@@ -115,11 +115,29 @@ fn galleys(comparison: &mut Comparison) {
         let galley = cases::valid_galley_with_cuts(&mut random, items, n);
         each_part_and_change(comparison, &galley, &mut random);
     }
+    for (items, n) in [(2, 1_000), (70, 10), (200, 100)] {
+        let galley = cases::tall_galley(&mut random, items, n);
+        each_part_and_change(comparison, &galley, &mut random);
+    }
     let galley = cases::valid_galley(&mut random, 2);
-    let with_cuts = [&[6, 0, 0], &galley[..9], &[6, 0, 0, 6, 0, 0], &galley[9..]].concat();
+    let with_cuts = [&[6, 0, 0], &galley[..11], &[6, 0, 0, 6, 0, 0], &galley[11..]].concat();
     for value in 0..=255 {
         each_byte_set(&galley, value, |galley| comparison.check_galley(galley));
         each_byte_set(&with_cuts, value, |galley| comparison.check_galley(galley));
+        each_byte_set(&with_cuts, value, |galley| comparison.write_dvi(galley));
+    }
+    heights(comparison, &with_cuts);
+}
+
+/// The second character at heights next to every limit, and next to every power of 2.
+fn heights(comparison: &mut Comparison, galley: &[u8]) {
+    let powers = (0..32).map(|bit| 1_u32 << bit);
+    for height in [1, 65_536, 1_000_000, 1_000_001].into_iter().chain(powers) {
+        for height in height - 1..=height.saturating_add(1) {
+            let mut galley = galley.to_vec();
+            galley[20 + 5..20 + 9].copy_from_slice(&height.to_be_bytes());
+            comparison.galley(&galley);
+        }
     }
 }
 
@@ -178,9 +196,9 @@ fn every_number_is_met(comparison: &Comparison) {
         ("read_tape, no machine", &[50]),
         ("check_galley", &[0, 41]),
         ("read_back", &[0, 41, 11]),
-        ("write_dvi", &[0, 41, 42]),
+        ("write_dvi", &[0, 41, 43, 42]),
         ("read_dvi", &[0, 31, 21, 22, 23, 24, 25, 26, 27, 28, 29, 30]),
-        ("reprint", &[0, 41, 31, 42, 30]),
+        ("reprint", &[0, 41, 43, 31, 42, 30]),
     ];
     for (operation, expected) in numbers {
         for &number in expected {

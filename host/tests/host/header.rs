@@ -23,7 +23,7 @@ fn a_c_program_links() {
     assert!(status.success());
     let output = Command::new(program).output().unwrap();
     assert!(output.status.success());
-    assert_eq!(String::from_utf8_lossy(&output.stdout), "number 0, place 0, length 25\n");
+    assert_eq!(String::from_utf8_lossy(&output.stdout), "number 0, place 0, length 29\n");
 }
 
 /// Every limit and number of the header is that of this package.
@@ -39,7 +39,7 @@ fn the_header_has_the_same_numbers() {
             value.split([',', ' ']).next().unwrap().parse().unwrap()
         })
         .collect();
-    assert_eq!(numbers.len(), 29);
+    assert_eq!(numbers.len(), 30);
     for &number in &numbers[1..] {
         let meaning = spatecanter::Refusal { number, place: 0 }.meaning();
         assert_ne!(meaning, "an unknown refusal", "{number}");
@@ -49,6 +49,8 @@ fn the_header_has_the_same_numbers() {
         ("SP_GALLEY_LIMIT", spatecanter::GALLEY_LIMIT),
         ("SP_DVI_LIMIT", spatecanter::DVI_LIMIT),
         ("SP_ITEM_LIMIT", spatecanter::ITEM_LIMIT),
+        ("SP_HEIGHT_LIMIT", spatecanter::HEIGHT_LIMIT as usize),
+        ("SP_DVI_HEIGHT_LIMIT", spatecanter::DVI_HEIGHT_LIMIT as usize),
     ] {
         let line = header.lines().find(|line| line.starts_with("#define") && line.contains(name)).unwrap();
         assert!(line.ends_with(&format!(" {limit}")), "{line}");

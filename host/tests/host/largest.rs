@@ -2,7 +2,7 @@
 
 use crate::cases;
 use crate::compare::{Comparison, Implementation, LIBRARY, QUICK};
-use spatecanter::sample::{book, book_widths, yearbook, Random};
+use spatecanter::sample::{book, book_widths, chart, yearbook, Random};
 use spatecanter::{Machine, DVI_LIMIT, GALLEY_LIMIT, TAPE_LIMIT};
 
 /// Characters and cuts in a galley, together.
@@ -25,6 +25,7 @@ fn on_a_small_stack(implementation: Implementation) {
         tapes(&mut comparison);
         galleys(&mut comparison);
         galleys_with_cuts(&mut comparison);
+        long_columns(&mut comparison);
         dvi_files(&mut comparison);
         comparison.print();
         needs_the_largest_sheet(implementation);
@@ -81,11 +82,26 @@ fn galleys_with_cuts(comparison: &mut Comparison) {
         let galley = cases::valid_galley_with_cuts(&mut Random::new(8), ITEMS, n);
         comparison.galley(&galley);
         let (fields, end) = galley.split_at(galley.len() - 7);
-        for more in [&[6, 0, 0][..], &[1, 0, 6, 0, 0, 0, 0, 2, 1]] {
+        for more in [&[6, 0, 0][..], &[7, 0, 8, 0, 0, 0, 0, 0, 0, 2, 1]] {
             comparison.check_galley(&[fields, more, end].concat());
             comparison.write_dvi(&[more, fields, end].concat());
         }
     }
+}
+
+/// Columns to the greatest height and one quantum more, and to the greatest that DVI holds and one more; then
+/// as many characters as there can be, of which the last or each may be too high for DVI.
+fn long_columns(comparison: &mut Comparison) {
+    for quanta in [65_535, 65_536, 1_000_000, 1_000_001] {
+        comparison.tape_on_both(&chart(8, quanta));
+    }
+    let mut galley = cases::valid_galley(&mut Random::new(9), ITEMS);
+    let last = galley.len() - 7 - 11;
+    for height in [65_535_u32, 65_536, 1_000_000, 1_000_001] {
+        galley[last + 5..last + 9].copy_from_slice(&height.to_be_bytes());
+        comparison.galley(&galley);
+    }
+    comparison.galley(&cases::tall_galley(&mut Random::new(9), ITEMS, 10));
 }
 
 fn dvi_files(comparison: &mut Comparison) {

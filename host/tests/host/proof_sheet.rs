@@ -28,9 +28,9 @@ fn dvi_gives(dvi: &str, sheet: &str) {
 }
 
 /// The bytes that a galley of one character at `x` and `height` in size 10 gets between BOP and EOP.
-fn page_of(x: i16, height: u16, font_number: u8) -> Vec<u8> {
-    let ([a, b], [c, d]) = (x.to_be_bytes(), height.to_be_bytes());
-    let galley = [1, 0, 6, a, b, c, d, font_number, 1, 2, 0, 4, 0, 0, 0, 1];
+fn page_of(x: i16, height: u32, font_number: u8) -> Vec<u8> {
+    let ([a, b], [c, d, e, f]) = (x.to_be_bytes(), height.to_be_bytes());
+    let galley = [7, 0, 8, a, b, c, d, e, f, font_number, 1, 2, 0, 4, 0, 0, 0, 1];
     let dvi = spatecanter::write_dvi(&galley).unwrap();
     assert_eq!(plain::write_dvi(&galley), Ok(dvi.clone()));
     let end = dvi.len() - 26 - 14 - 1;
@@ -52,7 +52,8 @@ fn p2_the_empty_galley() {
     );
 }
 
-const P3_GALLEY: &str = "01 00 06 00 00 00 00 02 01  01 00 06 00 03 00 00 02 02  02 00 04 00 00 00 02";
+const P3_GALLEY: &str = "07 00 08 00 00 00 00 00 00 02 01  07 00 08 00 03 00 00 00 00 02 02
+    02 00 04 00 00 00 02";
 
 /// BOP, page 1, -1; font 2; character 1; right 32,768; character 2; EOP; PST, last BOP 0, height 0,
 /// width 32,768; ID 2, number 2, "C110"; -1; PST's offset 19; 0; 223 four times.
@@ -88,12 +89,12 @@ fn p4_to_p6_the_first_codes() {
 #[test]
 fn p7_the_upper_half() {
     tape_is_refused("40 EF 46 52 2E", 8, 4);
-    tape_gives("40 EF 46 52 2D 49", "01 00 06 00 00 00 00 11 6C  02 00 04 00 00 00 01");
+    tape_gives("40 EF 46 52 2D 49", "07 00 08 00 00 00 00 00 00 11 6C  02 00 04 00 00 00 01");
 }
 
 #[test]
 fn p8_the_doubler() {
-    tape_gives("40 EF 59 01 49", "01 00 06 FF C9 00 00 18 01  02 00 04 00 00 00 01");
+    tape_gives("40 EF 59 01 49", "07 00 08 FF C9 00 00 00 00 18 01  02 00 04 00 00 00 01");
 }
 
 #[test]
@@ -114,7 +115,7 @@ fn p11_the_left_switch() {
 fn p12_moves_down() {
     // From height 1 to height 0 is -32,768 by Y2; from 0 to 1 is 32,768 by Y3.
     galley_gives(
-        "01 00 06 00 00 00 01 02 01  01 00 06 00 00 00 00 02 02  02 00 04 00 00 00 02",
+        "07 00 08 00 00 00 00 00 01 02 01  07 00 08 00 00 00 00 00 00 02 02  02 00 04 00 00 00 02",
         "81 00 00 00 01 FF FF FF FF  9C  93 00 80 00  88 01  94 80 00  88 02  82
          83 00 00 00 00 00 00 80 00 00 00 00 00  00 00 00 02 00 00 00 02 22 43 31 31 30 22
          FF FF FF FF 00 00 00 16 00 DF DF DF DF",

@@ -43,20 +43,20 @@ fn tapes() {
         ("40 48 47 EF 49", 0, 7),
         ("40 4C 7E", 7, 2),
         ("40 4C 7F 49", 0, 7),
-        ("40 52 60 EF 01 49", 0, 16),
-        ("40 EF 52 80 40 EF 01 49", 0, 16),
+        ("40 52 60 EF 01 49", 0, 18),
+        ("40 EF 52 80 40 EF 01 49", 0, 18),
         ("40 EF 52 40 01", 5, 4),
         // A flash: 6 before 8.
         ("40 EF 46 3F", 6, 3),
         ("40 EF 46 52 3F", 8, 4),
-        ("40 EF 46 45 52 3F 49", 0, 16),
+        ("40 EF 46 45 52 3F 49", 0, 18),
         // Initialize keeps size and height, and sets the lower half again.
-        ("40 EF 52 46 40 EF 3F 49", 0, 16),
+        ("40 EF 52 46 40 EF 3F 49", 0, 18),
         ("40 6F 40 4C 60", 7, 4),
         ("40 60 40 4C 60 49", 0, 7),
         // The left switch, also in a double size.
         ("40 EF 59 48 FE", 7, 4),
-        ("40 EF 59 01 F0 48 F0 01 49", 0, 25),
+        ("40 EF 59 01 F0 48 F0 01 49", 0, 29),
         ("40 EF 48 FF", 2, 3),
         // A lead of 0 is a motion of 0.
         ("40 EF 4C 7F 49", 0, 7),
@@ -82,13 +82,13 @@ fn tapes() {
         ("40 4B 40", 9, 3),
         // A cut keeps the size, and the height is 0; initialize parks and sets the modes.
         ("40 EF 52 4B 40 01", 5, 5),
-        ("40 EF 52 4B 40 EF 01 49", 0, 19),
+        ("40 EF 52 4B 40 EF 01 49", 0, 21),
         ("40 EF 4B 40 EF 01", 6, 5),
         ("40 60 4B 40 4C 7E", 7, 5),
-        ("40 EF 52 46 4B 40 EF 3F 49", 0, 19),
+        ("40 EF 52 46 4B 40 EF 3F 49", 0, 21),
         ("40 48 4C 4B 40 EF 60 49", 0, 10),
         ("40 EF 52 01 02 03", 9, 6),
-        ("40 EF 52 01 02 03 49 00", 0, 34),
+        ("40 EF 52 01 02 03 49 00", 0, 40),
     ];
     // None has a tilt, so the machine makes no difference.
     for (tape, number, second) in rows {
@@ -130,7 +130,7 @@ fn machines() {
         (4, "40 01 4E", 5, 1),
         // On the 8-font machine they are codes like others.
         (8, "40 4E", 9, 2),
-        (8, "40 EF 52 4E 01 FC 02 49", 0, 25),
+        (8, "40 EF 52 4E 01 FC 02 49", 0, 29),
         (8, "4E", 3, 0),
         (8, "00 4F", 3, 1),
         (8, "40 49 4E", 4, 2),
@@ -189,11 +189,11 @@ fn fonts() {
     ];
     for (machine, codes, font_number) in rows {
         let tape = [&[0x40, 0xEF, 0x54], &hex(codes)[..], &[0x01, 0x49]].concat();
-        let galley = [1, 0, 6, 0, 0, 0, 0, font_number, 1, 2, 0, 4, 0, 0, 0, 1];
+        let galley = [7, 0, 8, 0, 0, 0, 0, 0, 0, font_number, 1, 2, 0, 4, 0, 0, 0, 1];
         assert_eq!(plain::read_tape(&tape, machine), Ok(galley.to_vec()), "{codes}, machine {machine}");
         for them in [LIBRARY, QUICK] {
-            let mut buffer = [0; 16];
-            assert_eq!((them.read_tape)(&tape, machine, &mut buffer), [0, 0, 16], "{}", them.name);
+            let mut buffer = [0; 18];
+            assert_eq!((them.read_tape)(&tape, machine, &mut buffer), [0, 0, 18], "{}", them.name);
             assert_eq!(buffer, galley, "{} on {codes}, machine {machine}", them.name);
         }
     }
@@ -201,31 +201,58 @@ fn fonts() {
 
 #[test]
 fn the_right_switch_and_the_greatest_height() {
-    // 3,239 is 25 escapes of 127 and one of 64; 65,535 is 2,114 leads of 31 and one of 1.
+    // 3,239 is 25 escapes of 127 and one of 64; 1,000,000 is 32,258 leads of 31 and one of 2.
     let mut tape = vec![0x40, 0xEF, 0x52];
     tape.extend([0x80; 25]);
     tape.extend([0xFF - 64, 0x01]);
-    tape.extend([0x60; 2_114]);
-    tape.extend([0x7E, 0x01, 0x5E, 0x01, 0x49]);
-    let galley = hex("01 00 06 0C A7 00 00 11 01  01 00 06 0C A7 FF FF 11 01  01 00 06 0C 70 FF FF 1D 01
-         02 00 04 00 00 00 03");
+    tape.extend([0x60; 32_258]);
+    tape.extend([0x7D, 0x01, 0x5E, 0x01, 0x49]);
+    let galley = hex("07 00 08 0C A7 00 00 00 00 11 01  07 00 08 0C A7 00 0F 42 40 11 01
+         07 00 08 0C 70 00 0F 42 40 1D 01  02 00 04 00 00 00 03");
     assert_eq!(plain::read_tape(&tape, 8), Ok(galley.clone()));
-    let mut buffer = [0; 34];
-    assert_eq!((LIBRARY.read_tape)(&tape, 8, &mut buffer), [0, 0, 34]);
-    assert_eq!(buffer[..], galley[..]);
-    for code in [0xFE, 0x7E] {
+    let mut buffer = [0; 40];
+    for them in [LIBRARY, QUICK] {
+        assert_eq!((them.read_tape)(&tape, 8, &mut buffer), [0, 0, 40], "{}", them.name);
+        assert_eq!(buffer[..], galley[..], "{}", them.name);
+    }
+    for code in [0xFE, 0x7E, 0x60] {
         let place = tape.len() - 1;
         let further = [&tape[..place], &[code, 0x49]].concat();
         for machine in [4, 8] {
             assert_eq!(plain::read_tape(&further, machine), Err((7, place)));
-            assert_eq!((LIBRARY.read_tape)(&further, machine, &mut buffer), [7, place, 0]);
+            for them in [LIBRARY, QUICK] {
+                assert_eq!((them.read_tape)(&further, machine, &mut buffer), [7, place, 0], "{}", them.name);
+            }
         }
     }
 }
 
+/// 65,535 is 2,114 leads of 31 and one of 1. One quantum more is height 65,536, in the upper two bytes; after a
+/// cut the height is 0 again, and a million may be passed over two pages.
+#[test]
+fn columns_that_dvi_cannot_hold() {
+    let mut tape = vec![0x40, 0xEF, 0x52];
+    tape.extend([0x60; 2_114]);
+    tape.extend([0x7E, 0x01, 0x7E, 0x01, 0x4C, 0x7E, 0x01, 0x49]);
+    let galley = hex("07 00 08 00 00 00 00 FF FF 11 01  07 00 08 00 00 00 01 00 00 11 01
+         07 00 08 00 00 00 00 FF FF 11 01  02 00 04 00 00 00 03");
+    assert_eq!(plain::read_tape(&tape, 8), Ok(galley.clone()));
+    assert_eq!(plain::write_dvi(&galley), Err((43, 11)));
+    for them in [LIBRARY, QUICK] {
+        let mut buffer = [0; 40];
+        assert_eq!((them.read_tape)(&tape, 8, &mut buffer), [0, 0, 40], "{}", them.name);
+        assert_eq!(buffer[..], galley[..], "{}", them.name);
+        assert_eq!((them.write_dvi)(&galley, &mut [0; 256]), [43, 11, 0], "{}", them.name);
+    }
+    let column = [&[0x40][..], &[0x60; 32_258], &[0x7D]].concat();
+    let two_pages = [&column[..], &[0x4B], &column, &[0x49]].concat();
+    tape_answers(8, &two_pages, 0, 10);
+    tape_answers(4, &[&column[..], &[0x40], &column[1..]].concat(), 7, column.len() + 1);
+}
+
 #[test]
 fn galleys() {
-    let rows: [(&str, usize, usize); 38] = [
+    let rows: [(&str, usize, usize); 55] = [
         ("", 41, 0),
         ("02 00 04 00 00 00 00", 0, 0),
         ("02 00 04 00 00 00", 41, 0),
@@ -234,19 +261,26 @@ fn galleys() {
         ("02 00 04 00 00 00 01", 41, 0),
         ("02 00 04 00 00 00 01 00", 41, 0),
         ("02 00 04 00 00 00 00 00", 41, 7),
-        ("01 00 06 00 00 00 00 02 01", 41, 9),
-        ("01 00 06 00 00 00 00 02 01 02 00 04 00 00 00 01", 0, 1),
-        ("01 00 06 00 00 00 00 02 01 02 00 04 00 00 00 02", 41, 9),
-        ("01 00 06 00 00 00 00 02 01 02 00 04 00 00 00 00 00", 41, 9),
-        ("01 00 06 00 00 00 00 02 01 01 00", 41, 9),
-        ("01 00 06 00 00 00 00 02", 41, 0),
+        ("07 00 08 00 00 00 00 00 00 02 01", 41, 11),
+        ("07 00 08 00 00 00 00 00 00 02 01 02 00 04 00 00 00 01", 0, 1),
+        ("07 00 08 00 00 00 00 00 00 02 01 02 00 04 00 00 00 02", 41, 11),
+        ("07 00 08 00 00 00 00 00 00 02 01 02 00 04 00 00 00 00 00", 41, 11),
+        ("07 00 08 00 00 00 00 00 00 02 01 07 00", 41, 11),
+        ("07 00 08 00 00 00 00 00 00 02", 41, 0),
         // Unknown tags and lengths.
         ("00", 41, 0),
-        ("03 00 06 00 00 00 00 02 01", 41, 0),
-        ("01 00 05 00 00 00 00 02", 41, 0),
-        ("01 01 06 00 00 00 00 02 01", 41, 0),
+        ("03 00 08 00 00 00 00 00 00 02 01", 41, 0),
+        ("07 00 07 00 00 00 00 00 00 02", 41, 0),
+        ("07 00 06 00 00 00 00 02 01 02 00 04 00 00 00 01", 41, 0),
+        ("07 00 09 00 00 00 00 00 00 02 01 00 02 00 04 00 00 00 01", 41, 0),
+        ("07 01 08 00 00 00 00 00 00 02 01", 41, 0),
         ("02 00 05 00 00 00 00 00", 41, 0),
         ("06 FF FF", 41, 0),
+        // The old form, tag 1 with a height of two bytes, and tag 1 with four.
+        ("01 00 06 00 00 00 00 02 01 02 00 04 00 00 00 01", 41, 0),
+        ("01 00 08 00 00 00 00 00 00 02 01 02 00 04 00 00 00 01", 41, 0),
+        ("07 00 08 00 00 00 00 00 00 02 01 01 00 06 00 00 00 00 02 01 02 00 04 00 00 00 02", 41, 11),
+        ("06 00 00 01 00 06 00 00 00 00 02 01 02 00 04 00 00 00 01", 41, 3),
         // Cuts: without a body, not counted by End.
         ("06 00 00", 41, 3),
         ("06 00", 41, 0),
@@ -256,18 +290,30 @@ fn galleys() {
         ("06 00 01 00 02 00 04 00 00 00 00", 41, 0),
         ("06 01 00 02 00 04 00 00 00 00", 41, 0),
         ("02 00 04 00 00 00 00 06 00 00", 41, 7),
-        ("01 00 06 00 00 00 00 02 01 06 00 00 02 00 04 00 00 00 01", 0, 1),
-        ("01 00 06 00 00 00 00 02 01 06 00 00 02 00 04 00 00 00 02", 41, 12),
-        ("06 00 00 01 00 06 00 00 00 00 02 00 02 00 04 00 00 00 01", 41, 3),
+        ("07 00 08 00 00 00 00 00 00 02 01 06 00 00 02 00 04 00 00 00 01", 0, 1),
+        ("07 00 08 00 00 00 00 00 00 02 01 06 00 00 02 00 04 00 00 00 02", 41, 14),
+        ("06 00 00 07 00 08 00 00 00 00 00 00 02 00 02 00 04 00 00 00 01", 41, 3),
         // Values at the ends of their ranges: x 3,239 and 3,240, -55 and -56, 3,184 and 3,185.
-        ("01 00 06 0C A7 FF FF 02 6C 02 00 04 00 00 00 01", 0, 1),
-        ("01 00 06 0C A8 FF FF 02 6C 02 00 04 00 00 00 01", 41, 0),
-        ("01 00 06 FF C9 00 00 77 01 02 00 04 00 00 00 01", 0, 1),
-        ("01 00 06 FF C8 00 00 77 01 02 00 04 00 00 00 01", 41, 0),
-        ("01 00 06 0C 71 00 00 77 01 02 00 04 00 00 00 01", 41, 0),
-        ("01 00 06 00 00 00 00 78 01 02 00 04 00 00 00 01", 41, 0),
-        ("01 00 06 00 00 00 00 02 00 02 00 04 00 00 00 01", 41, 0),
-        ("01 00 06 00 00 00 00 02 6D 02 00 04 00 00 00 01", 41, 0),
+        ("07 00 08 0C A7 00 00 FF FF 02 6C 02 00 04 00 00 00 01", 0, 1),
+        ("07 00 08 0C A8 00 00 FF FF 02 6C 02 00 04 00 00 00 01", 41, 0),
+        ("07 00 08 FF C9 00 00 00 00 77 01 02 00 04 00 00 00 01", 0, 1),
+        ("07 00 08 FF C8 00 00 00 00 77 01 02 00 04 00 00 00 01", 41, 0),
+        ("07 00 08 0C 71 00 00 00 00 77 01 02 00 04 00 00 00 01", 41, 0),
+        ("07 00 08 00 00 00 00 00 00 78 01 02 00 04 00 00 00 01", 41, 0),
+        ("07 00 08 00 00 00 00 00 00 02 00 02 00 04 00 00 00 01", 41, 0),
+        ("07 00 08 00 00 00 00 00 00 02 6D 02 00 04 00 00 00 01", 41, 0),
+        // Heights: 65,535 and 65,536, 1,000,000 and 1,000,001; four bytes without a sign.
+        ("07 00 08 00 00 00 00 FF FF 02 01 02 00 04 00 00 00 01", 0, 1),
+        ("07 00 08 00 00 00 01 00 00 02 01 02 00 04 00 00 00 01", 0, 1),
+        ("07 00 08 00 00 00 0F 42 40 02 01 02 00 04 00 00 00 01", 0, 1),
+        ("07 00 08 00 00 00 0F 42 41 02 01 02 00 04 00 00 00 01", 41, 0),
+        ("07 00 08 00 00 00 10 00 00 02 01 02 00 04 00 00 00 01", 41, 0),
+        ("07 00 08 00 00 01 00 00 00 02 01 02 00 04 00 00 00 01", 41, 0),
+        ("07 00 08 00 00 80 00 00 00 02 01 02 00 04 00 00 00 01", 41, 0),
+        ("07 00 08 00 00 FF FF FF FF 02 01 02 00 04 00 00 00 01", 41, 0),
+        ("06 00 00 07 00 08 00 00 00 0F 42 41 02 01 02 00 04 00 00 00 01", 41, 3),
+        ("07 00 08 00 00 00 00 00 00 02 01 07 00 08 00 00 00 0F 42 41 02 01 02 00 04 00 00 00 02", 41, 11),
+        ("07 00 08 00 00 00 0F 42 40 02 01 02 00 04 00 00 00 02", 41, 11),
     ];
     for (galley, number, second) in rows {
         let galley = hex(galley);
@@ -280,6 +326,86 @@ fn galleys() {
         for them in [LIBRARY, QUICK] {
             assert_eq!((them.check_galley)(&galley), expected, "{} on {galley:02X?}", them.name);
         }
+    }
+}
+
+/// A character at height 0, at 65,535, at 65,536 and at 1,000,000; a cut; and End after one to four characters.
+const LOW: &str = "07 00 08 00 00 00 00 00 00 02 01 ";
+const DEEP: &str = "07 00 08 00 00 00 00 FF FF 02 01 ";
+const TALL: &str = "07 00 08 00 00 00 01 00 00 02 01 ";
+const TALLEST: &str = "07 00 08 00 00 00 0F 42 40 02 01 ";
+const CUT: &str = "06 00 00 ";
+const ENDS: [&str; 4] =
+    ["02 00 04 00 00 00 01", "02 00 04 00 00 00 02", "02 00 04 00 00 00 03", "02 00 04 00 00 00 04"];
+
+#[test]
+fn heights_that_dvi_cannot_hold() {
+    let [one, two, three, four] = ENDS;
+    let rows: [(String, usize, usize); 14] = [
+        // 65,535 is held; 43 is at the first field with a greater height, cuts counted by their 3 bytes.
+        ([DEEP, one].concat(), 0, 58),
+        ([TALL, one].concat(), 43, 0),
+        ([TALLEST, one].concat(), 43, 0),
+        ([LOW, TALL, two].concat(), 43, 11),
+        ([DEEP, LOW, TALL, TALLEST, four].concat(), 43, 22),
+        ([CUT, TALL, one].concat(), 43, 3),
+        ([LOW, CUT, CUT, TALL, CUT, LOW, three].concat(), 43, 17),
+        ([LOW, CUT, TALLEST, CUT, TALL, three].concat(), 43, 14),
+        // 41 wherever it stands comes first.
+        ([TALL, TALL, one].concat(), 41, 22),
+        ([TALL, "05 ", one].concat(), 41, 11),
+        ([TALL, one, " 00"].concat(), 41, 18),
+        ([TALL].concat(), 41, 11),
+        ([TALL, "07 00 08 00 00 00 0F 42 41 02 01 ", two].concat(), 41, 11),
+        ([TALL, "01 00 06 00 00 00 00 02 01 ", two].concat(), 41, 11),
+    ];
+    for (galley, number, second) in rows {
+        let galley = hex(&galley);
+        let expected = if number == 0 { [0, 0, second] } else { [number, second, 0] };
+        let plainly = match plain::write_dvi(&galley) {
+            Ok(dvi) => [0, 0, dvi.len()],
+            Err((number, place)) => [number, place, 0],
+        };
+        assert_eq!(plainly, expected, "plain reading of {galley:02X?}");
+        for them in [LIBRARY, QUICK] {
+            let mut buffer = [0; 64];
+            assert_eq!((them.write_dvi)(&galley, &mut buffer), expected, "{} on {galley:02X?}", them.name);
+        }
+    }
+}
+
+/// 43 comes before 31, 42 and 30; 40 and 41 before 43.
+#[test]
+fn the_order_of_43() {
+    let [one, two, ..] = ENDS;
+    let (tall, bad) = (hex(&[LOW, TALL, two].concat()), hex(&[TALL, two].concat()));
+    let low = hex(&[LOW, one].concat());
+    let mut long = hex(TALL);
+    long.resize(spatecanter::GALLEY_LIMIT + 1, 0);
+    for them in [LIBRARY, QUICK] {
+        assert_eq!((them.write_dvi)(&tall, &mut []), [43, 11, 0], "{}", them.name);
+        assert_eq!((them.write_dvi)(&bad, &mut []), [41, 11, 0], "{}", them.name);
+        assert_eq!((them.write_dvi)(&long, &mut []), [40, 0, 0], "{}", them.name);
+        for widths in [&[][..], &[0]] {
+            let reprint = |galley| (them.reprint)(galley, widths, &mut [], &mut []);
+            assert_eq!(reprint(&tall), [43, 11, 0], "{}", them.name);
+            assert_eq!(reprint(&bad), [41, 11, 0], "{}", them.name);
+            assert_eq!(reprint(&long), [40, 0, 0], "{}", them.name);
+        }
+        assert_eq!((them.reprint)(&low, &[0], &mut [], &mut []), [31, 0, 0], "{}", them.name);
+    }
+}
+
+/// Tall characters are read back, also behind a cut.
+#[test]
+fn tall_characters_read_back() {
+    let galley = hex(&[LOW, CUT, TALL, TALLEST, ENDS[2]].concat());
+    let heights = [0, 65_536, 1_000_000];
+    for them in [LIBRARY, QUICK] {
+        for (n, height) in heights.into_iter().enumerate() {
+            assert_eq!((them.read_back)(&galley, n), ([0; 3], [0, height, 2, 1]), "{}", them.name);
+        }
+        assert_eq!((them.read_back)(&galley, 3), ([11, 0, 0], [0; 4]), "{}", them.name);
     }
 }
 
@@ -395,7 +521,7 @@ fn a_sheet_by_hand() {
 #[test]
 fn pages_by_hand() {
     let tape = hex("40 EF 52 4E FC 7E 01  4B  40  4B 00  40 4E EF 02 49");
-    let galley = hex("01 00 06 00 03 00 01 02 01  06 00 00  06 00 00  01 00 06 00 00 00 00 02 02
+    let galley = hex("07 00 08 00 03 00 00 00 01 02 01  06 00 00  06 00 00  07 00 08 00 00 00 00 00 00 02 02
          02 00 04 00 00 00 02");
     let dvi = hex("81 00 00 00 01 FF FF FF FF  9C  8F 00 80 00  93 00 80 00  88 01  82
          81 00 00 00 02 00 00 00 00  82

@@ -1,7 +1,7 @@
 //! The files in samples/ are what their README says.
 
 use spatecanter::galley::characters;
-use spatecanter::sample::{pages, yearbook};
+use spatecanter::sample::{chart, pages, yearbook};
 use spatecanter::sheet::{fields, Field};
 use spatecanter::{Machine, Refusal};
 use std::path::Path;
@@ -17,7 +17,7 @@ fn the_yearbook_is_made_by_the_generator() {
     let galley = spatecanter::read_tape(&tape, Machine::Eight).unwrap();
     assert_eq!(spatecanter::check_galley(&galley), Ok(2_628));
     let reprint = spatecanter::reprint(&galley, &[]).unwrap();
-    assert_eq!((galley.len(), reprint.dvi.len(), reprint.sheet.len()), (23_659, 16_090, 42_062));
+    assert_eq!((galley.len(), reprint.dvi.len(), reprint.sheet.len()), (28_915, 16_090, 42_062));
 }
 
 #[test]
@@ -27,7 +27,7 @@ fn the_pages_are_made_by_the_generator() {
     let galley = spatecanter::read_tape(&tape, Machine::Eight).unwrap();
     assert_eq!(spatecanter::check_galley(&galley), Ok(628));
     let reprint = spatecanter::reprint(&galley, &[]).unwrap();
-    assert_eq!((galley.len(), reprint.dvi.len(), reprint.sheet.len()), (5_665, 3_940, 10_076));
+    assert_eq!((galley.len(), reprint.dvi.len(), reprint.sheet.len()), (6_921, 3_940, 10_076));
     let starts: Vec<(usize, Field)> =
         fields(&reprint.sheet).enumerate().filter(|(_, field)| matches!(field, Field::Page(_))).collect();
     assert_eq!(starts, [(0, Field::Page(1)), (335, Field::Page(2)), (336, Field::Page(3))]);
@@ -41,9 +41,9 @@ fn the_four_font_tape_is_made_by_the_generator() {
     let galley = spatecanter::read_tape(&tape, Machine::Four).unwrap();
     assert_eq!(spatecanter::check_galley(&galley), Ok(982));
     let whole = spatecanter::read_tape(&sample("yearbook.tape"), Machine::Eight).unwrap();
-    assert!(galley[..9 * 982] == whole[..9 * 982]);
+    assert!(galley[..11 * 982] == whole[..11 * 982]);
     let reprint = spatecanter::reprint(&galley, &[]).unwrap();
-    assert_eq!((galley.len(), reprint.dvi.len(), reprint.sheet.len()), (8_845, 6_065, 15_726));
+    assert_eq!((galley.len(), reprint.dvi.len(), reprint.sheet.len()), (10_809, 6_065, 15_726));
 }
 
 #[test]
@@ -53,6 +53,20 @@ fn each_tape_on_the_other_machine() {
     assert_eq!([2, 4, 6].map(in_font), [728, 106, 148]);
     let refused = spatecanter::read_tape(&sample("yearbook.tape"), Machine::Four);
     assert_eq!(refused, Err(Refusal { number: 2, place: 3 }));
+}
+
+/// A column longer than DVI can hold: a galley, but no DVI file.
+#[test]
+fn the_chart_is_made_by_the_generator() {
+    let tape = sample("chart.tape");
+    assert!(tape == chart(1980, 70_000));
+    let galley = spatecanter::read_tape(&tape, Machine::Eight).unwrap();
+    assert_eq!((galley.len(), spatecanter::check_galley(&galley)), (2_504, Ok(227)));
+    assert_eq!(characters(&galley).last().unwrap().height, 70_000);
+    let first = characters(&galley).position(|it| it.height > 65_535).unwrap();
+    let refused = Refusal { number: 43, place: 11 * first };
+    assert_eq!(spatecanter::write_dvi(&galley), Err(refused));
+    assert_eq!(spatecanter::reprint(&galley, &[]), Err(refused));
 }
 
 #[test]

@@ -5,7 +5,7 @@ use borrow.Author.Needs.{needs}
 use Rattle.octets.specs.Write.{length-wrote}
 use Rattle.dvi.specs.Writer.{firstPress}
 use Rattle.dvi.specs.WriterLaws.{itemsBytes-most, length-pages, length-file}
-use Rattle.dvi_writer.specs.Result.{itemsOf}
+use Rattle.galley_file.specs.Galley.{itemsOf}
 use Rattle.dvi_writer.proofs.Galleys.{few}
 use Rattle.dvi_writer.proofs.Results.{pst-is, post-room, file-is}
 use Rattle.dvi_writer.proofs.put_file.Statement.{statement}

@@ -8,7 +8,7 @@ use lib.ListN.{length}
 use Rattle.octets.specs.Answer.{outcome, after}
 use Rattle.dvi.specs.Writer.{firstPress, dviFile}
 use Rattle.dvi.specs.WriterLaws.{itemsBytes-most}
-use Rattle.dvi_writer.specs.Result.{itemsOf}
+use Rattle.galley_file.specs.Galley.{itemsOf}
 use Rattle.dvi_writer.proofs.Galleys.{few}
 use Rattle.dvi_writer.proofs.Results.{file-length, no-room, with-room}
 use Rattle.dvi_writer.proofs.write_checked.Statement.{statement}
@@ -39,8 +39,9 @@ add-needed-2 c = omega (arith, small (c .before .before), c .count .ensures .1)
 
 returns : tie.Need-returns
 returns c =
-    let a = c .before .before .before .before .before .before .args in
-    let q = no-room (a .g .now) (a .out .now) _ (needed-is (c .before)) (c .if1 .taken) in
+    let s = c .before .before .before .before .before .before in
+    let a = s .args in
+    let q = no-room (a .g .now) (a .out .now) _ (s .pre) _ (needed-is (c .before)) (c .if1 .taken) in
     (sym (ap outcome q), sym (ap (after (a .out .now)) q))
 
 put-file-requires : tie.Need-put-file-requires
@@ -50,7 +51,7 @@ same-length : tie.Need-same-length
 same-length c = search needs
 
 returns-2 : tie.Need-returns-2
-returns-2 c = with-room _ _ _ (needed-is (c .before .before .before .before .before)) (c .before .before .before .before .if1 .left) _ (c .before .before .put-file .ensures)
+returns-2 c = with-room _ _ _ (c .before .before .before .before .before .before .before .before .before .before .pre) _ (needed-is (c .before .before .before .before .before)) (c .before .before .before .before .if1 .left) _ (c .before .before .put-file .ensures)
 
 pub write-checked-spec : {M : Type 1} → statement M
 write-checked-spec =

@@ -4,17 +4,17 @@ use mathlib.Core.Path.{_≡_, sym, ap, _∙_}
 use borrow.Author.Needs.{needs}
 use lib.ListN.{length}
 use Rattle.octets.specs.Answer.{accepted, outcomeOf, outcome, after}
-use Rattle.galley_file.specs.Outcome.{checkOutcome}
-use Rattle.dvi_writer.proofs.Results.{check-refused, check-accepted}
+use Rattle.galley_file.specs.Low.{lowOutcome}
+use Rattle.dvi_writer.proofs.Results.{check-refused}
 use Rattle.dvi_writer.proofs.write_dvi.Statement.{statement}
 use Rattle.dvi_writer.proofs.write_dvi.Tie as tie
 
 -- the answer of the check, in the arm for an accepted galley
-counted : (c : tie.After-checked2) → accepted (c .checked2 .given .0 .0) ≡ checkOutcome (c .before .before .before .before .before .args .galley .now)
-counted c = sym (ap outcomeOf (c .checked2 .given .1)) ∙ c .before .before .check-galley .ensures
+counted : (c : tie.After-checked2) → accepted (c .checked2 .given .0 .0) ≡ lowOutcome (c .before .before .before .before .before .args .galley .now)
+counted c = sym (ap outcomeOf (c .checked2 .given .1)) ∙ c .before .before .check-low .ensures
 
-check-galley-requires : tie.Need-check-galley-requires
-check-galley-requires c κs = search needs
+check-low-requires : tie.Need-check-low-requires
+check-low-requires c κs = search needs
 
 enum-known-checked : tie.Need-enum-known-checked
 enum-known-checked c = search needs
@@ -28,24 +28,20 @@ write-checked-requires c κs = counted (c .before .before)
 returns : tie.Need-returns
 returns c =
     let a = c .before .before .before .before .before .before .args in
-    let q = check-refused (a .galley .now) (length (a .dvi .now)) _ _ (sym (ap outcomeOf (c .before .checked .given .1)) ∙ c .before .before .before .check-galley .ensures) in
+    let q = check-refused (a .galley .now) (length (a .dvi .now)) _ _ (sym (ap outcomeOf (c .before .checked .given .1)) ∙ c .before .before .before .check-low .ensures) in
     (sym (ap outcome q), sym (ap (after (a .dvi .now)) q))
 
 same-length : tie.Need-same-length
 same-length c = search needs
 
 returns-2 : tie.Need-returns-2
-returns-2 c =
-    let a = c .before .before .before .before .before .before .before .before .before .before .args in
-    let q = check-accepted (a .galley .now) (length (a .dvi .now)) _ (counted (c .before .before .before .before .before)) in
-    let w = c .before .before .write-checked .ensures in
-    (w .0 ∙ sym (ap outcome q), w .1 ∙ sym (ap (after (a .dvi .now)) q))
+returns-2 c = c .before .before .write-checked .ensures
 
 pub write-dvi-spec : {M : Type 1} → statement M
 write-dvi-spec =
     tie.close
     (tie.spec
-    check-galley-requires
+    check-low-requires
     enum-known-checked
     enum-known-checked-2
     write-checked-requires

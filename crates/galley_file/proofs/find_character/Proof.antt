@@ -8,8 +8,9 @@ use lib.ListN.{length}
 use borrow.Author.Needs.{needs}
 use Rattle.octets.specs.Answer.{accepted}
 use Rattle.galley_file.specs.declared.item.Item.the-variants.{Placed, Cut}
+use Rattle.galley_file.specs.Galley.{maxGalley}
 use Rattle.galley_file.specs.Outcome.{checkOutcome, found}
-use Rattle.galley_file.proofs.Back.{Passing, passing-start, passing-room, passing-next, passing-found, passing-none}
+use Rattle.galley_file.proofs.Back.{Passing, passing-start, passing-whole, passing-next, passing-found, passing-none}
 use Rattle.galley_file.proofs.find_character.Statement.{statement}
 use Rattle.galley_file.proofs.find_character.Tie as tie
 
@@ -23,14 +24,14 @@ loop-holds : tie.Need-loop-holds Inv-loop μ-loop
 loop-holds c = passing-start _ _ _ (c .before .pre)
 
 -- the place is in the galley
-inside : {g : List ℕ} {n left at : ℕ} → Passing g n left at → at ≤ 9437191
+inside : {g : List ℕ} {n left at : ℕ} → Passing g n left at → at ≤ maxGalley
 inside p = omega (arith, p .midway .walk .inside, p .fits)
 
 add-loop : tie.Need-add-loop Inv-loop μ-loop
 add-loop c = omega (arith, inside (c .loop .inv))
 
 item-at-requires : tie.Need-item-at-requires Inv-loop μ-loop
-item-at-requires c κs = passing-room _ _ _ _ (c .before .loop .inv) (c .loop-test .taken)
+item-at-requires c κs = passing-whole _ _ _ _ (c .before .loop .inv) (c .loop-test .taken)
 
 enum-told : tie.Need-enum-told Inv-loop μ-loop
 enum-told c = search needs

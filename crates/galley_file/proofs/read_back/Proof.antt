@@ -1,4 +1,4 @@
--- `galley_file::read_back` meets its contract: the check's answer decides; an accepted galley has its character n at byte 9 n where
+-- `galley_file::read_back` meets its contract: the check's answer decides; an accepted galley has its character n at byte 11 n where
 -- there are no cuts, and else it is looked for.
 use mathlib.Core.Path.{_≡_, sym, ap, _∙_}
 use native.Mathlib.Omega.{arith}

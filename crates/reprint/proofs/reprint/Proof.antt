@@ -10,8 +10,8 @@ use Rattle.reprint.proofs.Calls.{refuses, claims}
 use Rattle.reprint.proofs.reprint.Statement.{statement}
 use Rattle.reprint.proofs.reprint.Tie as tie
 
-check-galley-requires : tie.Need-check-galley-requires
-check-galley-requires c κs = search needs
+check-low-requires : tie.Need-check-low-requires
+check-low-requires c κs = search needs
 
 enum-known-checked : tie.Need-enum-known-checked
 enum-known-checked c = search needs
@@ -20,14 +20,14 @@ enum-known-checked-2 : tie.Need-enum-known-checked-2
 enum-known-checked-2 c = search needs
 
 reprint-checked-requires : tie.Need-reprint-checked-requires
-reprint-checked-requires c κs = sym (ap outcomeOf (c .before .before .before .checked2 .given .1)) ∙ c .before .before .before .before .before .check-galley .ensures
+reprint-checked-requires c κs = sym (ap outcomeOf (c .before .before .before .checked2 .given .1)) ∙ c .before .before .before .before .before .check-low .ensures
 
 returns : tie.Need-returns
 returns c =
     let a = c .before .before .before .before .before .before .before .args in
     let g = a .galley .now in
     let k : Bytes g = λ i. c .before .before .before .before .before .before .shared-slice-known .given i .fits in
-    let q = sym (sym (ap outcomeOf (c .before .checked .given .1)) ∙ c .before .before .before .check-galley .ensures) in
+    let q = sym (sym (ap outcomeOf (c .before .checked .given .1)) ∙ c .before .before .before .check-low .ensures) in
     claims g (a .widths .now) (a .dvi .now) (a .sheet .now) k _ _ _
     (refuses (a .dvi .now) (a .sheet .now) (refused-galley g (a .widths .now) (length (a .dvi .now)) (length (a .sheet .now)) _ _ q))
 
@@ -48,7 +48,7 @@ pub reprint-spec : {M : Type 1} → statement M
 reprint-spec =
     tie.close
     (tie.spec
-    check-galley-requires
+    check-low-requires
     enum-known-checked
     enum-known-checked-2
     reprint-checked-requires

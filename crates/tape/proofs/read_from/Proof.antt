@@ -32,7 +32,7 @@ enum-known-ending-2 : tie.Need-enum-known-ending-2
 enum-known-ending-2 c = search needs
 
 -- the bytes of the fields that the first pass has counted
-bytes-counted : (c : tie.After-pass) → 9 * (c .pass .result .count) + c .pass .result .cuts ≡ length (fields (run (c .before .before .before .before .args .first) 0 (c .before .before .before .before .args .tape .now) .items))
+bytes-counted : (c : tie.After-pass) → 11 * (c .pass .result .count) + c .pass .result .cuts ≡ length (fields (run (c .before .before .before .before .args .first) 0 (c .before .before .before .before .args .tape .now) .items))
 bytes-counted c = fields-counted _ _ _ (c .pass .ensures .counted) (c .pass .ensures .parted)
 
 same-length : tie.Need-same-length
@@ -59,7 +59,7 @@ returns-2 c =
     let same = p .ensures .buffer in
     let e = sym (p .ensures .ended) ∙ c .before .before .before .before .ending2 .given .1 in
     let n = bytes-counted (c .before .before .before .before .before .before .before .before .before) in
-    let short : length (a .galley .now) < 9 * p .result .count + p .result .cuts + 7 = omega (arith, c .if3 .taken, ap length same) in
+    let short : length (a .galley .now) < 11 * p .result .count + p .result .cuts + 7 = omega (arith, c .if3 .taken, ap length same) in
     let q = read-short (a .first) (a .tape .now) (length (a .galley .now)) _ e (c .before .before .if1 .left) (c .before .if2 .taken) _ n short in
     (sym (ap outcome q), same ∙ sym (ap (after (a .galley .now)) q))
 
@@ -87,7 +87,7 @@ returns-3 c =
     let same = p .ensures .buffer in
     let n = bytes-counted (c .before .before .before .before .before .before .before .before .before .before .before .before .before .before .before .before .before) in
     let e = sym (p .ensures .ended) ∙ c .before .before .before .before .before .before .before .before .before .before .before .before .ending2 .given .1 in
-    let room : 9 * p .result .count + p .result .cuts + 7 ≤ length (a .galley .now) = omega (arith, t .if3 .left, ap length same) in
+    let room : 11 * p .result .count + p .result .cuts + 7 ≤ length (a .galley .now) = omega (arith, t .if3 .left, ap length same) in
     let q = read-whole (a .first) (a .tape .now) (length (a .galley .now)) _ e (c .before .before .before .before .before .before .before .before .before .before .if1 .left) (c .before .before .before .before .before .before .before .before .before .if2 .taken) _ n room in
     let is = run (a .first) 0 (a .tape .now) .items in
     let w = m .ensures .buffer ∙ ap (λ (g : List ℕ). sets g 0 (fields is)) same in (

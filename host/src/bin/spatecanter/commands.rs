@@ -160,7 +160,7 @@ fn draw(arguments: &Arguments) -> Result<(), Failure> {
     let output = Output::choose(arguments.output.as_deref(), &[&arguments.input], "svg")?;
     let bytes = files::read(&arguments.input, GALLEY_LIMIT)?;
     let galley = match bytes.first() {
-        Some(1 | 2 | 6) => {
+        Some(2 | 6 | 7) => {
             spatecanter::check_galley(&bytes)
                 .map_err(|refusal| explain::galley(&arguments.input, &bytes, refusal))?;
             bytes

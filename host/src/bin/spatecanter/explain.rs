@@ -21,10 +21,15 @@ pub fn tape(name: &OsStr, tape: &[u8], machine: Machine, refusal: Refusal) -> Fa
 
 pub fn galley(name: &OsStr, galley: &[u8], refusal: Refusal) -> Failure {
     let mut lines = vec![format!("{}: {refusal}", shown(name))];
-    if refusal.number == number::GALLEY_MALFORMED {
-        let rest = &galley[refusal.place.min(galley.len())..];
-        lines.push(format!("{}: {}", offset(refusal.place), bytes_in_words(rest, 9)));
-        lines.push(format!("  expected: {}", expected_field(galley, refusal.place)));
+    let rest = &galley[refusal.place.min(galley.len())..];
+    let expected = match refusal.number {
+        number::GALLEY_MALFORMED => Some(expected_field(galley, refusal.place)),
+        number::TOO_HIGH => Some(expected_height(rest)),
+        _ => None,
+    };
+    if let Some(expected) = expected {
+        lines.push(format!("{} of the galley: {}", offset(refusal.place), bytes_in_words(rest, 11)));
+        lines.push(format!("  expected: {expected}"));
     }
     Failure::Refused(lines.join("\n"))
 }
@@ -124,8 +129,8 @@ fn expected_motion(tape: &[u8], machine: Machine, place: usize) -> String {
         let way = standing.map_or(String::new(), |(carriage, _)| way(carriage, escape_size(code), 3_239));
         format!("an escape that keeps the carriage in 0 to 3,239{way}")
     } else {
-        let way = standing.map_or(String::new(), |(_, height)| way(height, lead_size(code), 65_535));
-        format!("a lead that keeps the height in 0 to 65,535{way}")
+        let way = standing.map_or(String::new(), |(_, height)| way(height, lead_size(code), 1_000_000));
+        format!("a lead that keeps the height in 0 to 1,000,000{way}")
     }
 }
 
@@ -149,19 +154,24 @@ fn expected_field(galley: &[u8], place: usize) -> String {
     let (items, characters) = (items(before).count(), characters(before).count());
     let cuts = items - characters;
     match rest {
-        _ if 9 * characters + 3 * cuts < before.len() => "the end of the file, since End was read".into(),
+        _ if 11 * characters + 3 * cuts < before.len() => "the end of the file, since End was read".into(),
         [2, 0, 4, _, _, _, _, ..] => format!("an End that counts {} characters", grouped(characters)),
         _ if items == ITEM_LIMIT => {
             format!("End (02 00 04 ...), after {} characters and cuts", grouped(items))
         }
-        [1, 0, 6, _, _, _, _, font_number, code, ..] => expected_character(*font_number, *code).into(),
-        [1, 0, 6, ..] | [2, 0, 4, ..] => "the rest of the field, which is cut short".into(),
-        _ => "a character (01 00 06 ...), a cut (06 00 00) or End (02 00 04 ...)".into(),
+        [7, 0, 8, _, _, height1, height2, height3, height4, font_number, code, ..] => {
+            let height = u32::from_be_bytes([*height1, *height2, *height3, *height4]);
+            expected_character(height, *font_number, *code).into()
+        }
+        [7, 0, 8, ..] | [2, 0, 4, ..] => "the rest of the field, which is cut short".into(),
+        _ => "a character (07 00 08 ...), a cut (06 00 00) or End (02 00 04 ...)".into(),
     }
 }
 
-fn expected_character(font_number: u8, code: u8) -> &'static str {
-    if font_number > 119 {
+fn expected_character(height: u32, font_number: u8, code: u8) -> &'static str {
+    if height > 1_000_000 {
+        "a height of 0 to 1,000,000"
+    } else if font_number > 119 {
         "a font number of 0 to 119"
     } else if !(1..=108).contains(&code) {
         "a character of 1 to 108"
@@ -170,6 +180,12 @@ fn expected_character(font_number: u8, code: u8) -> &'static str {
     } else {
         "an x of 0 to 3,239, in a single size"
     }
+}
+
+/// What DVI asks of the height of the character that comes first in a rest.
+fn expected_height(rest: &[u8]) -> String {
+    let height = characters(rest).next().map_or(0, |character| character.height as usize);
+    format!("a height of at most 65,535, to be set as DVI; it is {}", grouped(height))
 }
 
 fn command_in_words(command: u8) -> String {

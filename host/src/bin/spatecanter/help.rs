@@ -53,7 +53,7 @@ Numbers, at the place of the byte unless another is said:
    4  a code other than 00 after stop
    5  while parked, a flash or an escape other than 16 forward
    6  a flash before any size
-   7  the carriage would leave 0 to 3,239, or the height 0 to 65,535
+   7  the carriage would leave 0 to 3,239, or the height 0 to 1,000,000
    8  a flash above 45 in the upper half
    9  the tape ends without stop; at its length
   10  after a cut, a code other than 00 and initialize; or the tape ends there, then at its
@@ -68,7 +68,7 @@ Says whether a file is a galley, and how many characters it has.
 Usage: spatecanter check GALLEY
 
 Numbers:
-  40  the galley is longer than 9,437,191 bytes; at 0
+  40  the galley is longer than 11,534,343 bytes; at 0
   41  it is malformed; at the first bad field, at the first byte after End, or at the length
       if End is missing. More than 1,048,576 characters and cuts together are malformed too
 ";
@@ -89,7 +89,10 @@ Writes a galley as a DVI file of 1980. Each cut ends a page and starts the next.
 
 Usage: spatecanter set GALLEY [-o DVI]
 
-Refusals are those of check. Without -o the DVI file of page.galley is page.dvi.
+DVI holds heights of at most 65,535. Refusals are those of check, and one more:
+  43  a greater height; at the field of the first such character
+
+Without -o the DVI file of page.galley is page.dvi.
 ";
 
 pub const SHOW: &str = "\
@@ -142,7 +145,8 @@ on the 8-font machine, by rail on the 4-font machine. The folder is made if it i
 All three files are written or none. From standard input they are tape.galley, tape.dvi and
 tape.sheet.
 
---machine and refusals are those of read.
+--machine and refusals are those of read. A tape with a height above 65,535, which DVI cannot
+hold, is refused too: 43, at a place in the galley that read makes of it.
 ";
 
 pub const PLOT: &str = "\
@@ -152,11 +156,12 @@ place, without letter shapes.
 Usage: spatecanter plot TAPE|GALLEY [--machine 4|8] [--page N] [-o SVG]
 
 Font 1 is blue and upright, font 2 orange and slanted, other fonts grey; marks of double
-sizes are larger. The legend tells how many there are. A file that begins with byte 01, 02 or
-06 is read as a galley, any other as a tape; no tape and no galley is taken for the other.
+sizes are larger. The legend tells how many there are. A file that begins with byte 02, 06 or
+07 is read as a galley, any other as a tape; no tape and no galley is taken for the other.
 --machine is that of read; a galley has its fonts already, whatever it says. Refusals are
 those of read and check.
 
-With --page only that page is drawn, counted from 1. Without -o the picture of page.tape is
-page.svg.
+The picture has the size of the pages, with rulers in inches: a column of 1,000,000 quanta
+makes it 6,945 inches high. With --page only that page is drawn, counted from 1. Without -o
+the picture of page.tape is page.svg.
 ";

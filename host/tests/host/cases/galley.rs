@@ -3,11 +3,21 @@
 use super::damaged;
 use spatecanter::sample::Random;
 
-/// A galley of any kind: valid, with a bad field or a wrong count, damaged, or of any bytes.
+/// The greatest height that DVI holds, and the greatest of all.
+const DVI_HIGHEST: i64 = 65_535;
+const HIGHEST: i64 = 1_000_000;
+
+/// A galley of any kind: valid, also with heights that DVI cannot hold, with a bad field or a wrong count,
+/// damaged, or of any bytes.
 pub fn galley(random: &mut Random) -> Vec<u8> {
     let items = random.below(12);
     let cuts = random.pick(&[None, None, Some(6), Some(3), Some(1)]);
-    let mut fields = fields(random, items, cuts);
+    let highest = random.pick(&[DVI_HIGHEST, DVI_HIGHEST, DVI_HIGHEST, HIGHEST]);
+    let mut fields = fields(random, items, cuts, highest);
+    if items > 0 && random.one_in(8) {
+        let place = random.below(items);
+        heighten(random, &mut fields[place]);
+    }
     match random.below(11) {
         0 => {
             let length = random.below(30);
@@ -28,19 +38,24 @@ pub fn galley(random: &mut Random) -> Vec<u8> {
     }
 }
 
-/// A valid galley of so many characters.
+/// A valid galley of so many characters, which DVI can hold.
 pub fn valid_galley(random: &mut Random, characters: usize) -> Vec<u8> {
-    fields(random, characters, None).concat()
+    fields(random, characters, None, DVI_HIGHEST).concat()
 }
 
-/// A valid galley of so many characters and cuts together, about one in `n` of them a cut.
+/// A valid galley of so many characters and cuts together, about one in `n` of them a cut, which DVI can hold.
 pub fn valid_galley_with_cuts(random: &mut Random, items: usize, n: usize) -> Vec<u8> {
-    fields(random, items, Some(n)).concat()
+    fields(random, items, Some(n), DVI_HIGHEST).concat()
+}
+
+/// A valid galley of so many characters and cuts together, with heights of all kinds.
+pub fn tall_galley(random: &mut Random, items: usize, n: usize) -> Vec<u8> {
+    fields(random, items, Some(n), HIGHEST).concat()
 }
 
 /// The fields of a valid galley with so many before End; with `cuts`, about one in so many is a cut.
-fn fields(random: &mut Random, items: usize, cuts: Option<usize>) -> Vec<Vec<u8>> {
-    let mut walk = Walk::default();
+fn fields(random: &mut Random, items: usize, cuts: Option<usize>, highest: i64) -> Vec<Vec<u8>> {
+    let mut walk = Walk { highest, ..Walk::default() };
     let mut fields = Vec::with_capacity(items + 1);
     let mut characters = 0_u32;
     for _ in 0..items {
@@ -61,9 +76,10 @@ fn count(fields: &[Vec<u8>], tag: u8) -> u8 {
     fields.iter().filter(|field| field[0] == tag).count() as u8
 }
 
-/// Where the last character stands, and its font number.
+/// Where the last character stands, its font number, and the greatest height.
 #[derive(Default)]
 struct Walk {
+    highest: i64,
     font: i64,
     height: i64,
     carriage: i64,
@@ -77,9 +93,9 @@ impl Walk {
         }
         if random.one_in(3) {
             self.height = match random.below(4) {
-                0 => random.pick(&[0, 1, 65_535]),
-                1 => random.between(0, 65_535),
-                _ => (self.height + step(random, 256)).clamp(0, 65_535),
+                0 => random.pick(&[0, 1, 65_535, 65_536, 999_999, 1_000_000]).min(self.highest),
+                1 => random.between(0, self.highest),
+                _ => (self.height + step(random, 256)).clamp(0, self.highest),
             };
         }
         self.carriage = match random.below(4) {
@@ -89,8 +105,8 @@ impl Walk {
         };
         let shift = if self.font % 15 >= 9 { 55 } else { 0 };
         let [a, b] = ((self.carriage - shift) as i16).to_be_bytes();
-        let [c, d] = (self.height as u16).to_be_bytes();
-        vec![1, 0, 6, a, b, c, d, self.font as u8, random.between(1, 108) as u8]
+        let [c, d, e, f] = (self.height as u32).to_be_bytes();
+        vec![7, 0, 8, a, b, c, d, e, f, self.font as u8, random.between(1, 108) as u8]
     }
 }
 
@@ -98,6 +114,15 @@ impl Walk {
 fn step(random: &mut Random, wide: i64) -> i64 {
     let far = random.pick(&[-wide, 0, 0, 0, wide]);
     far + random.between(-4, 4)
+}
+
+/// Gives a character a height next to 65,535, or any valid one.
+fn heighten(random: &mut Random, field: &mut [u8]) {
+    let any = random.between(0, HIGHEST) as u32;
+    let height = random.pick(&[65_534, 65_535, 65_536, 65_537, 131_071, 131_072, 999_999, 1_000_000, any]);
+    if field[0] == 7 {
+        field[5..9].copy_from_slice(&height.to_be_bytes());
+    }
 }
 
 /// Puts something wrong into a field before End.
@@ -123,16 +148,25 @@ fn spoil_cut(random: &mut Random, field: &mut Vec<u8>) {
     }
 }
 
-/// A value next to its range, or another tag or length.
-fn spoil_character(random: &mut Random, field: &mut [u8]) {
-    match random.below(6) {
-        0 => field[8] = random.pick(&[0, 109, 255]),
-        1 => field[7] = random.pick(&[120, 121, 255]),
-        2 | 3 => {
+/// A value next to its range, a height beyond it, the old form, or another tag or length.
+fn spoil_character(random: &mut Random, field: &mut Vec<u8>) {
+    match random.below(8) {
+        0 => field[10] = random.pick(&[0, 109, 255]),
+        1 => field[9] = random.pick(&[120, 121, 255]),
+        2 => {
+            let any = random.between(HIGHEST + 1, u32::MAX.into()) as u32;
+            let heights = [1_000_001, 1_048_576, 0x0100_0000, 0x7FFF_FFFF, 0x8000_0000, u32::MAX, any];
+            field[5..9].copy_from_slice(&random.pick(&heights).to_be_bytes());
+        }
+        3 => {
+            field.drain(5..7);
+            field[..3].copy_from_slice(&random.pick(&[[1, 0, 6], [7, 0, 6], [1, 0, 8]]));
+        }
+        4 | 5 => {
             let x: i16 = random.pick(&[-56, -55, -1, 3_184, 3_185, 3_239, 3_240, i16::MIN, i16::MAX]);
             field[3..5].copy_from_slice(&x.to_be_bytes());
         }
-        4 => field[0] = random.pick(&[0, 2, 3, 6, 7]),
-        _ => field[2] = random.pick(&[0, 4, 5, 7, 8]),
+        6 => field[0] = random.pick(&[0, 1, 2, 3, 6]),
+        _ => field[2] = random.pick(&[0, 4, 6, 7, 9, 10]),
     }
 }

@@ -5,7 +5,7 @@ mod galley;
 mod tape;
 
 pub use dvi::{dvi_file, valid_dvi_file};
-pub use galley::{galley, valid_galley, valid_galley_with_cuts};
+pub use galley::{galley, tall_galley, valid_galley, valid_galley_with_cuts};
 pub use tape::{tape, valid_tape};
 
 use spatecanter::sample::Random;

@@ -3,9 +3,12 @@
 use super::damaged;
 use spatecanter::sample::Random;
 
-/// A tape of any kind for the machine with so many fonts, 4 or 8: valid, damaged, with a bad cut or a tilt, of
-/// likely codes, or of any bytes.
+/// A tape of any kind for the machine with so many fonts, 4 or 8: valid, damaged, with a bad cut or a tilt, near
+/// the greatest height, of likely codes, or of any bytes.
 pub fn tape(random: &mut Random, fonts: u32) -> Vec<u8> {
+    if random.one_in(200) {
+        return near_the_end(random, fonts);
+    }
     match random.below(12) {
         0 => {
             let length = random.below(30);
@@ -66,21 +69,30 @@ fn with_a_tilt(random: &mut Random, fonts: u32) -> Vec<u8> {
 
 /// A tape that the machine with so many fonts takes to its end.
 pub fn valid_tape(random: &mut Random, fonts: u32) -> Vec<u8> {
-    let mut walk = Walk { fonts, ..Walk::default() };
-    walk.nothing(random);
-    walk.initialize();
+    let mut walk = Walk::new(random, fonts);
     match random.below(60) {
-        0 => walk.near_the_end(random),
+        0 => walk.deep(random, 65_535),
         1..=15 => walk.near_the_right(random),
         _ => {}
     }
-    for _ in 0..random.below(60) {
-        walk.step(random);
-    }
-    walk.tape.push(0x49);
-    walk.nothing(random);
-    walk.tape
+    walk.stopped(random)
 }
+
+/// A tape that comes near the greatest height, and mostly has a lead put in there, which may pass it.
+fn near_the_end(random: &mut Random, fonts: u32) -> Vec<u8> {
+    let mut walk = Walk::new(random, fonts);
+    walk.deep(random, HIGHEST);
+    let start = walk.tape.len();
+    let mut tape = walk.stopped(random);
+    if !random.one_in(3) {
+        let place = start + random.below(tape.len() - start + 1);
+        tape.insert(place, random.between(0x60, 0x7F) as u8);
+    }
+    tape
+}
+
+/// The greatest height.
+const HIGHEST: i64 = 1_000_000;
 
 /// A tape so far, and as much of the machine as decides which codes are taken.
 #[derive(Default)]
@@ -97,6 +109,23 @@ struct Walk {
 }
 
 impl Walk {
+    fn new(random: &mut Random, fonts: u32) -> Walk {
+        let mut walk = Walk { fonts, ..Walk::default() };
+        walk.nothing(random);
+        walk.initialize();
+        walk
+    }
+
+    /// Some steps, and stop.
+    fn stopped(mut self, random: &mut Random) -> Vec<u8> {
+        for _ in 0..random.below(60) {
+            self.step(random);
+        }
+        self.tape.push(0x49);
+        self.nothing(random);
+        self.tape
+    }
+
     fn nothing(&mut self, random: &mut Random) {
         if random.one_in(4) {
             self.tape.extend(vec![0; random.below(4)]);
@@ -129,11 +158,15 @@ impl Walk {
         self.escape(random.between(50, 64));
     }
 
-    /// Near the greatest height.
-    fn near_the_end(&mut self, random: &mut Random) {
-        self.tape.extend(vec![0x60; 2_113]);
-        self.height = 2_113 * 31;
+    /// Near a height, and off the switch in a size.
+    fn deep(&mut self, random: &mut Random, height: i64) {
+        let leads = height / 31 - 1;
+        self.tape.extend(vec![0x60; leads as usize]);
+        self.height = 31 * leads;
         self.lead(random.between(0, 31));
+        self.tape.extend([0xEF, 0x52]);
+        self.parked = false;
+        self.sized = true;
     }
 
     fn step(&mut self, random: &mut Random) {
@@ -187,7 +220,7 @@ impl Walk {
 
     fn lead(&mut self, size: i64) {
         let height = self.height + if self.lead_backward { -size } else { size };
-        if (0..=65_535).contains(&height) {
+        if (0..=HIGHEST).contains(&height) {
             self.height = height;
             self.tape.push(0x7F - size as u8);
         }

@@ -5,7 +5,7 @@ use super::{field, Refused};
 #[derive(Clone, Copy, Debug, PartialEq)]
 pub struct Character {
     pub x: i32,
-    pub height: i32,
+    pub height: u32,
     pub font_number: i32,
     pub code: i32,
 }
@@ -14,25 +14,28 @@ impl Character {
     fn field(&self) -> Vec<u8> {
         let mut body = Vec::new();
         body.extend((self.x as i16).to_be_bytes());
-        body.extend((self.height as u16).to_be_bytes());
+        body.extend(self.height.to_be_bytes());
         body.push(self.font_number as u8);
         body.push(self.code as u8);
-        field(1, &body)
+        field(7, &body)
     }
 
     fn of(body: &[u8]) -> Character {
         Character {
             x: i16::from_be_bytes([body[0], body[1]]).into(),
-            height: u16::from_be_bytes([body[2], body[3]]).into(),
-            font_number: body[4].into(),
-            code: body[5].into(),
+            height: u32::from_be_bytes([body[2], body[3], body[4], body[5]]),
+            font_number: body[6].into(),
+            code: body[7].into(),
         }
     }
 
     fn is_valid(&self) -> bool {
         let doubled = self.font_number % 15 >= 9;
         let across = if doubled { -55..=3_184 } else { 0..=3_239 };
-        across.contains(&self.x) && (0..=119).contains(&self.font_number) && (1..=108).contains(&self.code)
+        across.contains(&self.x)
+            && self.height <= 1_000_000
+            && (0..=119).contains(&self.font_number)
+            && (1..=108).contains(&self.code)
     }
 }
 
@@ -44,7 +47,7 @@ pub enum Item {
 }
 
 impl Item {
-    fn field(&self) -> Vec<u8> {
+    pub fn field(&self) -> Vec<u8> {
         match self {
             Item::Character(character) => character.field(),
             Item::Cut => field(6, &[]),
@@ -83,7 +86,7 @@ fn characters(items: &[Item]) -> Vec<Character> {
 }
 
 pub fn items(galley: &[u8]) -> Result<Vec<Item>, Refused> {
-    if galley.len() > 9_437_191 {
+    if galley.len() > 11_534_343 {
         return Err((40, 0));
     }
     let mut items = Vec::new();
@@ -103,7 +106,7 @@ pub fn items(galley: &[u8]) -> Result<Vec<Item>, Refused> {
         if items.len() == 1_048_576 && tag != 2 {
             return bad;
         }
-        if tag == 1 && length == 6 {
+        if tag == 7 && length == 8 {
             let character = Character::of(body);
             if !character.is_valid() {
                 return bad;

@@ -135,7 +135,7 @@ impl Machine {
         let doubled = size_index >= 9;
         Ok(Character {
             x: if doubled { self.carriage - 55 } else { self.carriage },
-            height: self.height,
+            height: self.height as u32,
             font_number: 15 * (self.font() - 1) + size_index,
             code: if self.upper_half { 63 + v } else { v },
         })
@@ -181,7 +181,7 @@ impl Machine {
 
     fn lead(&mut self, size: i32) -> Result<(), usize> {
         let height = if self.lead_backward { self.height - size } else { self.height + size };
-        if !(0..=65_535).contains(&height) {
+        if !(0..=1_000_000).contains(&height) {
             return Err(7);
         }
         self.height = height;

@@ -8,11 +8,14 @@ const POINTS: [&str; 15] =
     ["07", "08", "10", "11", "12", "14", "18", "09", "06", "16", "20", "22", "24", "28", "36"];
 
 pub fn write_dvi(galley: &[u8]) -> Result<Vec<u8>, Refused> {
+    let items = items(galley)?;
+    if let Some(place) = too_high(&items) {
+        return Err((43, place));
+    }
     let mut dvi = Vec::new();
     let mut last_bop = -1_i32;
     let (mut widest, mut deepest) = (0, 0);
     let mut fonts = BTreeSet::new();
-    let items = items(galley)?;
     for (index, page) in items.split(|item| matches!(item, Item::Cut)).enumerate() {
         let bop = dvi.len() as i32;
         dvi.push(129);
@@ -28,7 +31,7 @@ pub fn write_dvi(galley: &[u8]) -> Result<Vec<u8>, Refused> {
             if last_font != Some(font) {
                 dvi.extend(font_command(font));
             }
-            let (to_x, to_y) = (target(character.x), 32_768 * character.height);
+            let (to_x, to_y) = (target(character.x), 32_768 * character.height as i32);
             dvi.extend(move_command([144, 143, 142], to_x - x));
             dvi.extend(move_command([148, 147, 146], to_y - y));
             dvi.extend([136, character.code as u8]);
@@ -55,6 +58,18 @@ pub fn write_dvi(galley: &[u8]) -> Result<Vec<u8>, Refused> {
     dvi.extend(postamble.to_be_bytes());
     dvi.extend([0, 223, 223, 223, 223]);
     Ok(dvi)
+}
+
+/// The place of the first character with a height that DVI cannot hold.
+fn too_high(items: &[Item]) -> Option<usize> {
+    let mut place = 0;
+    for item in items {
+        if matches!(item, Item::Character(character) if character.height > 65_535) {
+            return Some(place);
+        }
+        place += item.field().len();
+    }
+    None
 }
 
 /// The whole number nearest to 32,768x/3: of the three next to it the one with three times itself

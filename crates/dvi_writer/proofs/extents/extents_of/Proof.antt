@@ -7,10 +7,11 @@ use Prim.Native.Nat.{ℕ, _+_, _-_, _≤_, _<_}
 use native.Mathlib.Omega.{arith}
 use borrow.Author.Needs.{needs}
 use lib.ListN.{length}
+use Rattle.measure.specs.Place.{lowEnd}
 use Rattle.galley_file.specs.Item.{validItem, itemSize, itemAt}
 use Rattle.galley_file.specs.ItemLaws.{size-least}
-use Rattle.dvi_writer.proofs.Galleys.{few, within}
-use Rattle.dvi_writer.proofs.Passes.{Measured, measured-start, measured-room, measured-inside, measured-valid, measured-size, measured-short, measured-next, measured-end}
+use Rattle.dvi_writer.proofs.Galleys.{few, within, all-low}
+use Rattle.dvi_writer.proofs.Passes.{Measured, measured-start, measured-whole, measured-inside, measured-low, measured-size, measured-short, measured-next, measured-end}
 use Rattle.dvi_writer.proofs.extents.extents_of.Statement.{statement}
 use Rattle.dvi_writer.proofs.extents.extents_of.Tie as tie
 
@@ -33,16 +34,17 @@ add-loop : tie.Need-add-loop Inv-loop μ-loop
 add-loop c = omega (arith, measured-inside _ _ _ _ (c .loop .inv), within _ _ (c .before .before .before .before .pre))
 
 item-at-requires : tie.Need-item-at-requires Inv-loop μ-loop
-item-at-requires c κs = measured-room _ _ _ _ (c .before .loop .inv) (c .loop-test .taken)
+item-at-requires c κs = measured-whole _ _ _ _ (c .before .loop .inv) (c .loop-test .taken)
 
 pen-after-requires : tie.Need-pen-after-requires Inv-loop μ-loop
-pen-after-requires c κs = ap validItem (c .item-at .ensures) ∙ measured-valid _ _ _ _ (c .before .before .loop .inv) (c .before .loop-test .taken)
+pen-after-requires c κs = ap (validItem lowEnd) (c .item-at .ensures) ∙ measured-low _ _ _ _ (c .before .before .loop .inv) (all-low _ _ (c .before .before .before .before .before .before .pre)) (c .before .loop-test .taken)
 
 with-item-requires : tie.Need-with-item-requires Inv-loop μ-loop
 with-item-requires c κs =
     let l = c .before .before .before .loop .inv in
-    let v = ap validItem (c .before .item-at .ensures) ∙ measured-valid _ _ _ _ l (c .before .before .loop-test .taken) in
-    ((omega (arith, measured-short _ _ _ _ l (few _ _ (c .before .before .before .before .before .before .before .pre))), v), (l .pen .on-page, c .pen-after .ensures))
+    let a = c .before .before .before .before .before .before .before .pre in
+    let v = ap (validItem lowEnd) (c .before .item-at .ensures) ∙ measured-low _ _ _ _ l (all-low _ _ a) (c .before .before .loop-test .taken) in
+    ((omega (arith, measured-short _ _ _ _ l (few _ _ a)), v), (l .pen .on-page, c .pen-after .ensures))
 
 item-size-requires : tie.Need-item-size-requires Inv-loop μ-loop
 item-size-requires c κs = search needs

@@ -3,6 +3,7 @@
 use mathlib.Core.Path.{_≡_, refl, sym, ap, _∙_}
 use mathlib.Core.Bool.{true}
 use borrow.Author.Needs.{needs}
+use Rattle.measure.specs.Place.{lowEnd}
 use Rattle.galley_file.specs.Item.{validItem}
 use Rattle.dvi_writer.proofs.Pens.{font-valid, pen-kind}
 use Rattle.dvi_writer.proofs.Passes.{extents-character, extents-cut, extents-kind}
@@ -17,7 +18,7 @@ with-character-requires c κs =
     let s = c .before .before .before in
     let e = c .before .i .given .1 in
     let n = pen-kind _ e (s .pre .1 .1) in
-    (s .pre .0 .0, (s .pre .1 .0, record { is-valid = sym (ap validItem e) ∙ s .pre .0 .1; pen-is = n .pen-is }))
+    (s .pre .0 .0, (s .pre .1 .0, record { is-valid = sym (ap (validItem lowEnd) e) ∙ s .pre .0 .1; pen-is = n .pen-is }))
 
 enum-told : tie.Need-enum-told
 enum-told c = search needs
@@ -28,7 +29,7 @@ add-length c = search needs
 returns : tie.Need-returns
 returns c is a q =
     let e = c .before .before .i .given .1 in
-    let v = sym (ap validItem e) ∙ c .before .before .before .before .pre .0 .1 in
+    let v = sym (ap (validItem lowEnd) e) ∙ c .before .before .before .before .pre .0 .1 in
     extents-kind _ is (sym e) (extents-character is _ _ a _ _ (font-valid _ v) q (c .with-character .ensures))
 
 returns-2 : tie.Need-returns-2

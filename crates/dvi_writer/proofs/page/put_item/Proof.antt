@@ -5,6 +5,7 @@ use mathlib.Core.Bool.{true}
 use native.Mathlib.Omega.{arith}
 use borrow.Author.Needs.{needs}
 use lib.ListN.{length}
+use Rattle.measure.specs.Place.{lowEnd}
 use Rattle.galley_file.specs.declared.item.Item.{Item}
 use Rattle.galley_file.specs.Item.{validItem}
 use Rattle.dvi.specs.Writer.{itemBytes}
@@ -27,7 +28,7 @@ put-character-requires c κs =
     let e = c .before .before .i .given .1 in
     let n = pen-kind _ e (c .before .before .before .before .pen-after .ensures) in
     let l = ap (λ (i : Item). length (itemBytes (pressOf (s .args .p)) i)) e in
-    (omega (arith, l, s .pre .0 .0), (s .pre .1 .1 .0, record { is-valid = sym (ap validItem e) ∙ s .pre .1 .1 .1; pen-is = n .pen-is }))
+    (omega (arith, l, s .pre .0 .0), (s .pre .1 .1 .0, record { is-valid = sym (ap (validItem lowEnd) e) ∙ s .pre .1 .1 .1; pen-is = n .pen-is }))
 
 enum-told : tie.Need-enum-told
 enum-told c = search needs

@@ -8,8 +8,8 @@ use borrow.Author.Needs.{needs}
 use lib.ListN.{length}
 use Rattle.galley_file.specs.Item.{itemSize, itemAt}
 use Rattle.galley_file.specs.ItemLaws.{size-least}
-use Rattle.dvi_writer.proofs.Galleys.{few, within}
-use Rattle.dvi_writer.proofs.Passes.{Printed, printed-start, printed-room, printed-inside, printed-size, printed-asks, printed-next, printed-end}
+use Rattle.dvi_writer.proofs.Galleys.{few, within, all-low}
+use Rattle.dvi_writer.proofs.Passes.{Printed, printed-start, printed-whole, printed-inside, printed-size, printed-asks, printed-next, printed-end}
 use Rattle.dvi_writer.proofs.page.put_items.Statement.{statement}
 use Rattle.dvi_writer.proofs.page.put_items.Tie as tie
 
@@ -29,12 +29,12 @@ add-loop : tie.Need-add-loop Inv-loop μ-loop
 add-loop c = omega (arith, printed-inside _ _ _ _ _ (c .loop .inv), within _ _ (c .before .before .before .before .pre .0))
 
 item-at-requires : tie.Need-item-at-requires Inv-loop μ-loop
-item-at-requires c κs = printed-room _ _ _ _ _ (c .before .loop .inv) (c .loop-test .taken)
+item-at-requires c κs = printed-whole _ _ _ _ _ (c .before .loop .inv) (c .loop-test .taken)
 
 put-item-requires : tie.Need-put-item-requires Inv-loop μ-loop
 put-item-requires c κs =
     let s = c .before .before .before .before .before .before .before in
-    printed-asks _ _ _ _ _ (c .before .before .before .loop .inv) (c .before .before .loop-test .taken) (few _ _ (s .pre .0)) (s .pre .1) _ (c .before .item-at .ensures)
+    printed-asks _ _ _ _ _ (c .before .before .before .loop .inv) (c .before .before .loop-test .taken) (all-low _ _ (s .pre .0)) (few _ _ (s .pre .0)) (s .pre .1) _ (c .before .item-at .ensures)
 
 item-size-requires : tie.Need-item-size-requires Inv-loop μ-loop
 item-size-requires c κs = search needs

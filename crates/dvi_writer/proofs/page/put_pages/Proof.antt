@@ -11,7 +11,7 @@ use Rattle.octets.specs.Octets.{bytes, signedBytes}
 use Rattle.octets.specs.Write.{Wrote, then, length-wrote}
 use Rattle.dvi.specs.Writer.{bopBytes, Press, firstPress, itemsBytes, pressAll, pagesBytes}
 use Rattle.dvi.specs.WriterLaws.{length-pages}
-use Rattle.dvi_writer.specs.Result.{itemsOf}
+use Rattle.galley_file.specs.Galley.{itemsOf}
 use Rattle.dvi_writer.specs.Press.{pressOf}
 use Rattle.dvi_writer.proofs.page.put_pages.Statement.{statement}
 use Rattle.dvi_writer.proofs.page.put_pages.Tie as tie

@@ -3,6 +3,7 @@
 use mathlib.Core.Path.{_≡_, sym, ap, _∙_}
 use mathlib.Core.Bool.{true}
 use borrow.Author.Needs.{needs}
+use Rattle.measure.specs.Place.{lowEnd}
 use Rattle.galley_file.specs.Item.{validItem}
 use Rattle.dvi_writer.proofs.Pens.{pen-set, pen-kind}
 use Rattle.dvi_writer.proofs.pen.pen_after.Statement.{statement}
@@ -12,7 +13,7 @@ enum-known-i : tie.Need-enum-known-i
 enum-known-i c = search needs
 
 pen-at-requires : tie.Need-pen-at-requires
-pen-at-requires c κs = sym (ap validItem (c .before .i .given .1)) ∙ c .before .before .before .pre
+pen-at-requires c κs = sym (ap (validItem lowEnd) (c .before .i .given .1)) ∙ c .before .before .before .pre
 
 enum-told : tie.Need-enum-told
 enum-told c = search needs

@@ -2,13 +2,13 @@
 -- Assumes nothing.
 use mathlib.Core.Path.{_≡_, ap, _∙_}
 use Prim.Native.Nat.{_+_}
+use native.Mathlib.Omega.{arith}
 use borrow.Author.Needs.{needs}
 use lib.IntN.{pos}
 use lib.ListN.{getD}
 use mir.Syntax.{w32}
 use mir.Val.{SFits}
 use Rattle.integers.specs.Parts.{integers, plain-pos, returned}
-use Rattle.integers.specs.Parts.{integers, plain, plain-pos, returned}
 use Rattle.galley_file.specs.Character.{characterAt}
 use Rattle.galley_file.proofs.character.character_at.Statement.{statement}
 use Rattle.galley_file.proofs.character.character_at.Tie as tie
@@ -19,14 +19,14 @@ add-signed2-at c = search needs
 signed2-at-requires : tie.Need-signed2-at-requires
 signed2-at-requires c κs = search needs
 
-add-nat2-at : tie.Need-add-nat2-at
-add-nat2-at c = search needs
+add-nat4-at : tie.Need-add-nat4-at
+add-nat4-at c = search needs
 
-nat2-at-requires : tie.Need-nat2-at-requires
-nat2-at-requires c κs = search needs
+nat4-at-requires : tie.Need-nat4-at-requires
+nat4-at-requires c κs = search needs
 
 cast-height : tie.Need-cast-height
-cast-height c = search needs
+cast-height c = omega (arith, c .nat4-at .ensures, c .before .before .before .pre .1)
 
 add-t5 : tie.Need-add-t5
 add-t5 c = search needs
@@ -45,11 +45,11 @@ unfolding characterAt
 returns c =
     let a = c .before .before .before .before .before .args in
     let p = c .before .before .before .signed2-at in
-    let q = c .before .before .nat2-at in
+    let q = c .before .before .nat4-at in
     let x = returned w32 (p .ok) (p .ensures) in
-    let f : SFits w32 (pos (q .result)) = omega (integers, q .ensures .1) in
-    let h = plain-pos f ∙ ap pos (q .ensures .0) in
-    (λ i. record { x = record { 0 = x i }; height = record { 0 = h i }; font = getD (a .s .now) (a .i + 7) 0; code = getD (a .s .now) (a .i + 8) 0 })
+    let f : SFits w32 (pos (q .result)) = omega (integers, q .ensures, c .before .before .before .before .before .pre .1) in
+    let h = plain-pos f ∙ ap pos (q .ensures) in
+    (λ i. record { x = record { 0 = x i }; height = record { 0 = h i }; font = getD (a .s .now) (a .i + 9) 0; code = getD (a .s .now) (a .i + 10) 0 })
 
 pub character-at-spec : {M : Type 1} → statement M
 character-at-spec =
@@ -57,8 +57,8 @@ character-at-spec =
     (tie.spec
     add-signed2-at
     signed2-at-requires
-    add-nat2-at
-    nat2-at-requires
+    add-nat4-at
+    nat4-at-requires
     cast-height
     add-t5
     shared-slice-read-t10
