@@ -50,6 +50,9 @@ fn print_operations() {
     print_row("read back the last character", "yearbook", &galley, &mut read_back(&galley));
     print_row("write a DVI file", "yearbook", &galley, &mut write_dvi(&galley));
     print_row("reprint", "yearbook", &galley, &mut reprint(&galley));
+    let old = spatecanter::galley_to_old(&galley).unwrap();
+    print_row("convert an old galley", "yearbook", &old, &mut galley_to_new(&old));
+    print_row("convert back", "yearbook", &galley, &mut galley_to_old(&galley));
     let written = spatecanter::write_dvi(&galley).unwrap();
     print_row("read a DVI file", "yearbook, as written", &written, &mut read_dvi(&written, vec![]));
     let dvi = book(SEED, DVI_LIMIT);
@@ -154,6 +157,24 @@ fn reprint(galley: &[u8]) -> Contest<'_> {
         whole.sheet.len(),
         move |sheet| spatecanter::reprint_into(galley, &[], &mut dvi, sheet).unwrap(),
         move |sheet| quick::reprint(galley, &[], &mut quick_dvi, sheet),
+    )
+}
+
+fn galley_to_new(old: &[u8]) -> Contest<'_> {
+    let room = spatecanter::galley_to_new(old).unwrap().len();
+    contest_of_one(
+        room,
+        move |new| spatecanter::galley_to_new_into(old, new).unwrap(),
+        move |new| quick::to_new(old, new),
+    )
+}
+
+fn galley_to_old(new: &[u8]) -> Contest<'_> {
+    let room = spatecanter::galley_to_old(new).unwrap().len();
+    contest_of_one(
+        room,
+        move |old| spatecanter::galley_to_old_into(new, old).unwrap(),
+        move |old| quick::to_old(new, old),
     )
 }
 

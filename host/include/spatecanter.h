@@ -1,6 +1,6 @@
 /*
  * spatecanter.h: C/A/T phototypesetter tapes to galleys, galleys to DVI files of 1980, and DVI files
- * to sheets. Link with libspatecanter.a.
+ * to sheets; and old galleys to new ones and back. Link with libspatecanter.a.
  *
  * ANSWERS. Every function fills `answer` with three numbers:
  *
@@ -29,6 +29,8 @@
  *           indices 0 to 14 stand for 7 8 10 11 12 14 18 9 6 16 20 22 24 28 36 points. From index 9
  *           on sizes are double, with x from -55 to 3,184; in single sizes x is 0 to 3,239.
  *           A galley does not record its tape's machine; the 4-font machine's fonts are 1 to 4.
+ *           The old form, which only sp_galley_to_new takes and sp_galley_to_old makes, differs in its
+ *           characters: tag 1, length 6, height in 2 bytes, 0 to SP_DVI_HEIGHT_LIMIT.
  *   sheet   a run of fields as above. Places and sides are in rsu, 1/65536 of a point of 1/72 inch.
  *           page       tag 5, length 4: its number
  *           character  tag 3, length 13: x, y, font (4 each), character (1)
@@ -50,14 +52,15 @@ extern "C" {
 #endif
 
 /* The longest inputs that are taken, in bytes. */
-#define SP_TAPE_LIMIT   1048576
-#define SP_GALLEY_LIMIT 11534343
-#define SP_DVI_LIMIT    33554432
+#define SP_TAPE_LIMIT       1048576
+#define SP_GALLEY_LIMIT     11534343
+#define SP_OLD_GALLEY_LIMIT 9437191
+#define SP_DVI_LIMIT        33554432
 
 /* The most characters and cuts, together, that a galley holds. */
-#define SP_ITEM_LIMIT   1048576
+#define SP_ITEM_LIMIT       1048576
 
-/* The greatest height of a character, and the greatest that DVI holds. */
+/* The greatest height of a character, and the greatest that DVI and the old form hold. */
 #define SP_HEIGHT_LIMIT     1000000
 #define SP_DVI_HEIGHT_LIMIT 65535
 
@@ -100,14 +103,16 @@ enum sp_number {
 
     /* Galleys */
     SP_NO_SUCH_CHARACTER = 11, /* reading back: n is not below the number of characters; 0 */
-    SP_GALLEY_TOO_LONG   = 40, /* galley over SP_GALLEY_LIMIT; 0 */
+    SP_GALLEY_TOO_LONG   = 40, /* galley over SP_GALLEY_LIMIT, or of the old form over
+                                  SP_OLD_GALLEY_LIMIT; 0 */
     SP_GALLEY_MALFORMED  = 41, /* a bad field, one cut short included, or a character or cut past
                                   SP_ITEM_LIMIT; the first one's offset.
                                   Bytes after End; the first one's offset.
                                   No End; the galley's length */
     SP_DVI_ROOM          = 42, /* DVI buffer too short; the bytes needed */
-    SP_TOO_HIGH          = 43  /* to DVI: a height over SP_DVI_HEIGHT_LIMIT; the offset of the first such
-                                  character's field */
+    SP_TOO_HIGH          = 43, /* to DVI or the old form: a height over SP_DVI_HEIGHT_LIMIT; the offset of
+                                  the first such character's field */
+    SP_CONVERTED_ROOM    = 44  /* buffer for the converted galley too short; the bytes needed */
 };
 
 /*
@@ -171,6 +176,24 @@ void sp_reprint(const uint8_t *galley, size_t galley_len,
                 uint8_t *dvi, size_t dvi_len,
                 uint8_t *sheet, size_t sheet_len,
                 size_t answer[3]);
+
+/*
+ * Writes a galley of the old form in the new form: each character with its x, height, font number and
+ * character, in order; cuts and End as they are. A character's 9 bytes become 11.
+ * Refusals: 40; then 41, both by the rules of the old form; then 44.
+ */
+void sp_galley_to_new(const uint8_t *old_galley, size_t old_galley_len,
+                      uint8_t *new_galley, size_t new_galley_len,
+                      size_t answer[3]);
+
+/*
+ * Writes a galley in the old form, which holds heights to SP_DVI_HEIGHT_LIMIT only. There and back, either
+ * way, gives the same bytes.
+ * Refusals: 40; then 41; then 43; then 44.
+ */
+void sp_galley_to_old(const uint8_t *new_galley, size_t new_galley_len,
+                      uint8_t *old_galley, size_t old_galley_len,
+                      size_t answer[3]);
 
 #ifdef __cplusplus
 }

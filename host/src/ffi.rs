@@ -52,4 +52,20 @@ extern "C" {
         sheet_len: usize,
         answer: *mut [usize; 3],
     );
+
+    pub fn sp_galley_to_new(
+        old_galley: *const u8,
+        old_galley_len: usize,
+        new_galley: *mut u8,
+        new_galley_len: usize,
+        answer: *mut [usize; 3],
+    );
+
+    pub fn sp_galley_to_old(
+        new_galley: *const u8,
+        new_galley_len: usize,
+        old_galley: *mut u8,
+        old_galley_len: usize,
+        answer: *mut [usize; 3],
+    );
 }

@@ -5,15 +5,16 @@ use crate::galley::Character;
 use crate::machine::Machine;
 use crate::refusal::{number, Outcome, Refusal};
 
-/// The longest tape, galley and DVI file that are taken, in bytes.
+/// The longest tape, galley, galley of the old form, and DVI file that are taken, in bytes.
 pub const TAPE_LIMIT: usize = 1_048_576;
 pub const GALLEY_LIMIT: usize = 11_534_343;
+pub const OLD_GALLEY_LIMIT: usize = 9_437_191;
 pub const DVI_LIMIT: usize = 33_554_432;
 
 /// The most characters and cuts, together, that a galley holds.
 pub const ITEM_LIMIT: usize = 1_048_576;
 
-/// The greatest height of a character, and the greatest that DVI holds.
+/// The greatest height of a character, and the greatest that DVI and the old form hold.
 pub const HEIGHT_LIMIT: i32 = 1_000_000;
 pub const DVI_HEIGHT_LIMIT: i32 = 65_535;
 
@@ -138,6 +139,52 @@ pub fn reprint(galley: &[u8], widths: &[i32]) -> Result<Reprint, Refusal> {
     let enough = 7 * (galley.len() / 3);
     let sheet = filled(enough, number::SHEET_ROOM, |sheet| reprint_into(galley, widths, &mut dvi, sheet))?;
     Ok(Reprint { dvi, sheet })
+}
+
+/// Writes a galley of the old form in the new form; the length is the new galley's.
+pub fn galley_to_new_into(old_galley: &[u8], new_galley: &mut [u8]) -> Outcome {
+    let mut answer = [0; 3];
+    // SAFETY: every pointer comes from a live slice, with its length.
+    unsafe {
+        ffi::sp_galley_to_new(
+            old_galley.as_ptr(),
+            old_galley.len(),
+            new_galley.as_mut_ptr(),
+            new_galley.len(),
+            &mut answer,
+        );
+    }
+    outcome(answer)
+}
+
+/// A galley of the old form in the new form.
+pub fn galley_to_new(old_galley: &[u8]) -> Result<Vec<u8>, Refusal> {
+    // A character's 9 bytes become 11.
+    let length = old_galley.len().min(OLD_GALLEY_LIMIT);
+    let enough = length + 2 * (length / 9);
+    filled(enough, number::CONVERTED_ROOM, |new_galley| galley_to_new_into(old_galley, new_galley))
+}
+
+/// Writes a galley in the old form, for heights of at most 65,535; the length is the old galley's.
+pub fn galley_to_old_into(new_galley: &[u8], old_galley: &mut [u8]) -> Outcome {
+    let mut answer = [0; 3];
+    // SAFETY: every pointer comes from a live slice, with its length.
+    unsafe {
+        ffi::sp_galley_to_old(
+            new_galley.as_ptr(),
+            new_galley.len(),
+            old_galley.as_mut_ptr(),
+            old_galley.len(),
+            &mut answer,
+        );
+    }
+    outcome(answer)
+}
+
+/// A galley whose heights are at most 65,535 in the old form.
+pub fn galley_to_old(new_galley: &[u8]) -> Result<Vec<u8>, Refusal> {
+    let enough = new_galley.len().min(GALLEY_LIMIT);
+    filled(enough, number::CONVERTED_ROOM, |old_galley| galley_to_old_into(new_galley, old_galley))
 }
 
 /// The length of a galley's DVI file: an empty buffer is refused with the bytes needed.

@@ -42,6 +42,7 @@ pub mod number {
     pub const GALLEY_MALFORMED: usize = 41;
     pub const DVI_ROOM: usize = 42;
     pub const TOO_HIGH: usize = 43;
+    pub const CONVERTED_ROOM: usize = 44;
     pub const NO_MACHINE: usize = 50;
 }
 
@@ -73,10 +74,13 @@ impl Refusal {
             number::POSTAMBLE => "the postamble is malformed or cut short",
             number::SHEET_ROOM => "the buffer for the sheet is too short",
             number::WIDTHS => "the width table is not a whole number of fonts of 128 widths",
-            number::GALLEY_TOO_LONG => "the galley is longer than 11,534,343 bytes",
+            number::GALLEY_TOO_LONG => {
+                "the galley is longer than 11,534,343 bytes, or 9,437,191 in the old form"
+            }
             number::GALLEY_MALFORMED => "the galley is malformed",
             number::DVI_ROOM => "the buffer for the DVI file is too short",
-            number::TOO_HIGH => "a height above 65,535, which DVI cannot hold",
+            number::TOO_HIGH => "a height above 65,535, which neither DVI nor the old form can hold",
+            number::CONVERTED_ROOM => "the buffer for the converted galley is too short",
             number::NO_MACHINE => "the machine is neither the 4-font nor the 8-font machine",
             _ => "an unknown refusal",
         }

@@ -7,9 +7,11 @@ use Prim.Native.Nat.{ℕ, _+_, _≤_, _<_}
 use lib.ListN.{length}
 use Rattle.octets.specs.Answer.{accepted}
 use Rattle.measure.specs.Place.{lowEnd}
+use Rattle.galley_file.specs.declared.form.Form.the-variants.{New}
+use Rattle.galley_file.specs.Form.{maxGalley}
 use Rattle.galley_file.specs.declared.item.Item.{Item}
 use Rattle.galley_file.specs.Item.{validItem, itemAt}
-use Rattle.galley_file.specs.Galley.{maxGalley, maxItems, AllValid, itemsOf}
+use Rattle.galley_file.specs.Galley.{maxItems, AllValid, itemsOf}
 use Rattle.galley_file.specs.Galley as galley
 use Rattle.galley_file.specs.GalleyLaws.{checked, read-as}
 use Rattle.galley_file.specs.Walk.{Midway, midway-start, midway-next}
@@ -17,18 +19,18 @@ use Rattle.galley_file.specs.Low.{lowOutcome}
 use Rattle.galley_file.specs.LowLaws.{low-checked}
 
 module _ (g : List ℕ) (count : ℕ) (a : accepted count ≡ lowOutcome g) where
-  pub within : length g ≤ maxGalley
-  within = checked g count (low-checked g count a .checked) .fits
+  pub within : length g ≤ maxGalley New
+  within = checked New g count (low-checked g count a .checked) .fits
 
-  pub few : length (itemsOf g) ≤ maxItems
+  pub few : length (itemsOf New g) ≤ maxItems
   unfolding itemsOf
-  few = let k = checked g count (low-checked g count a .checked) in rw (k .read) (k .few)
+  few = let k = checked New g count (low-checked g count a .checked) in rw (k .read) (k .few)
 
-  pub all-low : AllValid lowEnd (itemsOf g)
+  pub all-low : AllValid lowEnd (itemsOf New g)
   all-low = low-checked g count a .valid
 
-  pub begun : Midway g (itemsOf g) [] 0
-  begun = midway-start g (itemsOf g) (read-as g count (low-checked g count a .checked))
+  pub begun : Midway New g (itemsOf New g) [] 0
+  begun = midway-start New g (itemsOf New g) (read-as New g count (low-checked g count a .checked))
 
 -- an item of a list of valid ones
 valid-in : {top : _} (is : List Item) (i : Item) (js : List Item) → AllValid top ((is ++ (i ∷ [])) ++ js) → validItem top i ≡ true
@@ -36,8 +38,8 @@ valid-in [] i js (galley.more v vs) = v
 valid-in (x ∷ is) i js (galley.more v vs) = valid-in is i js vs
 
 -- the next one
-pub low-next : (g : List ℕ) (done : List Item) (at : ℕ) → AllValid lowEnd (itemsOf g) → Midway g (itemsOf g) done at → at + 7 < length g
-    → validItem lowEnd (itemAt g at) ≡ true
+pub low-next : (g : List ℕ) (done : List Item) (at : ℕ) → AllValid lowEnd (itemsOf New g) → Midway New g (itemsOf New g) done at → at + 7 < length g
+    → validItem lowEnd (itemAt New g at) ≡ true
 low-next g done at v m h =
-    let n = midway-next g (itemsOf g) done at m h .next in
-    valid-in done (itemAt g at) (n .rest) (subst (AllValid lowEnd) (n .all) v)
+    let n = midway-next New g (itemsOf New g) done at m h .next in
+    valid-in done (itemAt New g at) (n .rest) (subst (AllValid lowEnd) (n .all) v)

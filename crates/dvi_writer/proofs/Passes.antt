@@ -11,6 +11,7 @@ use Rattle.integers.specs.Parts.{maxZ}
 use Rattle.octets.specs.Answer.{accepted}
 use Rattle.octets.specs.Octets.{bytes, signedBytes}
 use Rattle.octets.specs.Write.{Wrote, wrote-none, then, named}
+use Rattle.galley_file.specs.declared.form.Form.the-variants.{New}
 use Rattle.galley_file.specs.declared.character.Character.{Character}
 use Rattle.galley_file.specs.declared.item.Item.{Item}
 use Rattle.galley_file.specs.declared.item.Item.the-variants.{Placed, Cut}
@@ -96,7 +97,7 @@ wrote-kind o p o′ r e w = subst (λ (k : Item). (Wrote o (p .at) (itemBytes (p
 -- the galley g up to `at`: the extents of the items behind, and the pen after them
 pub record Measured (g : List ℕ) (at : ℕ) (e : Extents) (last : Pen) : Type 0 where
   pub done : List Item
-  pub midway : Midway g (itemsOf g) done at
+  pub midway : Midway New g (itemsOf New g) done at
   pub extents : ExtentsAre e done
   pub pen : PenIs last (pressAll firstPress done .pen)
 
@@ -105,31 +106,31 @@ unfolding pressAll firstPress
 measured-start g count a e p x n = record { done = []; midway = begun g count a; extents = x; pen = n }
 
 module _ (g : List ℕ) (at : ℕ) (e : Extents) (last : Pen) (m : Measured g at e last) where
-  pub measured-whole : at + 7 < length g → WholeAt g at
-  measured-whole h = midway-whole g (itemsOf g) (m .done) at (m .midway) h
+  pub measured-whole : at + 7 < length g → WholeAt New g at
+  measured-whole h = midway-whole New g (itemsOf New g) (m .done) at (m .midway) h
 
   pub measured-inside : at ≤ length g
-  measured-inside = midway-inside g (itemsOf g) (m .done) at (m .midway)
+  measured-inside = midway-inside New g (itemsOf New g) (m .done) at (m .midway)
 
-  pub measured-low : AllValid lowEnd (itemsOf g) → at + 7 < length g → validItem lowEnd (itemAt g at) ≡ true
+  pub measured-low : AllValid lowEnd (itemsOf New g) → at + 7 < length g → validItem lowEnd (itemAt New g at) ≡ true
   measured-low v h = low-next g (m .done) at v (m .midway) h
 
-  pub measured-size : at + 7 < length g → at + itemSize (itemAt g at) + 7 ≤ length g
-  measured-size h = midway-next g (itemsOf g) (m .done) at (m .midway) h .room
+  pub measured-size : at + 7 < length g → at + itemSize New (itemAt New g at) + 7 ≤ length g
+  measured-size h = midway-next New g (itemsOf New g) (m .done) at (m .midway) h .room
 
-  pub measured-short : length (itemsOf g) ≤ maxItems → e .length ≤ 17825792
+  pub measured-short : length (itemsOf New g) ≤ maxItems → e .length ≤ 17825792
   measured-short f =
       let all = m .midway .all in
       omega (arith, f, m .extents .length-is, itemsBytes-most firstPress (m .done), ap length all, length-append (m .done) (m .midway .rest))
 
-  pub measured-next : at + 7 < length g → (i : Item) → i ≡ itemAt g at → (r : Extents) (next : Pen)
+  pub measured-next : at + 7 < length g → (i : Item) → i ≡ itemAt New g at → (r : Extents) (next : Pen)
       → ((is : List Item) → ExtentsAre e is → pressAll firstPress is .pen ≡ penOf last → ExtentsAre r (is ++ (i ∷ []))) → PenIs next (penPast i)
-      → Measured g (at + itemSize i) r next
+      → Measured g (at + itemSize New i) r next
   measured-next h i q r next x n =
       let d = m .done in
       record {
         done = d ++ (i ∷ []);
-        midway = subst (Onward g (itemsOf g) d at) (sym q) (midway-next g (itemsOf g) d at (m .midway) h) .next;
+        midway = subst (Onward New g (itemsOf New g) d at) (sym q) (midway-next New g (itemsOf New g) d at (m .midway) h) .next;
         extents = x d (m .extents) (sym (m .pen .pen-is));
         pen = record {
           on-page = n .on-page;
@@ -137,15 +138,15 @@ module _ (g : List ℕ) (at : ℕ) (e : Extents) (last : Pen) (m : Measured g at
         };
       }
 
-  pub measured-end : length g ≤ at + 7 → ExtentsAre e (itemsOf g)
-  measured-end h = subst (ExtentsAre e) (sym (midway-end g (itemsOf g) (m .done) at (m .midway) h)) (m .extents)
+  pub measured-end : length g ≤ at + 7 → ExtentsAre e (itemsOf New g)
+  measured-end h = subst (ExtentsAre e) (sym (midway-end New g (itemsOf New g) (m .done) at (m .midway) h)) (m .extents)
 
 -- ---- the second pass
 
 -- the galley g up to `at`: the items behind are written, and the press is that after them
 pub record Printed (g : List ℕ) (at : ℕ) (first out : List ℕ) (p : CodePress) : Type 0 where
   pub done : List Item
-  pub midway : Midway g (itemsOf g) done at
+  pub midway : Midway New g (itemsOf New g) done at
   pub same : length out ≡ length first
   pub wrote : Wrote first 9 (itemsBytes firstPress done) out (p .at)
   pub press : PressIs p (pressAll firstPress done)
@@ -157,22 +158,22 @@ printed-start g count a first p n =
     record { done = []; midway = begun g count a; same = refl; wrote = rw e (wrote-none first 9); press = n }
 
 module _ (g : List ℕ) (at : ℕ) (first out : List ℕ) (p : CodePress) (m : Printed g at first out p) where
-  pub printed-whole : at + 7 < length g → WholeAt g at
-  printed-whole h = midway-whole g (itemsOf g) (m .done) at (m .midway) h
+  pub printed-whole : at + 7 < length g → WholeAt New g at
+  printed-whole h = midway-whole New g (itemsOf New g) (m .done) at (m .midway) h
 
   pub printed-inside : at ≤ length g
-  printed-inside = midway-inside g (itemsOf g) (m .done) at (m .midway)
+  printed-inside = midway-inside New g (itemsOf New g) (m .done) at (m .midway)
 
-  pub printed-size : at + 7 < length g → at + itemSize (itemAt g at) + 7 ≤ length g
-  printed-size h = midway-next g (itemsOf g) (m .done) at (m .midway) h .room
+  pub printed-size : at + 7 < length g → at + itemSize New (itemAt New g at) + 7 ≤ length g
+  printed-size h = midway-next New g (itemsOf New g) (m .done) at (m .midway) h .room
 
   -- what writing one item more asks
-  pub printed-asks : at + 7 < length g → AllValid lowEnd (itemsOf g) → length (itemsOf g) ≤ maxItems → 9 + length (itemsBytes firstPress (itemsOf g)) ≤ length first → (i : Item) → i ≡ itemAt g at
+  pub printed-asks : at + 7 < length g → AllValid lowEnd (itemsOf New g) → length (itemsOf New g) ≤ maxItems → 9 + length (itemsBytes firstPress (itemsOf New g)) ≤ length first → (i : Item) → i ≡ itemAt New g at
       → ((p .at + length (itemBytes (pressOf p) i) ≤ length out) × ((p .at < 2147483648) × (p .bop < 2147483648))) × ((p .page < 4294967295) × (OnPage (penOf (p .pen)) × (validItem lowEnd i ≡ true)))
   unfolding pressOf
   printed-asks h v f room i q =
       let d = m .done in
-      let n = subst (Onward g (itemsOf g) d at) (sym q) (midway-next g (itemsOf g) d at (m .midway) h) in
+      let n = subst (Onward New g (itemsOf New g) d at) (sym q) (midway-next New g (itemsOf New g) d at (m .midway) h) in
       let all = n .next .all in
       let more = itemsBytes-part firstPress (d ++ (i ∷ [])) (n .next .rest) in
       let one = ap length (itemsBytes-more firstPress d i) in
@@ -198,13 +199,13 @@ module _ (g : List ℕ) (at : ℕ) (first out : List ℕ) (p : CodePress) (m : P
         (omega (arith, page, small .page-small), (m .press .on-page, ap (validItem lowEnd) q ∙ low-next g d at v (m .midway) h)),
       )
 
-  pub printed-next : at + 7 < length g → (i : Item) → i ≡ itemAt g at → (later : List ℕ) (r : CodePress) → length later ≡ length out
-      → Wrote out (p .at) (itemBytes (pressOf p) i) later (r .at) → PressIs r (pressAfter (pressOf p) i) → Printed g (at + itemSize i) first later r
+  pub printed-next : at + 7 < length g → (i : Item) → i ≡ itemAt New g at → (later : List ℕ) (r : CodePress) → length later ≡ length out
+      → Wrote out (p .at) (itemBytes (pressOf p) i) later (r .at) → PressIs r (pressAfter (pressOf p) i) → Printed g (at + itemSize New i) first later r
   printed-next h i q later r l w n =
       let d = m .done in
       record {
         done = d ++ (i ∷ []);
-        midway = subst (Onward g (itemsOf g) d at) (sym q) (midway-next g (itemsOf g) d at (m .midway) h) .next;
+        midway = subst (Onward New g (itemsOf New g) d at) (sym q) (midway-next New g (itemsOf New g) d at (m .midway) h) .next;
         same = l ∙ m .same;
         wrote = named (ap (λ (x : Press). itemsBytes firstPress d ++ itemBytes x i) (m .press .press-is) ∙ sym (itemsBytes-more firstPress d i)) (then (m .wrote) w);
         press = record {
@@ -213,7 +214,7 @@ module _ (g : List ℕ) (at : ℕ) (first out : List ℕ) (p : CodePress) (m : P
         };
       }
 
-  pub printed-end : length g ≤ at + 7 → (Wrote first 9 (itemsBytes firstPress (itemsOf g)) out (p .at)) × PressIs p (pressAll firstPress (itemsOf g))
+  pub printed-end : length g ≤ at + 7 → (Wrote first 9 (itemsBytes firstPress (itemsOf New g)) out (p .at)) × PressIs p (pressAll firstPress (itemsOf New g))
   printed-end h =
-      let e = sym (midway-end g (itemsOf g) (m .done) at (m .midway) h) in
+      let e = sym (midway-end New g (itemsOf New g) (m .done) at (m .midway) h) in
       subst (λ (is : List Item). (Wrote first 9 (itemsBytes firstPress is) out (p .at)) × PressIs p (pressAll firstPress is)) e (m .wrote, m .press)

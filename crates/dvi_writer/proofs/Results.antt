@@ -11,6 +11,7 @@ use lib.Seq.{sets}
 use Rattle.octets.specs.Answer.{accepted, refused, refusal, written, outcome, after, ifRoom, noDviRoom}
 use Rattle.octets.specs.AnswerLaws.{room-short, room-enough}
 use Rattle.octets.specs.Write.{Wrote, then, named, sets-start}
+use Rattle.galley_file.specs.declared.form.Form.the-variants.{New}
 use Rattle.galley_file.specs.declared.item.Item.{Item}
 use Rattle.galley_file.specs.Item.{charactersOf}
 use Rattle.galley_file.specs.Galley.{itemsOf}
@@ -55,20 +56,20 @@ pub check-refused : (g : List ℕ) (room n place : ℕ) → refused n place ≡ 
 unfolding dviResult ifRoom
 check-refused g room n place e = ap (ifRoom noDviRoom room) (sym (low-refused dviFile g n place e))
 
-module _ (g out : List ℕ) (count : ℕ) (a : accepted count ≡ lowOutcome g) (need : ℕ) (e : need ≡ length (dviFile (itemsOf g))) where
-  made : dviResult g (length out) ≡ ifRoom noDviRoom (length out) (written (dviFile (itemsOf g)))
+module _ (g out : List ℕ) (count : ℕ) (a : accepted count ≡ lowOutcome g) (need : ℕ) (e : need ≡ length (dviFile (itemsOf New g))) where
+  made : dviResult g (length out) ≡ ifRoom noDviRoom (length out) (written (dviFile (itemsOf New g)))
   unfolding dviResult
   made = ap (ifRoom noDviRoom (length out)) (low-made dviFile g count a)
 
   pub no-room : length out < need → dviResult g (length out) ≡ refusal noDviRoom need
-  no-room h = made ∙ room-short noDviRoom (length out) (dviFile (itemsOf g)) (omega arith) ∙ ap (refusal noDviRoom) (sym e)
+  no-room h = made ∙ room-short noDviRoom (length out) (dviFile (itemsOf New g)) (omega arith) ∙ ap (refusal noDviRoom) (sym e)
 
-  enough : need ≤ length out → dviResult g (length out) ≡ written (dviFile (itemsOf g))
-  enough h = made ∙ room-enough noDviRoom (length out) (dviFile (itemsOf g)) (omega arith)
+  enough : need ≤ length out → dviResult g (length out) ≡ written (dviFile (itemsOf New g))
+  enough h = made ∙ room-enough noDviRoom (length out) (dviFile (itemsOf New g)) (omega arith)
 
-  pub with-room : need ≤ length out → (o : List ℕ) → o ≡ sets out 0 (dviFile (itemsOf g))
+  pub with-room : need ≤ length out → (o : List ℕ) → o ≡ sets out 0 (dviFile (itemsOf New g))
       → (accepted need ≡ outcome (dviResult g (length out))) × (o ≡ after out (dviResult g (length out)))
   with-room h o q = (
     ap accepted e ∙ sym (ap outcome (enough h)),
-    q ∙ sets-start out (dviFile (itemsOf g)) (omega arith) ∙ sym (ap (after out) (enough h)),
+    q ∙ sets-start out (dviFile (itemsOf New g)) (omega arith) ∙ sym (ap (after out) (enough h)),
   )

@@ -4,7 +4,9 @@ use crate::fonts::Fonts;
 use crate::page;
 use crate::pen;
 use crate::pen::Pen;
+ghost use Rattle.galley_file.specs.declared.form.Form.the-variants.{New};
 use galley_file::character::Character;
+use galley_file::form::Form;
 use galley_file::item;
 use galley_file::item::Item;
 use measure::Rsu;
@@ -120,17 +122,17 @@ fn with_item(e: Extents, last: Pen, next: Pen, i: Item) -> Extents
 // The extents of the items of a checked galley.
 pub fn extents_of(g: &[u8], count: usize) -> Extents
     requires { ⌜ accepted count ≡ lowOutcome (now g) ⌝ }
-    ensures { λ r. ⌜ ExtentsAre r (itemsOf (now (g .entry))) ⌝ }
+    ensures { λ r. ⌜ ExtentsAre r (itemsOf New (now (g .entry))) ⌝ }
 {
     let mut e = none();
     let mut last = pen::new_pen();
     let mut at: usize = 0;
     while at + field::END_FIELD < g.len() {
-        let i = item::item_at(g, at);
+        let i = item::item_at(Form::New, g, at);
         let next = pen::pen_after(i);
         e = with_item(e, last, next, i);
         last = next;
-        at += item::item_size(i);
+        at += item::item_size(Form::New, i);
     }
     e
 }

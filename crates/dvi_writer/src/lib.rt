@@ -14,6 +14,7 @@ ghost use Prim.Native.Nat.{_≤_};
 ghost use lib.ListN.{length};
 ghost use lib.Seq.{sets};
 ghost use Rattle.octets.specs.Answer.{accepted, outcomeOf, outcome, after};
+ghost use Rattle.galley_file.specs.declared.form.Form.the-variants.{New};
 ghost use Rattle.galley_file.specs.Galley.{itemsOf};
 ghost use Rattle.galley_file.specs.Low.{lowOutcome};
 ghost use Rattle.dvi.specs.Writer.{dviFile};
@@ -25,8 +26,8 @@ const FRAME: usize = page::FRAME + postamble::FRAME;
 
 // Writes the file of a checked galley, for which there is room: the pages and the postamble.
 fn put_file(g: &[u8], count: usize, e: Extents, out: &mut [u8])
-    requires { ⌜ (accepted count ≡ lowOutcome (now g)) × (ExtentsAre e (itemsOf (now g)) × (length (dviFile (itemsOf (now g))) ≤ length (now out))) ⌝ }
-    ensures { λ _. ⌜ now (out .exit) ≡ sets (now (out .entry)) 0 (dviFile (itemsOf (now (g .entry)))) ⌝ }
+    requires { ⌜ (accepted count ≡ lowOutcome (now g)) × (ExtentsAre e (itemsOf New (now g)) × (length (dviFile (itemsOf New (now g))) ≤ length (now out))) ⌝ }
+    ensures { λ _. ⌜ now (out .exit) ≡ sets (now (out .entry)) 0 (dviFile (itemsOf New (now (g .entry)))) ⌝ }
 {
     let p = page::put_pages(g, count, out);
     postamble::put_postamble(out, p.at, p.bop, e);

@@ -3,7 +3,9 @@ use crate::pen;
 use crate::pen::Pen;
 use crate::press;
 use crate::press::Press;
+ghost use Rattle.galley_file.specs.declared.form.Form.the-variants.{New};
 use galley_file::character::Character;
+use galley_file::form::Form;
 use galley_file::item;
 use galley_file::item::Item;
 use measure::Rsu;
@@ -152,23 +154,23 @@ fn put_item(out: &mut [u8], p: Press, i: Item) -> Press
 
 // Writes the items of a checked galley after the first BOP.
 fn put_items(g: &[u8], count: usize, out: &mut [u8]) -> Press
-    requires { ⌜ (accepted count ≡ lowOutcome (now g)) × (9 + length (itemsBytes firstPress (itemsOf (now g))) ≤ length (now out)) ⌝ }
-    ensures { λ r. ⌜ (Wrote (now (out .entry)) 9 (itemsBytes firstPress (itemsOf (now (g .entry)))) (now (out .exit)) (r .at)) × PressIs r (pressAll firstPress (itemsOf (now (g .entry)))) ⌝ }
+    requires { ⌜ (accepted count ≡ lowOutcome (now g)) × (9 + length (itemsBytes firstPress (itemsOf New (now g))) ≤ length (now out)) ⌝ }
+    ensures { λ r. ⌜ (Wrote (now (out .entry)) 9 (itemsBytes firstPress (itemsOf New (now (g .entry)))) (now (out .exit)) (r .at)) × PressIs r (pressAll firstPress (itemsOf New (now (g .entry)))) ⌝ }
 {
     let mut p = press::first_press();
     let mut at: usize = 0;
     while at + field::END_FIELD < g.len() {
-        let i = item::item_at(g, at);
+        let i = item::item_at(Form::New, g, at);
         p = put_item(out, p, i);
-        at += item::item_size(i);
+        at += item::item_size(Form::New, i);
     }
     p
 }
 
 // Writes the pages of a checked galley; gives the press after the last EOP.
 pub fn put_pages(g: &[u8], count: usize, out: &mut [u8]) -> Press
-    requires { ⌜ (accepted count ≡ lowOutcome (now g)) × (length (pagesBytes (itemsOf (now g))) ≤ length (now out)) ⌝ }
-    ensures { λ r. ⌜ (Wrote (now (out .entry)) 0 (pagesBytes (itemsOf (now (g .entry)))) (now (out .exit)) (r .at)) × (r .bop ≡ pressAll firstPress (itemsOf (now (g .entry))) .bop) ⌝ }
+    requires { ⌜ (accepted count ≡ lowOutcome (now g)) × (length (pagesBytes (itemsOf New (now g))) ≤ length (now out)) ⌝ }
+    ensures { λ r. ⌜ (Wrote (now (out .entry)) 0 (pagesBytes (itemsOf New (now (g .entry)))) (now (out .exit)) (r .at)) × (r .bop ≡ pressAll firstPress (itemsOf New (now (g .entry))) .bop) ⌝ }
 {
     put_bop(out, 0, 1, -1);
     let mut p = put_items(g, count, out);

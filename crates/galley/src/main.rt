@@ -1,6 +1,8 @@
 // Reads a tape on standard input and lists its galley (document 01, "Proof sheet").
+ghost use Rattle.galley_file.specs.declared.form.Form.the-variants.{New};
 use galley_file::character::Character;
 use galley_file::font;
+use galley_file::form::Form;
 use galley_file::item;
 use galley_file::item::Item;
 use libc::STDIN_FILENO;
@@ -59,13 +61,13 @@ fn write_item(i: Item) {
 
 // The items of a checked galley: after each comes another, or End.
 fn write_items(g: &[u8], count: usize)
-    requires { ⌜ accepted count ≡ checkOutcome (now g) ⌝ }
+    requires { ⌜ accepted count ≡ checkOutcome New (now g) ⌝ }
 {
     let mut at: usize = 0;
     while at + field::END_FIELD < g.len() {
-        let i = item::item_at(g, at);
+        let i = item::item_at(Form::New, g, at);
         write_item(i);
-        at += item::item_size(i);
+        at += item::item_size(Form::New, i);
     }
 }
 

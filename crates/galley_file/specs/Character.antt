@@ -1,4 +1,4 @@
--- A galley's characters (document 01, "Galley"; document 02, "Longer columns").
+-- A galley's characters (document 01, "Galley"), in either form.
 --     valid              a character is valid, its height at most so many quanta
 --     characterField     its field
 --     characterAt        the character whose field starts at a place
@@ -12,8 +12,10 @@ use lib.ListN.{getD}
 use lib.Signed.{leZ}
 use Rattle.octets.specs.Octets.{natAt, signedAt, signedBytes}
 use Rattle.octets.specs.Field.{field, startsField}
-use Rattle.measure.specs.Place.{heightEnd, within}
+use Rattle.measure.specs.Place.{within}
 use Rattle.galley_file.specs.Font.{sizeIndex, isDouble}
+use Rattle.galley_file.specs.declared.form.Form.{Form}
+use Rattle.galley_file.specs.Form.{characterTag, heightBytes, bodyBytes, greatestHeight}
 use Rattle.galley_file.specs.declared.character.Character.{Character}
 
 -- single sizes 0 ≤ x ≤ 3,239, double sizes -55 ≤ x ≤ 3,184
@@ -27,22 +29,22 @@ valid top c =
     ltb (c .font) 120 && leb 1 (c .code) && leb (c .code) 108 && validX (isDouble (sizeIndex (c .font))) (c .x .0)
     && within top (c .height .0)
 
--- x (2), height (4), font number (1), character (1). Four bytes hold a valid height as it is.
-unfoldable pub characterBody : Character → List ℕ
-characterBody c = signedBytes 2 (c .x .0) ++ (signedBytes 4 (c .height .0) ++ (c .font ∷ c .code ∷ []))
+-- x (2), height (2 or 4), font number (1), character (1). A form's bytes hold its valid heights as they are.
+unfoldable pub characterBody : Form → Character → List ℕ
+characterBody f c = signedBytes 2 (c .x .0) ++ (signedBytes (heightBytes f) (c .height .0) ++ (c .font ∷ c .code ∷ []))
 
--- tag 7, length 8
-unfoldable pub characterField : Character → List ℕ
-characterField c = field 7 (characterBody c)
+-- tag 1, length 6; or tag 7, length 8
+unfoldable pub characterField : Form → Character → List ℕ
+characterField f c = field (characterTag f) (characterBody f c)
 
-unfoldable pub characterAt : List ℕ → ℕ → Character
-characterAt s i =
+unfoldable pub characterAt : Form → List ℕ → ℕ → Character
+characterAt f s i =
     record {
       x = record { 0 = signedAt 2 (i + 3) s };
-      height = record { 0 = pos (natAt 4 (i + 5) s) };
-      font = getD s (i + 9) 0;
-      code = getD s (i + 10) 0;
+      height = record { 0 = pos (natAt (heightBytes f) (i + 5) s) };
+      font = getD s (i + (heightBytes f + 5)) 0;
+      code = getD s (i + (heightBytes f + 6)) 0;
     }
 
-unfoldable pub isCharacter : List ℕ → Bool
-isCharacter s = startsField 7 8 s && valid heightEnd (characterAt s 0)
+unfoldable pub isCharacter : Form → List ℕ → Bool
+isCharacter f s = startsField (characterTag f) (bodyBytes f) s && valid (greatestHeight f) (characterAt f s 0)

@@ -4,6 +4,7 @@ use mathlib.Core.Path.{_≡_, refl, sym, ap, _∙_}
 use mathlib.Core.Bool.{Bool, true, false, _&&_}
 use mathlib.Core.List.{List, [], _∷_, _++_}
 use Prim.Native.Nat.{ℕ, suc, _+_, _*_, _≤_, _<_}
+use native.Mathlib.Nat.{add-comm}
 use native.Mathlib.Omega.{arith}
 use borrow.Author.Tests.{lt-ltb, ltb-true, le-leb, leb-true}
 use lib.Dec.{leb, ltb}
@@ -16,8 +17,12 @@ use Rattle.octets.specs.Octets.{Bytes, number, signed, natAt, signedAt, bytes, 
 use Rattle.octets.specs.OctetsLaws.{signed-signedBytes, number-signedBytes, signedBytes-signedAt, signedBytes-natAt}
 use Rattle.octets.specs.Field.{field, startsField}
 use Rattle.octets.specs.FieldLaws.{both, field-starts, Starts, starts, starts-field}
-use Rattle.measure.specs.Place.{heightEnd, within}
+use Rattle.measure.specs.Place.{within}
 use Rattle.galley_file.specs.declared.character.Character.{Character}
+use Rattle.galley_file.specs.declared.form.Form.{Form}
+use Rattle.galley_file.specs.declared.form.Form.the-variants.{Old, New}
+use Rattle.galley_file.specs.Form.{characterTag, heightBytes, bodyBytes, characterSize, greatestHeight}
+use Rattle.galley_file.specs.FormLaws.{form-sizes}
 use Rattle.galley_file.specs.Font.{sizeIndex, isDouble}
 use Rattle.galley_file.specs.Character.{validX, valid, characterBody, characterField, characterAt, isCharacter}
 
@@ -72,72 +77,93 @@ height-range {top} {c} v =
     let h = both (leZ (pos 0) (c .height .0)) (leZ (c .height .0) top) (v .height) in
     (omega (integers, h .0), omega (integers, h .1))
 
--- and four bytes hold it as it is
-height-held : (h : ℤ) → pos 0 ≤ℤ h → h ≤ℤ heightEnd → pos (number (signedBytes 4 h)) ≡ h
-height-held (pos n) l h = ap pos (number-signedBytes 4 n (omega integers))
-height-held (negsuc n) l h = absurd (l .le)
+-- and a form's bytes hold it as it is
+height-held : (form : Form) (h : ℤ) → pos 0 ≤ℤ h → h ≤ℤ greatestHeight form → pos (number (signedBytes (heightBytes form) h)) ≡ h
+height-held Old (pos n) l h = ap pos (number-signedBytes 2 n (omega integers))
+height-held New (pos n) l h = ap pos (number-signedBytes 4 n (omega integers))
+height-held form (negsuc n) l h = absurd (l .le)
 
 -- the number that a valid character is read from
-pub height-number : (s : List ℕ) (i : ℕ) → valid heightEnd (characterAt s i) ≡ true → natAt 4 (i + 5) s ≤ 1000000
+pub height-number : (form : Form) (s : List ℕ) (i : ℕ) → valid (greatestHeight form) (characterAt form s i) ≡ true → pos (natAt (heightBytes form) (i + 5) s) ≤ℤ greatestHeight form
 unfolding characterAt
-height-number s i v = omega (integers, height-range (valid-parts v) .1)
+height-number form s i v = height-range (valid-parts v) .1
 
-pub length-characterBody : (c : Character) → length (characterBody c) ≡ 8
+pub length-characterBody : (form : Form) (c : Character) → length (characterBody form c) ≡ bodyBytes form
 unfolding characterBody bytes signedBytes
-length-characterBody c = refl
+length-characterBody Old c = refl
+length-characterBody New c = refl
 
-pub length-characterField : (c : Character) → length (characterField c) ≡ 11
+pub length-characterField : (form : Form) (c : Character) → length (characterField form c) ≡ characterSize form
 unfolding characterField characterBody field bytes signedBytes
-length-characterField c = refl
+length-characterField Old c = refl
+length-characterField New c = refl
 
-module _ (c : Character) (v : valid heightEnd c ≡ true) (rest : List ℕ) where
-  pub characterAt-field : characterAt (characterField c ++ rest) 0 ≡ c
+pub drop-field : (form : Form) (c : Character) (rest : List ℕ) → drop (characterSize form) (characterField form c ++ rest) ≡ rest
+unfolding characterField characterBody field bytes signedBytes
+drop-field Old c rest = refl
+drop-field New c rest = refl
+
+module _ (form : Form) (c : Character) (v : valid (greatestHeight form) c ≡ true) (rest : List ℕ) where
+  x-back : signed (signedBytes 2 (c .x .0)) ≡ c .x .0
+  x-back = let r = x-range (valid-parts v) in signed-signedBytes 2 (c .x .0) (x-held (c .x .0) (r .0) (r .1))
+
+  height-back : pos (number (signedBytes (heightBytes form) (c .height .0))) ≡ c .height .0
+  height-back = let h = height-range (valid-parts v) in height-held form (c .height .0) (h .0) (h .1)
+
+  pub characterAt-field : characterAt form (characterField form c ++ rest) 0 ≡ c
   unfolding characterAt characterField characterBody field bytes signedBytes
-  characterAt-field =
-      let p = valid-parts v in
-      let r = x-range p in
-      let h = height-range p in
-      let x : signed (signedBytes 2 (c .x .0)) ≡ c .x .0 = signed-signedBytes 2 (c .x .0) (x-held (c .x .0) (r .0) (r .1)) in
-      let q = height-held (c .height .0) (h .0) (h .1) in
-      (λ i. record { x = record { 0 = x i }; height = record { 0 = q i }; font = c .font; code = c .code })
+  characterAt-field = go form height-back
+    where
+      go : (f : Form) → pos (number (signedBytes (heightBytes f) (c .height .0))) ≡ c .height .0 → characterAt f (characterField f c ++ rest) 0 ≡ c
+      go Old h = (λ i. record { x = record { 0 = x-back i }; height = record { 0 = h i }; font = c .font; code = c .code })
+      go New h = (λ i. record { x = record { 0 = x-back i }; height = record { 0 = h i }; font = c .font; code = c .code })
 
-  pub field-isCharacter : isCharacter (characterField c ++ rest) ≡ true
+  pub field-isCharacter : isCharacter form (characterField form c ++ rest) ≡ true
   unfolding isCharacter characterField
   field-isCharacter =
-      simp (field-starts 7 (characterBody c) rest 8 (length-characterBody c) (omega arith)) (ap (valid heightEnd) characterAt-field ∙ v)
-
-  pub drop-field : drop 11 (characterField c ++ rest) ≡ rest
-  unfolding characterField characterBody field bytes signedBytes
-  drop-field = refl
+      simp (field-starts (characterTag form) (characterBody form c) rest (bodyBytes form) (length-characterBody form c) (omega (arith, form-sizes form .body-is, form-sizes form .most)))
+      (ap (valid (greatestHeight form)) characterAt-field ∙ v)
 
 -- what a character's field tells
-pub record ReadCharacter (s : List ℕ) : Type 0 where
-  pub head : startsField 7 8 s ≡ true
-  pub long : 11 ≤ length s
-  pub is-valid : valid heightEnd (characterAt s 0) ≡ true
+pub record ReadCharacter (form : Form) (s : List ℕ) : Type 0 where
+  pub head : startsField (characterTag form) (bodyBytes form) s ≡ true
+  pub long : characterSize form ≤ length s
+  pub is-valid : valid (greatestHeight form) (characterAt form s 0) ≡ true
 
-pub read-character : (s : List ℕ) → isCharacter s ≡ true → ReadCharacter s
+pub read-character : (form : Form) (s : List ℕ) → isCharacter form s ≡ true → ReadCharacter form s
 unfolding isCharacter
-read-character s e =
-    let h = both (startsField 7 8 s) (valid heightEnd (characterAt s 0)) e in
-    record { head = h .0; long = omega (arith, starts (h .0) .long); is-valid = h .1 }
+read-character form s e =
+    let h = both (startsField (characterTag form) (bodyBytes form) s) (valid (greatestHeight form) (characterAt form s 0)) e in
+    record { head = h .0; long = omega (arith, starts (h .0) .long, form-sizes form .body-is, form-sizes form .size-is); is-valid = h .1 }
 
--- the eight bytes of a body, by their parts
-body-parts : (s : List ℕ) → 11 ≤ length s → take 8 (drop 3 s) ≡ take 2 (drop 3 s) ++ (take 4 (drop 5 s) ++ (getD s 9 0 ∷ getD s 10 0 ∷ []))
-body-parts s l =
-    let two : take 2 (drop 9 s) ≡ getD s 9 0 ∷ getD s 10 0 ∷ [] = ap (take 2) (drop-cons s 9 0 (omega arith)) ∙ ap (λ (t : List ℕ). getD s 9 0 ∷ take 1 t) (drop-cons s 10 0 (omega arith)) in
-    let six : take 6 (drop 5 s) ≡ take 4 (drop 5 s) ++ take 2 (drop 9 s) = take-add 4 2 (drop 5 s) ∙ ap (λ (t : List ℕ). take 4 (drop 5 s) ++ take 2 t) (drop-drop 4 5 s) in
-    take-add 2 6 (drop 3 s)
-    ∙ ap (λ (t : List ℕ). take 2 (drop 3 s) ++ take 6 t) (drop-drop 2 3 s)
-    ∙ ap (λ (t : List ℕ). take 2 (drop 3 s) ++ t) (six ∙ ap (λ (t : List ℕ). take 4 (drop 5 s) ++ t) two)
+-- the bytes of a body with w bytes of height, by their parts
+body-parts : (w : ℕ) (s : List ℕ) → w + 7 ≤ length s
+    → take (2 + (w + 2)) (drop 3 s) ≡ take 2 (drop 3 s) ++ (take w (drop 5 s) ++ (getD s (w + 5) 0 ∷ getD s (w + 6) 0 ∷ []))
+body-parts w s l =
+    let z : suc (w + 5) ≡ w + 6 = omega arith in
+    let two : take 2 (drop (w + 5) s) ≡ getD s (w + 5) 0 ∷ getD s (w + 6) 0 ∷ [] =
+    ap (take 2) (drop-cons s (w + 5) 0 (omega arith))
+    ∙ ap (λ (k : ℕ). getD s (w + 5) 0 ∷ take 1 (drop k s)) z
+    ∙ ap (λ (t : List ℕ). getD s (w + 5) 0 ∷ take 1 t) (drop-cons s (w + 6) 0 (omega arith)) in
+    let rest : take (w + 2) (drop 5 s) ≡ take w (drop 5 s) ++ take 2 (drop (w + 5) s) =
+    take-add w 2 (drop 5 s) ∙ ap (λ (t : List ℕ). take w (drop 5 s) ++ take 2 t) (drop-drop w 5 s ∙ ap (λ (k : ℕ). drop k s) (add-comm 5 w)) in
+    take-add 2 (w + 2) (drop 3 s)
+    ∙ ap (λ (t : List ℕ). take 2 (drop 3 s) ++ take (w + 2) t) (drop-drop 2 3 s)
+    ∙ ap (λ (t : List ℕ). take 2 (drop 3 s) ++ t) (rest ∙ ap (λ (t : List ℕ). take w (drop 5 s) ++ t) two)
+
+-- bytes that start with such a field are its numbers' field and what follows
+field-back : (tag w : ℕ) (s : List ℕ) → Bytes s → startsField tag (2 + (w + 2)) s ≡ true
+    → s ≡ field tag (signedBytes 2 (signedAt 2 3 s) ++ (signedBytes w (pos (natAt w 5 s)) ++ (getD s (w + 5) 0 ∷ getD s (w + 6) 0 ∷ []))) ++ drop (3 + (2 + (w + 2))) s
+field-back tag w s b e =
+    let l = starts e .long in
+    let x = sym (signedBytes-signedAt 2 3 s b (omega arith)) in
+    let h = sym (signedBytes-natAt w 5 s b (omega arith)) in
+    starts-field tag (2 + (w + 2)) s b e
+    ∙ ap (λ (t : List ℕ). field tag t ++ drop (3 + (2 + (w + 2))) s)
+    (body-parts w s (omega arith) ∙ (λ i. x i ++ (h i ++ (getD s (w + 5) 0 ∷ getD s (w + 6) 0 ∷ []))))
 
 -- bytes that start with a character are its field and what follows
-pub isCharacter-field : (s : List ℕ) → Bytes s → isCharacter s ≡ true → s ≡ characterField (characterAt s 0) ++ drop 11 s
+pub isCharacter-field : (form : Form) (s : List ℕ) → Bytes s → isCharacter form s ≡ true → s ≡ characterField form (characterAt form s 0) ++ drop (characterSize form) s
 unfolding characterField characterBody characterAt
-isCharacter-field s b e =
-    let r = read-character s e in
-    let l = r .long in
-    let x = sym (signedBytes-signedAt 2 3 s b (omega arith)) in
-    let h = sym (signedBytes-natAt 4 5 s b (omega arith)) in
-    starts-field 7 8 s b (r .head)
-    ∙ ap (λ (t : List ℕ). field 7 t ++ drop 11 s) (body-parts s l ∙ (λ i. x i ++ (h i ++ (getD s 9 0 ∷ getD s 10 0 ∷ []))))
+isCharacter-field Old s b e = field-back 1 2 s b (read-character Old s e .head)
+isCharacter-field New s b e = field-back 7 4 s b (read-character New s e .head)

@@ -12,22 +12,23 @@ use native.Mathlib.Omega.{arith}
 use borrow.Author.Tests.{eqb-false, ltb-false}
 use lib.Dec.{ltb, eqb}
 use lib.ListN.{length, drop, length-drop, length-append}
-use Rattle.measure.specs.Place.{heightEnd}
 use Rattle.octets.specs.Octets.{Bytes}
 use Rattle.octets.specs.OctetsLaws.{bytes-drop}
 use Rattle.octets.specs.Field.{endField, startsEnd}
 use Rattle.octets.specs.FieldLaws.{end-starts, starts-end}
 use Rattle.octets.specs.Answer.{refused, galleyTooLong, galleyMalformed}
 use Rattle.galley_file.specs.declared.item.Item.{Item}
+use Rattle.galley_file.specs.declared.form.Form.{Form}
+use Rattle.galley_file.specs.Form.{greatestHeight, maxGalley}
 use Rattle.galley_file.specs.Item.{validItem, itemField, itemSize, nextItem, tally, charactersOf}
 use Rattle.galley_file.specs.ItemLaws.{length-itemField, next-field, next-is, field-next, tally-few, count-item}
-use Rattle.galley_file.specs.Galley.{maxGalley, maxItems, AllValid, nil, more, fields, Reading, whole, malformed, after, readEnd, reading, readGalley}
+use Rattle.galley_file.specs.Galley.{maxItems, AllValid, nil, more, fields, Reading, whole, malformed, after, readEnd, reading, readGalley}
 use Rattle.galley_file.specs.GalleyLaws.{reading-next, reading-end}
 use Rattle.galley_file.specs.Outcome.{countOutcome, checkOutcome}
 
 -- s starts with no field of a valid item
-pub NoItem : List ℕ → Type 0
-NoItem s = (i : Item) (rest : List ℕ) → validItem heightEnd i ≡ true → s ≡ itemField i ++ rest → ⊥
+pub NoItem : (form : Form) → List ℕ → Type 0
+NoItem form s = (i : Item) (rest : List ℕ) → validItem (greatestHeight form) i ≡ true → s ≡ itemField form i ++ rest → ⊥
 
 -- s starts with no End that counts n characters
 pub NoEnd : List ℕ → ℕ → Type 0
@@ -38,19 +39,19 @@ abbrev pub At : List ℕ → ℕ → ℕ → ℕ → Type 0
 At rest at n p = (NoEnd rest n × (p ≡ at)) ⊎ ((b : ℕ) × (l : List ℕ) × (rest ≡ endField n ++ b ∷ l) × (p ≡ at + 7))
 
 -- The run s starts at `at` after n characters and may have k items, and its first fault is at p
-pub record Fault (k : ℕ) (s : List ℕ) (at n p : ℕ) : Type 0 where
+pub record Fault (form : Form) (k : ℕ) (s : List ℕ) (at n p : ℕ) : Type 0 where
   pub items : List Item
-  pub valid : AllValid heightEnd items
+  pub valid : AllValid (greatestHeight form) items
   pub rest : List ℕ
-  pub bytes : s ≡ fields items ++ rest
-  pub next : NoItem rest ⊎ (length items ≡ k)
+  pub bytes : s ≡ fields form items ++ rest
+  pub next : NoItem form rest ⊎ (length items ≡ k)
   pub few : length items ≤ k
-  pub place : At rest (at + length (fields items)) (n + length (charactersOf items)) p
+  pub place : At rest (at + length (fields form items)) (n + length (charactersOf items)) p
 
-no-item : (s : List ℕ) → nextItem s ≡ none → NoItem s
+no-item : (form : Form) (s : List ℕ) → nextItem form s ≡ none → NoItem form s
 unfolding NoItem
-no-item s e i rest v q =
-    let h : none ≡ some i = sym e ∙ ap nextItem q ∙ next-field i v rest in
+no-item form s e i rest v q =
+    let h : none ≡ some i = sym e ∙ ap (nextItem form) q ∙ next-field form i v rest in
     let z : _≡_ {A = ℕ} 0 1 = cc in
     omega arith
 
@@ -82,9 +83,9 @@ place-here s at n p b l e = go (startsEnd n s) refl (eqb (length s) 7) refl e
         inr (t .0, t .1, w .1 ∙ ap (λ (m : List ℕ). endField n ++ m) (t .2), sym y)
     go false q u r h = let y : at ≡ p = cc in inl (no-end s n l q, sym y)
 
-here : (k : ℕ) (s : List ℕ) (at n p : ℕ) → Bytes s → n < 4294967296 → NoItem s ⊎ (0 ≡ k) → readEnd s at n ≡ malformed p → Fault k s at n p
+here : (form : Form) (k : ℕ) (s : List ℕ) (at n p : ℕ) → Bytes s → n < 4294967296 → NoItem form s ⊎ (0 ≡ k) → readEnd s at n ≡ malformed p → Fault form k s at n p
 unfolding fields charactersOf
-here k s at n p b l f e =
+here form k s at n p b l f e =
     let y : at + 0 ≡ at = omega arith in
     let z : n + 0 ≡ n = omega arith in
     record { items = []; valid = nil; rest = s; bytes = refl; next = f; few = omega arith; place = rw (y, z) (place-here s at n p b l e) }
@@ -93,49 +94,49 @@ later : (i : Item) (r : Reading) (p : ℕ) → after i r ≡ malformed p → r �
 later i (whole is) p e = let z : _≡_ {A = ℕ} 0 1 = cc in absurd (omega arith)
 later i (malformed q) p e = e
 
-one-more : (rest : List ℕ) {m k : ℕ} → NoItem rest ⊎ (m ≡ k) → NoItem rest ⊎ (suc m ≡ suc k)
-one-more rest (inl h) = inl h
-one-more rest (inr h) = inr (ap suc h)
+one-more : (form : Form) (rest : List ℕ) {m k : ℕ} → NoItem form rest ⊎ (m ≡ k) → NoItem form rest ⊎ (suc m ≡ suc k)
+one-more form rest (inl h) = inl h
+one-more form rest (inr h) = inr (ap suc h)
 
 -- a fault after an item, said from that item on
-earlier : (k : ℕ) (s : List ℕ) (at n p : ℕ) (i : Item) → Bytes s → nextItem s ≡ some i → Fault k (drop (itemSize i) s) (at + itemSize i) (n + tally i) p → Fault (suc k) s at n p
+earlier : (form : Form) (k : ℕ) (s : List ℕ) (at n p : ℕ) (i : Item) → Bytes s → nextItem form s ≡ some i → Fault form k (drop (itemSize form i) s) (at + itemSize form i) (n + tally i) p → Fault form (suc k) s at n p
 unfolding fields
-earlier k s at n p i b q r =
+earlier form k s at n p i b q r =
     let is = r .items in
     let f = r .few in
-    let y : at + itemSize i + length (fields is) ≡ at + length (fields (i ∷ is)) = omega (arith, length-append (itemField i) (fields is), length-itemField i) in
+    let y : at + itemSize form i + length (fields form is) ≡ at + length (fields form (i ∷ is)) = omega (arith, length-append (itemField form i) (fields form is), length-itemField form i) in
     let z : n + tally i + length (charactersOf is) ≡ n + length (charactersOf (i ∷ is)) = omega (arith, count-item i is) in
     record {
       items = i ∷ is;
-      valid = more (next-is s i q .is-valid) (r .valid);
+      valid = more (next-is form s i q .is-valid) (r .valid);
       rest = r .rest;
-      bytes = field-next s i b q ∙ ap (λ (t : List ℕ). itemField i ++ t) (r .bytes) ∙ sym (append-assoc (itemField i) (fields is) (r .rest));
-      next = one-more (r .rest) (r .next);
+      bytes = field-next form s i b q ∙ ap (λ (t : List ℕ). itemField form i ++ t) (r .bytes) ∙ sym (append-assoc (itemField form i) (fields form is) (r .rest));
+      next = one-more form (r .rest) (r .next);
       few = omega arith;
       place = rw (← y, ← z) (r .place);
     }
 
-fault-steps : (k : ℕ) (s : List ℕ) (at n p : ℕ) → Bytes s → n + k < 4294967296 → reading k s at n ≡ malformed p → Fault k s at n p
+fault-steps : (form : Form) (k : ℕ) (s : List ℕ) (at n p : ℕ) → Bytes s → n + k < 4294967296 → reading form k s at n ≡ malformed p → Fault form k s at n p
 unfolding reading
-fault-steps zero s at n p b l e = here zero s at n p b (omega arith) (inr refl) e
-fault-steps (suc k) s at n p b l e = go (nextItem s) refl (λ i. fault-steps k (drop (itemSize i) s) (at + itemSize i) (n + tally i) p (bytes-drop (itemSize i) s b))
+fault-steps form zero s at n p b l e = here form zero s at n p b (omega arith) (inr refl) e
+fault-steps form (suc k) s at n p b l e = go (nextItem form s) refl (λ i. fault-steps form k (drop (itemSize form i) s) (at + itemSize form i) (n + tally i) p (bytes-drop (itemSize form i) s b))
   where
-    go : (o : Option Item) → nextItem s ≡ o
-        → ((i : Item) → n + tally i + k < 4294967296 → reading k (drop (itemSize i) s) (at + itemSize i) (n + tally i) ≡ malformed p → Fault k (drop (itemSize i) s) (at + itemSize i) (n + tally i) p)
-        → Fault (suc k) s at n p
-    go none q rec = here (suc k) s at n p b (omega arith) (inl (no-item s q)) (sym (reading-end (suc k) s at n q) ∙ e)
+    go : (o : Option Item) → nextItem form s ≡ o
+        → ((i : Item) → n + tally i + k < 4294967296 → reading form k (drop (itemSize form i) s) (at + itemSize form i) (n + tally i) ≡ malformed p → Fault form k (drop (itemSize form i) s) (at + itemSize form i) (n + tally i) p)
+        → Fault form (suc k) s at n p
+    go none q rec = here form (suc k) s at n p b (omega arith) (inl (no-item form s q)) (sym (reading-end form (suc k) s at n q) ∙ e)
     go (some i) q rec =
-        earlier k s at n p i b q
-        (rec i (omega (arith, tally-few i)) (later i (reading k (drop (itemSize i) s) (at + itemSize i) (n + tally i)) p (sym (reading-next k s at n i q) ∙ e)))
+        earlier form k s at n p i b q
+        (rec i (omega (arith, tally-few i)) (later i (reading form k (drop (itemSize form i) s) (at + itemSize form i) (n + tally i)) p (sym (reading-next form k s at n i q) ∙ e)))
 
 -- a refusal 41 is given for a galley within the limit, at its first fault
-pub refused-is : (g : List ℕ) (p : ℕ) → Bytes g → checkOutcome g ≡ refused galleyMalformed p → Fault maxItems g 0 0 p
+pub refused-is : (form : Form) (g : List ℕ) (p : ℕ) → Bytes g → checkOutcome form g ≡ refused galleyMalformed p → Fault form maxItems g 0 0 p
 unfolding checkOutcome readGalley
-refused-is g p b e = go (ltb maxGalley (length g)) refl (readGalley g) refl e
+refused-is form g p b e = go (ltb (maxGalley form) (length g)) refl (readGalley form g) refl e
   where
-    go : (t : Bool) → ltb maxGalley (length g) ≡ t → (r : Reading) → readGalley g ≡ r → cond t (refused galleyTooLong 0) (countOutcome 0 r) ≡ refused galleyMalformed p → Fault maxItems g 0 0 p
+    go : (t : Bool) → ltb (maxGalley form) (length g) ≡ t → (r : Reading) → readGalley form g ≡ r → cond t (refused galleyTooLong 0) (countOutcome 0 r) ≡ refused galleyMalformed p → Fault form maxItems g 0 0 p
     go true l r q h = let z : _≡_ {A = ℕ} 40 41 = cc in absurd (omega arith)
     go false l (whole is) q h = let z : _≡_ {A = ℕ} 0 1 = cc in absurd (omega arith)
     go false l (malformed x) q h =
         let y : x ≡ p = cc in
-        fault-steps maxItems g 0 0 p b (omega arith) (q ∙ ap malformed y)
+        fault-steps form maxItems g 0 0 p b (omega arith) (q ∙ ap malformed y)

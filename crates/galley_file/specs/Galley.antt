@@ -1,4 +1,5 @@
--- A whole galley, and what a run of bytes holds when it is read as one (document 01, "Galley"; document 02, "Software cuts" and "Longer columns").
+-- A whole galley, and what a run of bytes holds when it is read as one (document 01, "Galley"; document 02,
+-- "Software cuts"), in either form.
 --     galley         the bytes of a list of items
 --     AllValid       each item of a list is valid, its height at most so many quanta
 --     Reading        the items that a run of bytes holds, or the place of its first fault
@@ -15,11 +16,8 @@ use lib.IntN.{ℤ}
 use lib.ListN.{length, drop}
 use Rattle.octets.specs.Field.{endField, startsEnd}
 use Rattle.galley_file.specs.declared.item.Item.{Item}
+use Rattle.galley_file.specs.declared.form.Form.{Form}
 use Rattle.galley_file.specs.Item.{validItem, itemField, itemSize, nextItem, tally, charactersOf}
-
--- the longest galley: 1,048,576 characters
-abbrev pub maxGalley : ℕ
-maxGalley = 11534343
 
 -- the most characters and cuts together
 abbrev pub maxItems : ℕ
@@ -29,13 +27,13 @@ pub data AllValid (top : ℤ) : List Item → Type 0 where
   nil : AllValid top []
   more : {i : Item} {is : List Item} → validItem top i ≡ true → AllValid top is → AllValid top (i ∷ is)
 
-unfoldable pub fields : List Item → List ℕ
-fields [] = []
-fields (i ∷ is) = itemField i ++ fields is
+unfoldable pub fields : Form → List Item → List ℕ
+fields f [] = []
+fields f (i ∷ is) = itemField f i ++ fields f is
 
 -- the items' fields, and End with the number of the characters only
-unfoldable pub galley : List Item → List ℕ
-galley is = fields is ++ endField (length (charactersOf is))
+unfoldable pub galley : Form → List Item → List ℕ
+galley f is = fields f is ++ endField (length (charactersOf is))
 
 pub data Reading : Type 0 where
   whole : List Item → Reading
@@ -51,29 +49,29 @@ readEnd s at n = cond (startsEnd n s) (cond (eqb (length s) 7) (whole []) (malfo
 
 -- What s holds, where it starts at the place `at` of a galley and follows n characters: after a field comes again a run of
 -- fields, by the same rules. The first number is that of the characters and cuts that may come: the first field past it is bad.
-unfoldable pub reading : ℕ → List ℕ → ℕ → ℕ → Reading
-reading zero s at n = readEnd s at n
-reading (suc k) s at n =
-    elim (nextItem s) [
+unfoldable pub reading : Form → ℕ → List ℕ → ℕ → ℕ → Reading
+reading f zero s at n = readEnd s at n
+reading f (suc k) s at n =
+    elim (nextItem f s) [
       | none ↦ readEnd s at n
-      | some i ↦ after i (reading k (drop (itemSize i) s) (at + itemSize i) (n + tally i))
+      | some i ↦ after i (reading f k (drop (itemSize f i) s) (at + itemSize f i) (n + tally i))
     ]
 
-unfoldable pub readGalley : List ℕ → Reading
-readGalley g = reading maxItems g 0 0
+unfoldable pub readGalley : Form → List ℕ → Reading
+readGalley f g = reading f maxItems g 0 0
 
 abbrev pub itemsIn : Reading → List Item
 itemsIn (whole is) = is
 itemsIn (malformed place) = []
 
-unfoldable pub itemsOf : List ℕ → List Item
-itemsOf g = itemsIn (readGalley g)
+unfoldable pub itemsOf : Form → List ℕ → List Item
+itemsOf f g = itemsIn (readGalley f g)
 
 -- the items that s starts with, at most m
-unfoldable pub leading : ℕ → List ℕ → List Item
-leading zero s = []
-leading (suc m) s =
-    elim (nextItem s) [
+unfoldable pub leading : Form → ℕ → List ℕ → List Item
+leading f zero s = []
+leading f (suc m) s =
+    elim (nextItem f s) [
       | none ↦ []
-      | some i ↦ i ∷ leading m (drop (itemSize i) s)
+      | some i ↦ i ∷ leading f m (drop (itemSize f i) s)
     ]

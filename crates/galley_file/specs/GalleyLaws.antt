@@ -18,7 +18,6 @@ use borrow.Author.Tests.{le-ltb, eqb-true, ltb-false}
 use lib.Dec.{ltb, eqb, lit<}
 use lib.ListN.{length, getD, drop, length-append, length-drop, drop-of-length-le}
 use lib.Seq.{getD-drop, drop-drop}
-use Rattle.measure.specs.Place.{heightEnd}
 use Rattle.octets.specs.Octets.{Bytes, bytes, residue, signedBytes}
 use Rattle.octets.specs.OctetsLaws.{bytes-drop, length-bytes}
 use Rattle.octets.specs.Field.{field, endField, startsField, startsEnd}
@@ -26,25 +25,28 @@ use Rattle.octets.specs.FieldLaws.{length-end, end-starts, starts-end}
 use Rattle.octets.specs.Answer.{Outcome, accepted, refused, galleyTooLong}
 use Rattle.galley_file.specs.declared.character.Character.{Character}
 use Rattle.galley_file.specs.declared.item.Item.{Item}
+use Rattle.galley_file.specs.declared.form.Form.{Form}
+use Rattle.galley_file.specs.declared.form.Form.the-variants.{Old, New}
+use Rattle.galley_file.specs.Form.{characterTag, heightBytes, characterSize, greatestHeight, maxGalley}
 use Rattle.galley_file.specs.declared.item.Item.the-variants.{Placed, Cut}
 use Rattle.galley_file.specs.Character.{valid, characterBody, characterField}
 use Rattle.galley_file.specs.CharacterLaws.{valid-parts}
 use Rattle.galley_file.specs.Item.{cutField, validItem, itemField, itemSize, nextItem, itemAt, tally, charactersOf, cutsOf}
 use Rattle.galley_file.specs.ItemLaws.{length-itemField, drop-itemField, next-none, next-field, Next, next-is, field-next, next-itemAt, count-item, all-counted}
-use Rattle.galley_file.specs.Galley.{maxGalley, maxItems, AllValid, nil, more, fields, galley, Reading, whole, malformed, after, readEnd, reading, readGalley, itemsIn, itemsOf}
+use Rattle.galley_file.specs.Galley.{maxItems, AllValid, nil, more, fields, galley, Reading, whole, malformed, after, readEnd, reading, readGalley, itemsIn, itemsOf}
 use Rattle.galley_file.specs.Outcome.{countOutcome, checkOutcome}
 
 -- ---- how a run of fields is read, field by field
 
-pub reading-next : (k : ℕ) (s : List ℕ) (at n : ℕ) (i : Item) → nextItem s ≡ some i
-    → reading (suc k) s at n ≡ after i (reading k (drop (itemSize i) s) (at + itemSize i) (n + tally i))
+pub reading-next : (form : Form) (k : ℕ) (s : List ℕ) (at n : ℕ) (i : Item) → nextItem form s ≡ some i
+    → reading form (suc k) s at n ≡ after i (reading form k (drop (itemSize form i) s) (at + itemSize form i) (n + tally i))
 unfolding reading
-reading-next k s at n i e = rw (e, reading)
+reading-next form k s at n i e = rw (e, reading)
 
-pub reading-end : (k : ℕ) (s : List ℕ) (at n : ℕ) → nextItem s ≡ none → reading k s at n ≡ readEnd s at n
+pub reading-end : (form : Form) (k : ℕ) (s : List ℕ) (at n : ℕ) → nextItem form s ≡ none → reading form k s at n ≡ readEnd s at n
 unfolding reading
-reading-end zero s at n e = refl
-reading-end (suc k) s at n e = rw (e, reading)
+reading-end form zero s at n e = refl
+reading-end form (suc k) s at n e = rw (e, reading)
 
 no-end : (s : List ℕ) (at n : ℕ) (i : Item) (is : List Item) → readEnd s at n ≡ whole (i ∷ is) → ⊥
 unfolding readEnd
@@ -55,74 +57,79 @@ no-end s at n i is = go (startsEnd n s) (eqb (length s) 7)
     go true false e = let z : _≡_ {A = ℕ} 0 1 = cc in omega arith
     go false u e = let z : _≡_ {A = ℕ} 0 1 = cc in omega arith
 
-pub record First (k : ℕ) (s : List ℕ) (at n : ℕ) (i : Item) (is : List Item) : Type 0 where
+pub record First (form : Form) (k : ℕ) (s : List ℕ) (at n : ℕ) (i : Item) (is : List Item) : Type 0 where
   pub left : ℕ
   pub room : k ≡ suc left
-  pub next : nextItem s ≡ some i
-  pub rest : reading left (drop (itemSize i) s) (at + itemSize i) (n + tally i) ≡ whole is
+  pub next : nextItem form s ≡ some i
+  pub rest : reading form left (drop (itemSize form i) s) (at + itemSize form i) (n + tally i) ≡ whole is
 
 -- a run that holds an item starts with its field
-pub first : (k : ℕ) (s : List ℕ) (at n : ℕ) (i : Item) (is : List Item) → reading k s at n ≡ whole (i ∷ is) → First k s at n i is
+pub first : (form : Form) (k : ℕ) (s : List ℕ) (at n : ℕ) (i : Item) (is : List Item) → reading form k s at n ≡ whole (i ∷ is) → First form k s at n i is
 unfolding reading
-first zero s at n i is e = absurd (no-end s at n i is e)
-first (suc k) s at n i is e = go (nextItem s) refl
+first form zero s at n i is e = absurd (no-end s at n i is e)
+first form (suc k) s at n i is e = go (nextItem form s) refl
   where
-    later : (j : Item) → nextItem s ≡ some j → (r : Reading) → reading k (drop (itemSize j) s) (at + itemSize j) (n + tally j) ≡ r → First (suc k) s at n i is
+    later : (j : Item) → nextItem form s ≡ some j → (r : Reading) → reading form k (drop (itemSize form j) s) (at + itemSize form j) (n + tally j) ≡ r → First form (suc k) s at n i is
     later j q (whole js) w =
-        let h : whole (j ∷ js) ≡ whole (i ∷ is) = sym (reading-next k s at n j q ∙ ap (after j) w) ∙ e in
+        let h : whole (j ∷ js) ≡ whole (i ∷ is) = sym (reading-next form k s at n j q ∙ ap (after j) w) ∙ e in
         let a : j ≡ i = cc in
         let b : js ≡ is = cc in
         record {
           left = k;
           room = refl;
           next = q ∙ ap some a;
-          rest = ap (λ (x : Item). reading k (drop (itemSize x) s) (at + itemSize x) (n + tally x)) (sym a) ∙ w ∙ ap whole b;
+          rest = ap (λ (x : Item). reading form k (drop (itemSize form x) s) (at + itemSize form x) (n + tally x)) (sym a) ∙ w ∙ ap whole b;
         }
     later j q (malformed p) w =
-        let h : malformed p ≡ whole (i ∷ is) = sym (reading-next k s at n j q ∙ ap (after j) w) ∙ e in
+        let h : malformed p ≡ whole (i ∷ is) = sym (reading-next form k s at n j q ∙ ap (after j) w) ∙ e in
         let z : _≡_ {A = ℕ} 0 1 = cc in
         absurd (omega arith)
 
-    go : (o : Option Item) → nextItem s ≡ o → First (suc k) s at n i is
-    go none q = absurd (no-end s at n i is (sym (reading-end (suc k) s at n q) ∙ e))
-    go (some j) q = later j q (reading k (drop (itemSize j) s) (at + itemSize j) (n + tally j)) refl
+    go : (o : Option Item) → nextItem form s ≡ o → First form (suc k) s at n i is
+    go none q = absurd (no-end s at n i is (sym (reading-end form (suc k) s at n q) ∙ e))
+    go (some j) q = later j q (reading form k (drop (itemSize form j) s) (at + itemSize form j) (n + tally j)) refl
 
 -- a run has no more items than it may
-pub reading-few : (is : List Item) (k : ℕ) (s : List ℕ) (at n : ℕ) → reading k s at n ≡ whole is → length is ≤ k
-reading-few [] k s at n e = omega arith
-reading-few (i ∷ is) k s at n e =
-    let f = first k s at n i is e in
-    omega (arith, f .room, reading-few is (f .left) (drop (itemSize i) s) (at + itemSize i) (n + tally i) (f .rest))
+pub reading-few : (form : Form) (is : List Item) (k : ℕ) (s : List ℕ) (at n : ℕ) → reading form k s at n ≡ whole is → length is ≤ k
+reading-few form [] k s at n e = omega arith
+reading-few form (i ∷ is) k s at n e =
+    let f = first form k s at n i is e in
+    omega (arith, f .room, reading-few form is (f .left) (drop (itemSize form i) s) (at + itemSize form i) (n + tally i) (f .rest))
 
 -- what an accepted check tells
-pub record Checked (g : List ℕ) (count : ℕ) : Type 0 where
+pub record Checked (form : Form) (g : List ℕ) (count : ℕ) : Type 0 where
   pub items : List Item
-  pub read : readGalley g ≡ whole items
+  pub read : readGalley form g ≡ whole items
   pub counted : length (charactersOf items) ≡ count
   pub few : length items ≤ maxItems
-  pub fits : length g ≤ maxGalley
+  pub fits : length g ≤ maxGalley form
 
-pub checked : (g : List ℕ) (count : ℕ) → accepted count ≡ checkOutcome g → Checked g count
+pub checked : (form : Form) (g : List ℕ) (count : ℕ) → accepted count ≡ checkOutcome form g → Checked form g count
 unfolding checkOutcome readGalley
-checked g count e = go (ltb maxGalley (length g)) refl (readGalley g) refl e
+checked form g count e = go (ltb (maxGalley form) (length g)) refl (readGalley form g) refl e
   where
-    go : (t : Bool) → ltb maxGalley (length g) ≡ t → (r : Reading) → readGalley g ≡ r → accepted count ≡ cond t (refused galleyTooLong 0) (countOutcome 0 r) → Checked g count
+    go : (t : Bool) → ltb (maxGalley form) (length g) ≡ t → (r : Reading) → readGalley form g ≡ r → accepted count ≡ cond t (refused galleyTooLong 0) (countOutcome 0 r) → Checked form g count
     go true l r q h = let z : _≡_ {A = ℕ} 0 1 = cc in absurd (omega arith)
     go false l (whole is) q h =
         let k : count ≡ 0 + length (charactersOf is) = cc in
-        record { items = is; read = q; counted = omega arith; few = reading-few is maxItems g 0 0 q; fits = ltb-false _ _ l }
+        record { items = is; read = q; counted = omega arith; few = reading-few form is maxItems g 0 0 q; fits = ltb-false _ _ l }
     go false l (malformed p) q h = let z : _≡_ {A = ℕ} 0 1 = cc in absurd (omega arith)
 
--- the items of an accepted galley
-pub read-as : (g : List ℕ) (count : ℕ) → accepted count ≡ checkOutcome g → readGalley g ≡ whole (itemsOf g)
-unfolding itemsOf
-read-as g count e = let r = checked g count e .read in r ∙ ap whole (sym (ap itemsIn r))
+-- a galley within the limit that is read as items is accepted
+pub read-accepted : (form : Form) (g : List ℕ) (is : List Item) → length g ≤ maxGalley form → readGalley form g ≡ whole is → checkOutcome form g ≡ accepted (length (charactersOf is))
+unfolding checkOutcome
+read-accepted form g is h e = rw (le-ltb (maxGalley form) (length g) h, e) (ap accepted (omega arith))
 
-pub reading-valid : (is : List Item) (k : ℕ) (s : List ℕ) (at n : ℕ) → reading k s at n ≡ whole is → AllValid heightEnd is
-reading-valid [] k s at n e = nil
-reading-valid (i ∷ is) k s at n e =
-    let f = first k s at n i is e in
-    more (next-is s i (f .next) .is-valid) (reading-valid is (f .left) (drop (itemSize i) s) (at + itemSize i) (n + tally i) (f .rest))
+-- the items of an accepted galley
+pub read-as : (form : Form) (g : List ℕ) (count : ℕ) → accepted count ≡ checkOutcome form g → readGalley form g ≡ whole (itemsOf form g)
+unfolding itemsOf
+read-as form g count e = let r = checked form g count e .read in r ∙ ap whole (sym (ap itemsIn r))
+
+pub reading-valid : (form : Form) (is : List Item) (k : ℕ) (s : List ℕ) (at n : ℕ) → reading form k s at n ≡ whole is → AllValid (greatestHeight form) is
+reading-valid form [] k s at n e = nil
+reading-valid form (i ∷ is) k s at n e =
+    let f = first form k s at n i is e in
+    more (next-is form s i (f .next) .is-valid) (reading-valid form is (f .left) (drop (itemSize form i) s) (at + itemSize form i) (n + tally i) (f .rest))
 
 -- ---- runs of fields
 
@@ -131,28 +138,29 @@ end-written s n b l e =
     starts-end n s b e .1
     ∙ ap (λ (m : List ℕ). endField n ++ m) (drop-of-length-le s {i = 7} (omega arith)) ∙ append-nil (endField n)
 
-end-none : (n : ℕ) → nextItem (endField n) ≡ none
+end-none : (form : Form) (n : ℕ) → nextItem form (endField n) ≡ none
 unfolding endField field
-end-none n = next-none (endField n) (λ e. omega arith) (λ e. omega arith)
+end-none Old n = next-none Old (endField n) (λ e. omega arith) (λ e. omega arith)
+end-none New n = next-none New (endField n) (λ e. omega arith) (λ e. omega arith)
 
-end-alone : (k n at : ℕ) → n < 4294967296 → reading k (endField n) at n ≡ whole []
+end-alone : (form : Form) (k n at : ℕ) → n < 4294967296 → reading form k (endField n) at n ≡ whole []
 unfolding endField field bytes readEnd
-end-alone k n at h =
+end-alone form k n at h =
     let e : startsEnd n (endField n) ≡ true = ap (startsEnd n) (sym (append-nil (endField n))) ∙ end-starts n [] h in
-    reading-end k (endField n) at n (end-none n) ∙ rw e
+    reading-end form k (endField n) at n (end-none form n) ∙ rw e
 
 -- a run of fields and its End are read as their items
-pub accept : (is : List Item) (k at n m : ℕ) → AllValid heightEnd is → length is ≤ k → m ≡ n + length (charactersOf is) → m < 4294967296
-    → reading k (fields is ++ endField m) at n ≡ whole is
+pub accept : (form : Form) (is : List Item) (k at n m : ℕ) → AllValid (greatestHeight form) is → length is ≤ k → m ≡ n + length (charactersOf is) → m < 4294967296
+    → reading form k (fields form is ++ endField m) at n ≡ whole is
 unfolding fields charactersOf
-accept [] k at n m nil l e h = let z : m ≡ n = omega arith in rw z (end-alone k n at (omega arith))
-accept (i ∷ is) zero at n m v l e h = absurd (omega arith)
-accept (i ∷ is) (suc k) at n m (more v vs) l e h =
-    let rest = fields is ++ endField m in
-    rw (append-assoc (itemField i) (fields is) (endField m))
-    (reading-next k (itemField i ++ rest) at n i (next-field i v rest)
-    ∙ ap (λ (t : List ℕ). after i (reading k t (at + itemSize i) (n + tally i))) (drop-itemField i v rest)
-    ∙ ap (after i) (accept is k (at + itemSize i) (n + tally i) m vs (omega arith) (omega (arith, count-item i is, e)) h))
+accept form [] k at n m nil l e h = let z : m ≡ n = omega arith in rw z (end-alone form k n at (omega arith))
+accept form (i ∷ is) zero at n m v l e h = absurd (omega arith)
+accept form (i ∷ is) (suc k) at n m (more v vs) l e h =
+    let rest = fields form is ++ endField m in
+    rw (append-assoc (itemField form i) (fields form is) (endField m))
+    (reading-next form k (itemField form i ++ rest) at n i (next-field form i v rest)
+    ∙ ap (λ (t : List ℕ). after i (reading form k t (at + itemSize form i) (n + tally i))) (drop-itemField form i rest)
+    ∙ ap (after i) (accept form is k (at + itemSize form i) (n + tally i) m vs (omega arith) (omega (arith, count-item i is, e)) h))
 
 no-more : (i : Item) (r : Reading) → after i r ≡ whole [] → ⊥
 no-more i (whole is) e = let z : _≡_ {A = ℕ} 0 1 = cc in omega arith
@@ -172,121 +180,123 @@ at-end s at n e = go (startsEnd n s) refl (eqb (length s) 7) refl e
     go true p false q h = let z : _≡_ {A = ℕ} 0 1 = cc in absurd (omega arith)
     go false p u q h = let z : _≡_ {A = ℕ} 0 1 = cc in absurd (omega arith)
 
-pub last : (k : ℕ) (s : List ℕ) (at n : ℕ) → reading k s at n ≡ whole [] → Ended s n
+pub last : (form : Form) (k : ℕ) (s : List ℕ) (at n : ℕ) → reading form k s at n ≡ whole [] → Ended s n
 unfolding reading
-last zero s at n e = at-end s at n e
-last (suc k) s at n e = go (nextItem s) refl
+last form zero s at n e = at-end s at n e
+last form (suc k) s at n e = go (nextItem form s) refl
   where
-    go : (o : Option Item) → nextItem s ≡ o → Ended s n
-    go none q = at-end s at n (sym (reading-end (suc k) s at n q) ∙ e)
-    go (some j) q = absurd (no-more j (reading k (drop (itemSize j) s) (at + itemSize j) (n + tally j)) (sym (reading-next k s at n j q) ∙ e))
+    go : (o : Option Item) → nextItem form s ≡ o → Ended s n
+    go none q = at-end s at n (sym (reading-end form (suc k) s at n q) ∙ e)
+    go (some j) q = absurd (no-more j (reading form k (drop (itemSize form j) s) (at + itemSize form j) (n + tally j)) (sym (reading-next form k s at n j q) ∙ e))
 
 -- bytes that are read as items are their fields and their End
-pub decoded : (is : List Item) (k : ℕ) (s : List ℕ) (at n : ℕ) → Bytes s → reading k s at n ≡ whole is → s ≡ fields is ++ endField (n + length (charactersOf is))
+pub decoded : (form : Form) (is : List Item) (k : ℕ) (s : List ℕ) (at n : ℕ) → Bytes s → reading form k s at n ≡ whole is → s ≡ fields form is ++ endField (n + length (charactersOf is))
 unfolding fields charactersOf
-decoded [] k s at n b e =
+decoded form [] k s at n b e =
     let z : n + 0 ≡ n = omega arith in
-    let f = last k s at n e in
+    let f = last form k s at n e in
     rw z (end-written s n b (f .long) (f .starts))
-decoded (i ∷ is) k s at n b e =
-    let f = first k s at n i is e in
-    let r = decoded is (f .left) (drop (itemSize i) s) (at + itemSize i) (n + tally i) (bytes-drop (itemSize i) s b) (f .rest) in
+decoded form (i ∷ is) k s at n b e =
+    let f = first form k s at n i is e in
+    let r = decoded form is (f .left) (drop (itemSize form i) s) (at + itemSize form i) (n + tally i) (bytes-drop (itemSize form i) s b) (f .rest) in
     let z : n + tally i + length (charactersOf is) ≡ n + length (charactersOf (i ∷ is)) = omega (arith, count-item i is) in
-    field-next s i b (f .next)
-    ∙ ap (λ (l : List ℕ). itemField i ++ l) (r ∙ ap (λ (t : ℕ). fields is ++ endField t) z)
-    ∙ sym (append-assoc (itemField i) (fields is) (endField (n + length (charactersOf (i ∷ is)))))
+    field-next form s i b (f .next)
+    ∙ ap (λ (l : List ℕ). itemField form i ++ l) (r ∙ ap (λ (t : ℕ). fields form is ++ endField t) z)
+    ∙ sym (append-assoc (itemField form i) (fields form is) (endField (n + length (charactersOf (i ∷ is)))))
 
 -- a run is as long as its items' fields and End
-pub reading-length : (is : List Item) (k : ℕ) (s : List ℕ) (at n : ℕ) → reading k s at n ≡ whole is → length s ≡ length (fields is) + 7
+pub reading-length : (form : Form) (is : List Item) (k : ℕ) (s : List ℕ) (at n : ℕ) → reading form k s at n ≡ whole is → length s ≡ length (fields form is) + 7
 unfolding fields
-reading-length [] k s at n e = last k s at n e .long
-reading-length (i ∷ is) k s at n e =
-    let f = first k s at n i is e in
+reading-length form [] k s at n e = last form k s at n e .long
+reading-length form (i ∷ is) k s at n e =
+    let f = first form k s at n i is e in
     omega (
       arith,
-      reading-length is (f .left) (drop (itemSize i) s) (at + itemSize i) (n + tally i) (f .rest),
-      length-drop (itemSize i) s,
-      next-is s i (f .next) .long,
-      length-append (itemField i) (fields is),
-      length-itemField i,
+      reading-length form is (f .left) (drop (itemSize form i) s) (at + itemSize form i) (n + tally i) (f .rest),
+      length-drop (itemSize form i) s,
+      next-is form s i (f .next) .long,
+      length-append (itemField form i) (fields form is),
+      length-itemField form i,
     )
 
 -- ---- whole galleys
 
--- eleven bytes for a character and three for a cut
-pub length-fields : (is : List Item) → length (fields is) ≡ 11 * length (charactersOf is) + 3 * cutsOf is
+-- so many bytes for a character, and three for a cut
+pub length-fields : (form : Form) (is : List Item) → length (fields form is) ≡ characterSize form * length (charactersOf is) + 3 * cutsOf is
 unfolding fields charactersOf cutsOf
-length-fields [] = refl
-length-fields (Placed c ∷ is) = length-append (characterField c) (fields is) ∙ omega (arith, length-fields is, length-itemField (Placed c))
-length-fields (Cut ∷ is) = length-append cutField (fields is) ∙ omega (arith, length-fields is, length-itemField Cut)
+length-fields Old [] = refl
+length-fields New [] = refl
+length-fields Old (Placed c ∷ is) = length-append (characterField Old c) (fields Old is) ∙ omega (arith, length-fields Old is, length-itemField Old (Placed c))
+length-fields New (Placed c ∷ is) = length-append (characterField New c) (fields New is) ∙ omega (arith, length-fields New is, length-itemField New (Placed c))
+length-fields form (Cut ∷ is) = length-append cutField (fields form is) ∙ omega (arith, length-fields form is, length-itemField form Cut)
 
-pub fields-append : (is js : List Item) → fields (is ++ js) ≡ fields is ++ fields js
+pub fields-append : (form : Form) (is js : List Item) → fields form (is ++ js) ≡ fields form is ++ fields form js
 unfolding fields
-fields-append [] js = refl
-fields-append (i ∷ is) js =
-    ap (λ (l : List ℕ). itemField i ++ l) (fields-append is js) ∙ sym (append-assoc (itemField i) (fields is) (fields js))
+fields-append form [] js = refl
+fields-append form (i ∷ is) js =
+    ap (λ (l : List ℕ). itemField form i ++ l) (fields-append form is js) ∙ sym (append-assoc (itemField form i) (fields form is) (fields form js))
 
-pub fields-one : (i : Item) → fields (i ∷ []) ≡ itemField i
+pub fields-one : (form : Form) (i : Item) → fields form (i ∷ []) ≡ itemField form i
 unfolding fields
-fields-one i = append-nil (itemField i)
+fields-one form i = append-nil (itemField form i)
 
-pub length-galley : (is : List Item) → length (galley is) ≡ length (fields is) + 7
+pub length-galley : (form : Form) (is : List Item) → length (galley form is) ≡ length (fields form is) + 7
 unfolding galley
-length-galley is = let l = length-end (length (charactersOf is)) in length-append (fields is) (endField (length (charactersOf is))) ∙ (omega arith)
+length-galley form is = let l = length-end (length (charactersOf is)) in length-append (fields form is) (endField (length (charactersOf is))) ∙ (omega arith)
 
--- at most eleven bytes for each item
-pub fields-few : (is : List Item) → length (fields is) ≤ 11 * length is
-fields-few is = omega (arith, length-fields is, all-counted is)
+-- as many items as may be are within the limit
+pub galley-fits : (form : Form) (is : List Item) → length is ≤ maxItems → length (galley form is) ≤ maxGalley form
+galley-fits Old is h = omega (arith, length-galley Old is, length-fields Old is, all-counted is)
+galley-fits New is h = omega (arith, length-galley New is, length-fields New is, all-counted is)
 
 -- decode (encode is) = is
-pub accepts : (is : List Item) → AllValid heightEnd is → length is ≤ maxItems → readGalley (galley is) ≡ whole is
+pub accepts : (form : Form) (is : List Item) → AllValid (greatestHeight form) is → length is ≤ maxItems → readGalley form (galley form is) ≡ whole is
 unfolding readGalley galley
-accepts is v h =
+accepts form is v h =
     let n = length (charactersOf is) in
-    accept is maxItems 0 0 n v h (omega arith) (omega (arith, all-counted is))
+    accept form is maxItems 0 0 n v h (omega arith) (omega (arith, all-counted is))
 
 -- the check accepts the galley of valid items, and counts their characters
-pub accepts-check : (is : List Item) → AllValid heightEnd is → length is ≤ maxItems → checkOutcome (galley is) ≡ accepted (length (charactersOf is))
+pub accepts-check : (form : Form) (is : List Item) → AllValid (greatestHeight form) is → length is ≤ maxItems → checkOutcome form (galley form is) ≡ accepted (length (charactersOf is))
 unfolding checkOutcome
-accepts-check is v h =
-    let k : length (galley is) ≤ maxGalley = omega (arith, length-galley is, fields-few is) in
-    rw (le-ltb _ _ k, accepts is v h) (ap accepted (omega arith))
+accepts-check form is v h =
+    rw (le-ltb _ _ (galley-fits form is h), accepts form is v h) (ap accepted (omega arith))
 
 -- what an accepted galley is
-pub record Accepted (g : List ℕ) (count : ℕ) : Type 0 where
+pub record Accepted (form : Form) (g : List ℕ) (count : ℕ) : Type 0 where
   pub items : List Item
-  pub read : readGalley g ≡ whole items
-  pub bytes : g ≡ galley items
-  pub valid : AllValid heightEnd items
+  pub read : readGalley form g ≡ whole items
+  pub bytes : g ≡ galley form items
+  pub valid : AllValid (greatestHeight form) items
   pub counted : length (charactersOf items) ≡ count
   pub few : length items ≤ maxItems
 
 -- encode (decode g) = g
-pub accepted-is : (g : List ℕ) (count : ℕ) → Bytes g → checkOutcome g ≡ accepted count → Accepted g count
+pub accepted-is : (form : Form) (g : List ℕ) (count : ℕ) → Bytes g → checkOutcome form g ≡ accepted count → Accepted form g count
 unfolding readGalley galley
-accepted-is g count b e =
-    let c = checked g count (sym e) in
+accepted-is form g count b e =
+    let c = checked form g count (sym e) in
     let z : 0 + length (charactersOf (c .items)) ≡ length (charactersOf (c .items)) = omega arith in
     record {
       items = c .items;
       read = c .read;
-      bytes = decoded (c .items) maxItems g 0 0 b (c .read) ∙ ap (λ (n : ℕ). fields (c .items) ++ endField n) z;
-      valid = reading-valid (c .items) maxItems g 0 0 (c .read);
+      bytes = decoded form (c .items) maxItems g 0 0 b (c .read) ∙ ap (λ (n : ℕ). fields form (c .items) ++ endField n) z;
+      valid = reading-valid form (c .items) maxItems g 0 0 (c .read);
       counted = c .counted;
       few = c .few;
     }
 
 -- two accepted galleys with the same items are the same bytes
-pub same-bytes : (g h : List ℕ) (is : List Item) → Bytes g → Bytes h → readGalley g ≡ whole is → readGalley h ≡ whole is → g ≡ h
+pub same-bytes : (form : Form) (g h : List ℕ) (is : List Item) → Bytes g → Bytes h → readGalley form g ≡ whole is → readGalley form h ≡ whole is → g ≡ h
 unfolding readGalley
-same-bytes g h is b d e f = decoded is maxItems g 0 0 b e ∙ sym (decoded is maxItems h 0 0 d f)
+same-bytes form g h is b d e f = decoded form is maxItems g 0 0 b e ∙ sym (decoded form is maxItems h 0 0 d f)
 
 -- the check accepts exactly the galleys of lists of valid items
-pub accepted-exactly : (g : List ℕ) → Bytes g
-    → ((count : ℕ) × (checkOutcome g ≡ accepted count)) ↔ ((is : List Item) × AllValid heightEnd is × (length is ≤ maxItems) × (g ≡ galley is))
-accepted-exactly g b = (
-  λ p. let r = accepted-is g (p .0) b (p .1) in (r .items, r .valid, r .few, r .bytes),
-  λ p. (length (charactersOf (p .0)), ap checkOutcome (p .3) ∙ accepts-check (p .0) (p .1) (p .2)),
+pub accepted-exactly : (form : Form) (g : List ℕ) → Bytes g
+    → ((count : ℕ) × (checkOutcome form g ≡ accepted count)) ↔ ((is : List Item) × AllValid (greatestHeight form) is × (length is ≤ maxItems) × (g ≡ galley form is))
+accepted-exactly form g b = (
+  λ p. let r = accepted-is form g (p .0) b (p .1) in (r .items, r .valid, r .few, r .bytes),
+  λ p. (length (charactersOf (p .0)), ap (checkOutcome form) (p .3) ∙ accepts-check form (p .0) (p .1) (p .2)),
 )
 
 -- ---- a galley is bytes
@@ -313,26 +323,31 @@ each-field : (tag : ℕ) (body : List ℕ) → tag < 256 → Each body → Each 
 unfolding field
 each-field tag body h b = byte h (join (each-bytes 2 (length body)) b)
 
-each-character : (c : Character) → valid heightEnd c ≡ true → Each (characterField c)
+tag-small : (form : Form) → characterTag form < 256
+tag-small Old = lit< tt
+tag-small New = lit< tt
+
+each-character : (form : Form) (c : Character) → valid (greatestHeight form) c ≡ true → Each (characterField form c)
 unfolding characterField characterBody signedBytes
-each-character c v =
+each-character form c v =
     let p = valid-parts v in
     let f : c .font < 256 = omega (arith, p .font) in
     let k : c .code < 256 = omega (arith, p .last) in
-    each-field 7 (characterBody c) (lit< tt) (join (each-bytes 2 (residue 65536 (c .x .0))) (join (each-bytes 4 (residue 4294967296 (c .height .0))) (byte f (byte k stop))))
+    each-field (characterTag form) (characterBody form c) (tag-small form)
+    (join (each-bytes 2 (residue 65536 (c .x .0))) (join (each-bytes (heightBytes form) (residue (256 ^ heightBytes form) (c .height .0))) (byte f (byte k stop))))
 
-each-item : (i : Item) → validItem heightEnd i ≡ true → Each (itemField i)
+each-item : (form : Form) (i : Item) → validItem (greatestHeight form) i ≡ true → Each (itemField form i)
 unfolding cutField
-each-item (Placed c) v = each-character c v
-each-item Cut v = each-field 6 [] (lit< tt) stop
+each-item form (Placed c) v = each-character form c v
+each-item form Cut v = each-field 6 [] (lit< tt) stop
 
-each-fields : {is : List Item} → AllValid heightEnd is → Each (fields is)
+each-fields : (form : Form) {is : List Item} → AllValid (greatestHeight form) is → Each (fields form is)
 unfolding fields
-each-fields nil = stop
-each-fields (more {i = i} v vs) = join (each-item i v) (each-fields vs)
+each-fields form nil = stop
+each-fields form (more {i = i} v vs) = join (each-item form i v) (each-fields form vs)
 
-pub galley-bytes : (is : List Item) → AllValid heightEnd is → Bytes (galley is)
+pub galley-bytes : (form : Form) (is : List Item) → AllValid (greatestHeight form) is → Bytes (galley form is)
 unfolding galley endField
-galley-bytes is v =
+galley-bytes form is v =
     let n = length (charactersOf is) in
-    each (join (each-fields v) (each-field 2 (bytes 4 n) (lit< tt) (each-bytes 4 n)))
+    each (join (each-fields form v) (each-field 2 (bytes 4 n) (lit< tt) (each-bytes 4 n)))

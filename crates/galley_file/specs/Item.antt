@@ -15,11 +15,13 @@ use lib.Dec.{eqb}
 use lib.IntN.{ℤ}
 use lib.ListN.{length, getD}
 use lib.Signed.{leZ}
-use Rattle.measure.specs.Place.{heightEnd, lowEnd}
+use Rattle.measure.specs.Place.{lowEnd}
 use Rattle.octets.specs.Field.{field, startsField}
 use Rattle.galley_file.specs.declared.character.Character.{Character}
 use Rattle.galley_file.specs.declared.item.Item.{Item}
 use Rattle.galley_file.specs.declared.item.Item.the-variants.{Placed, Cut}
+use Rattle.galley_file.specs.declared.form.Form.{Form}
+use Rattle.galley_file.specs.Form.{characterSize, greatestHeight}
 use Rattle.galley_file.specs.Character.{valid, characterField, characterAt, isCharacter}
 
 -- tag 6, length 0
@@ -33,20 +35,20 @@ abbrev pub validItem : ℤ → Item → Bool
 validItem top (Placed c) = valid top c
 validItem top Cut = true
 
-abbrev pub itemField : Item → List ℕ
-itemField (Placed c) = characterField c
-itemField Cut = cutField
+abbrev pub itemField : Form → Item → List ℕ
+itemField f (Placed c) = characterField f c
+itemField f Cut = cutField
 
-abbrev pub itemSize : Item → ℕ
-itemSize (Placed c) = 11
-itemSize Cut = 3
+abbrev pub itemSize : Form → Item → ℕ
+itemSize f (Placed c) = characterSize f
+itemSize f Cut = 3
 
-unfoldable pub nextItem : List ℕ → Option Item
-nextItem s = cond (isCharacter s) (some (Placed (characterAt s 0))) (cond (isCut s) (some Cut) none)
+unfoldable pub nextItem : Form → List ℕ → Option Item
+nextItem f s = cond (isCharacter f s) (some (Placed (characterAt f s 0))) (cond (isCut s) (some Cut) none)
 
 -- by the tag alone
-unfoldable pub itemAt : List ℕ → ℕ → Item
-itemAt s i = cond (eqb (getD s i 0) 6) Cut (Placed (characterAt s i))
+unfoldable pub itemAt : Form → List ℕ → ℕ → Item
+itemAt f s i = cond (eqb (getD s i 0) 6) Cut (Placed (characterAt f s i))
 
 -- a DVI file holds a character's height; a cut has none
 abbrev pub isLow : Item → Bool
@@ -54,9 +56,9 @@ isLow (Placed c) = leZ (c .height .0) lowEnd
 isLow Cut = true
 
 -- a whole field starts at i, of a valid item
-pub record WholeAt (s : List ℕ) (i : ℕ) : Type 0 where
-  pub inside : i + itemSize (itemAt s i) ≤ length s
-  pub is-valid : validItem heightEnd (itemAt s i) ≡ true
+pub record WholeAt (f : Form) (s : List ℕ) (i : ℕ) : Type 0 where
+  pub inside : i + itemSize f (itemAt f s i) ≤ length s
+  pub is-valid : validItem (greatestHeight f) (itemAt f s i) ≡ true
 
 -- a character counts 1, and a cut 0
 abbrev pub tally : Item → ℕ

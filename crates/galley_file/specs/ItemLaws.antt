@@ -14,36 +14,42 @@ use native.Mathlib.Nat.{add-assoc}
 use native.Mathlib.Omega.{arith}
 use borrow.Author.Tests.{ne-eqb, eq-eqb}
 use lib.Dec.{leb, eqb}
+use lib.IntN.{pos}
 use lib.ListN.{length, getD, take, drop, length-append}
 use lib.Seq.{getD-drop, drop-drop}
-use Rattle.measure.specs.Place.{heightEnd}
+use lib.Signed.{_≤ℤ_}
 use Rattle.octets.specs.Octets.{Bytes, natAt, bytes}
 use Rattle.octets.specs.Field.{field, startsField, endField}
 use Rattle.octets.specs.FieldLaws.{length-field, field-starts, starts, starts-field}
 use Rattle.galley_file.specs.declared.character.Character.{Character}
 use Rattle.galley_file.specs.declared.item.Item.{Item}
 use Rattle.galley_file.specs.declared.item.Item.the-variants.{Placed, Cut}
+use Rattle.galley_file.specs.declared.form.Form.{Form}
+use Rattle.galley_file.specs.declared.form.Form.the-variants.{Old, New}
+use Rattle.galley_file.specs.Form.{characterTag, heightBytes, bodyBytes, characterSize, greatestHeight}
 use Rattle.galley_file.specs.Character.{valid, characterField, characterAt, isCharacter}
 use Rattle.galley_file.specs.CharacterLaws.{length-characterField, characterAt-field, field-isCharacter, drop-field, height-number, read-character, isCharacter-field}
 use Rattle.galley_file.specs.Item.{cutField, isCut, validItem, itemField, itemSize, nextItem, itemAt, WholeAt, tally, charactersOf, cutsOf}
 
-pub length-itemField : (i : Item) → length (itemField i) ≡ itemSize i
+pub length-itemField : (form : Form) (i : Item) → length (itemField form i) ≡ itemSize form i
 unfolding cutField field bytes
-length-itemField (Placed c) = length-characterField c
-length-itemField Cut = refl
+length-itemField form (Placed c) = length-characterField form c
+length-itemField form Cut = refl
 
-pub size-least : (i : Item) → 3 ≤ itemSize i
-size-least (Placed c) = omega arith
-size-least Cut = omega arith
+pub size-least : (form : Form) (i : Item) → 3 ≤ itemSize form i
+size-least Old (Placed c) = omega arith
+size-least New (Placed c) = omega arith
+size-least form Cut = omega arith
 
-pub size-most : (i : Item) → itemSize i ≤ 11
-size-most (Placed c) = omega arith
-size-most Cut = omega arith
+pub size-most : (form : Form) (i : Item) → itemSize form i ≤ 11
+size-most Old (Placed c) = omega arith
+size-most New (Placed c) = omega arith
+size-most form Cut = omega arith
 
-pub drop-itemField : (i : Item) → validItem heightEnd i ≡ true → (rest : List ℕ) → drop (itemSize i) (itemField i ++ rest) ≡ rest
+pub drop-itemField : (form : Form) (i : Item) (rest : List ℕ) → drop (itemSize form i) (itemField form i ++ rest) ≡ rest
 unfolding cutField field bytes
-drop-itemField (Placed c) v rest = drop-field c v rest
-drop-itemField Cut v rest = refl
+drop-itemField form (Placed c) rest = drop-field form c rest
+drop-itemField form Cut rest = refl
 
 -- ---- another tag
 
@@ -55,42 +61,43 @@ other-tag tag len s h = rw (ne-eqb _ _ h) (go (leb (3 + len) (length s)))
     go true = refl
     go false = refl
 
-no-character : (s : List ℕ) → (getD s 0 0 ≡ 7 → ⊥) → isCharacter s ≡ false
+no-character : (form : Form) (s : List ℕ) → (getD s 0 0 ≡ characterTag form → ⊥) → isCharacter form s ≡ false
 unfolding isCharacter
-no-character s h = rw (other-tag 7 8 s h)
+no-character form s h = rw (other-tag (characterTag form) (bodyBytes form) s h)
 
-pub next-none : (s : List ℕ) → (getD s 0 0 ≡ 7 → ⊥) → (getD s 0 0 ≡ 6 → ⊥) → nextItem s ≡ none
+pub next-none : (form : Form) (s : List ℕ) → (getD s 0 0 ≡ characterTag form → ⊥) → (getD s 0 0 ≡ 6 → ⊥) → nextItem form s ≡ none
 unfolding nextItem isCut
-next-none s h k = rw (no-character s h, other-tag 6 0 s k)
+next-none form s h k = rw (no-character form s h, other-tag 6 0 s k)
 
 -- ---- a field, and what it holds
 
-cut-tag : (rest : List ℕ) → getD (cutField ++ rest) 0 0 ≡ 7 → ⊥
+cut-tag : (form : Form) (rest : List ℕ) → getD (cutField ++ rest) 0 0 ≡ characterTag form → ⊥
 unfolding cutField field
-cut-tag rest e = omega arith
+cut-tag Old rest e = omega arith
+cut-tag New rest e = omega arith
 
 cut-starts : (rest : List ℕ) → startsField 6 0 (cutField ++ rest) ≡ true
 unfolding cutField
 cut-starts rest = field-starts 6 [] rest 0 refl (omega arith)
 
-pub next-field : (i : Item) → validItem heightEnd i ≡ true → (rest : List ℕ) → nextItem (itemField i ++ rest) ≡ some i
+pub next-field : (form : Form) (i : Item) → validItem (greatestHeight form) i ≡ true → (rest : List ℕ) → nextItem form (itemField form i ++ rest) ≡ some i
 unfolding nextItem isCut
-next-field (Placed c) v rest = rw (field-isCharacter c v rest, characterAt-field c v rest)
-next-field Cut v rest = rw (no-character (cutField ++ rest) (cut-tag rest), cut-starts rest)
+next-field form (Placed c) v rest = rw (field-isCharacter form c v rest, characterAt-field form c v rest)
+next-field form Cut v rest = rw (no-character form (cutField ++ rest) (cut-tag form rest), cut-starts rest)
 
-pub record Next (s : List ℕ) (i : Item) : Type 0 where
-  pub is-valid : validItem heightEnd i ≡ true
-  pub long : itemSize i ≤ length s
-  pub here : itemAt s 0 ≡ i
+pub record Next (form : Form) (s : List ℕ) (i : Item) : Type 0 where
+  pub is-valid : validItem (greatestHeight form) i ≡ true
+  pub long : itemSize form i ≤ length s
+  pub here : itemAt form s 0 ≡ i
 
 -- the three cases of `nextItem`
-module _ (s : List ℕ) (P : Option Item → Type 0) (character : isCharacter s ≡ true → P (some (Placed (characterAt s 0))))
-    (cut : isCharacter s ≡ false → isCut s ≡ true → P (some Cut)) (neither : isCharacter s ≡ false → isCut s ≡ false → P none) where
-  pub next-cases : P (nextItem s)
+module _ (form : Form) (s : List ℕ) (P : Option Item → Type 0) (character : isCharacter form s ≡ true → P (some (Placed (characterAt form s 0))))
+    (cut : isCharacter form s ≡ false → isCut s ≡ true → P (some Cut)) (neither : isCharacter form s ≡ false → isCut s ≡ false → P none) where
+  pub next-cases : P (nextItem form s)
   unfolding nextItem
-  next-cases = go (isCharacter s) refl (isCut s) refl
+  next-cases = go (isCharacter form s) refl (isCut s) refl
     where
-      go : (t : Bool) → isCharacter s ≡ t → (u : Bool) → isCut s ≡ u → P (cond t (some (Placed (characterAt s 0))) (cond u (some Cut) none))
+      go : (t : Bool) → isCharacter form s ≡ t → (u : Bool) → isCut s ≡ u → P (cond t (some (Placed (characterAt form s 0))) (cond u (some Cut) none))
       go true e u f = character e
       go false e true f = cut e f
       go false e false f = neither e f
@@ -107,17 +114,21 @@ tag-cut : (s : List ℕ) → isCut s ≡ true → getD s 0 0 ≡ 6
 unfolding isCut
 tag-cut s e = starts e .tag-is
 
-tag-character : (s : List ℕ) → isCharacter s ≡ true → getD s 0 0 ≡ 7
-tag-character s e = starts (read-character s e .head) .tag-is
+tag-character : (form : Form) (s : List ℕ) → isCharacter form s ≡ true → getD s 0 0 ≡ characterTag form
+tag-character form s e = starts (read-character form s e .head) .tag-is
 
-pub next-is : (s : List ℕ) (i : Item) → nextItem s ≡ some i → Next s i
+other-than-cut : (form : Form) → characterTag form ≡ 6 → ⊥
+other-than-cut Old e = omega arith
+other-than-cut New e = omega arith
+
+pub next-is : (form : Form) (s : List ℕ) (i : Item) → nextItem form s ≡ some i → Next form s i
 unfolding itemAt
-next-is s i =
-    next-cases s (λ o. o ≡ some i → Next s i)
+next-is form s i =
+    next-cases form s (λ o. o ≡ some i → Next form s i)
     (λ e q.
-    let w : Placed (characterAt s 0) ≡ i = cc in
-    let r = read-character s e in
-    let t : (getD s 0 0 ≡ 6 → ⊥) = λ z. let y = tag-character s e in omega arith in
+    let w : Placed (characterAt form s 0) ≡ i = cc in
+    let r = read-character form s e in
+    let t : (getD s 0 0 ≡ 6 → ⊥) = λ z. other-than-cut form (sym (tag-character form s e) ∙ z) in
     rw (← w) (record { is-valid = r .is-valid; long = r .long; here = rw (ne-eqb _ _ t) }))
     (λ e f q.
     let w : Cut ≡ i = cc in
@@ -125,26 +136,26 @@ next-is s i =
     (λ e f q. let z : _≡_ {A = ℕ} 0 1 = cc in absurd (omega arith))
 
 -- bytes that have a next item are its field and what follows
-pub field-next : (s : List ℕ) (i : Item) → Bytes s → nextItem s ≡ some i → s ≡ itemField i ++ drop (itemSize i) s
-field-next s i b =
-    next-cases s (λ o. o ≡ some i → s ≡ itemField i ++ drop (itemSize i) s)
-    (λ e q. let w : Placed (characterAt s 0) ≡ i = cc in rw (← w) (isCharacter-field s b e))
+pub field-next : (form : Form) (s : List ℕ) (i : Item) → Bytes s → nextItem form s ≡ some i → s ≡ itemField form i ++ drop (itemSize form i) s
+field-next form s i b =
+    next-cases form s (λ o. o ≡ some i → s ≡ itemField form i ++ drop (itemSize form i) s)
+    (λ e q. let w : Placed (characterAt form s 0) ≡ i = cc in rw (← w) (isCharacter-field form s b e))
     (λ e f q. let w : Cut ≡ i = cc in rw (← w) (cut-field s b f))
     (λ e f q. let z : _≡_ {A = ℕ} 0 1 = cc in absurd (omega arith))
 
-shift : (s : List ℕ) (at i : ℕ) → itemAt (drop at s) i ≡ itemAt s (at + i)
+shift : (form : Form) (s : List ℕ) (at i : ℕ) → itemAt form (drop at s) i ≡ itemAt form s (at + i)
 unfolding itemAt characterAt
-shift s at i = simp (drop-drop, getD-drop, add-assoc)
+shift form s at i = simp (drop-drop, getD-drop, add-assoc)
 
-pub next-itemAt : (s : List ℕ) (at : ℕ) (i : Item) → nextItem (drop at s) ≡ some i → itemAt s at ≡ i
-next-itemAt s at i e = let z : at + 0 ≡ at = omega arith in ap (itemAt s) (sym z) ∙ sym (shift s at 0) ∙ next-is (drop at s) i e .here
+pub next-itemAt : (form : Form) (s : List ℕ) (at : ℕ) (i : Item) → nextItem form (drop at s) ≡ some i → itemAt form s at ≡ i
+next-itemAt form s at i e = let z : at + 0 ≡ at = omega arith in ap (itemAt form s) (sym z) ∙ sym (shift form s at 0) ∙ next-is form (drop at s) i e .here
 
 -- what reading a character asks: an item of another tag than a cut's is one
-pub whole-character : (s : List ℕ) (i : ℕ) → WholeAt s i → (getD s i 0 ≡ 6 → ⊥) → (i + 11 ≤ length s) × (natAt 4 (i + 5) s ≤ 1000000)
+pub whole-character : (form : Form) (s : List ℕ) (i : ℕ) → WholeAt form s i → (getD s i 0 ≡ 6 → ⊥) → (i + characterSize form ≤ length s) × (pos (natAt (heightBytes form) (i + 5) s) ≤ℤ greatestHeight form)
 unfolding itemAt
-whole-character s i w h =
-    let e : itemAt s i ≡ Placed (characterAt s i) = rw (ne-eqb _ _ h) in
-    (omega (arith, w .inside, ap itemSize e), height-number s i (sym (ap (validItem heightEnd) e) ∙ w .is-valid))
+whole-character form s i w h =
+    let e : itemAt form s i ≡ Placed (characterAt form s i) = rw (ne-eqb _ _ h) in
+    (omega (arith, w .inside, ap (itemSize form) e), height-number form s i (sym (ap (validItem (greatestHeight form)) e) ∙ w .is-valid))
 
 -- ---- counting
 

@@ -1,5 +1,7 @@
 -- The galley (document 01, "Galley"), and what its check and its reading back answer.
 pub mod Font
+pub mod Form
+pub mod FormLaws
 pub mod Character
 pub mod CharacterLaws
 pub mod Item

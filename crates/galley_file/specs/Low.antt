@@ -10,13 +10,15 @@ use lib.Dec.{ltb}
 use lib.ListN.{length}
 use Rattle.octets.specs.Answer.{Outcome, accepted, refused, Result, refusal, written, galleyTooLong, galleyMalformed, heightTooGreat}
 use Rattle.galley_file.specs.declared.item.Item.{Item}
+use Rattle.galley_file.specs.declared.form.Form.the-variants.{New}
+use Rattle.galley_file.specs.Form.{maxGalley}
 use Rattle.galley_file.specs.Item.{itemSize, isLow, charactersOf}
-use Rattle.galley_file.specs.Galley.{maxGalley, Reading, whole, malformed, readGalley}
+use Rattle.galley_file.specs.Galley.{Reading, whole, malformed, readGalley}
 
--- of items whose fields start at the place `at`
+-- of items whose fields, in the new form, start at the place `at`
 unfoldable pub firstHigh : List Item → ℕ → Option ℕ
 firstHigh [] at = none
-firstHigh (i ∷ is) at = cond (isLow i) (firstHigh is (at + itemSize i)) (some at)
+firstHigh (i ∷ is) at = cond (isLow i) (firstHigh is (at + itemSize New i)) (some at)
 
 -- 43 at the first field of a greater height, else the number of characters
 abbrev pub lowCount : Option ℕ → List Item → Outcome
@@ -30,7 +32,7 @@ lowCheck (malformed place) = refused galleyMalformed place
 
 -- 40 first
 unfoldable pub lowOutcome : List ℕ → Outcome
-lowOutcome g = cond (ltb maxGalley (length g)) (refused galleyTooLong 0) (lowCheck (readGalley g))
+lowOutcome g = cond (ltb (maxGalley New) (length g)) (refused galleyTooLong 0) (lowCheck (readGalley New g))
 
 -- 43 at the first field of a greater height, else what is made
 abbrev pub orTooGreat : Option ℕ → List ℕ → Result
@@ -44,4 +46,4 @@ lowReading make (malformed place) = refusal galleyMalformed place
 
 -- 40 first
 unfoldable pub lowResult : (List Item → List ℕ) → List ℕ → Result
-lowResult make g = cond (ltb maxGalley (length g)) (refusal galleyTooLong 0) (lowReading make (readGalley g))
+lowResult make g = cond (ltb (maxGalley New) (length g)) (refusal galleyTooLong 0) (lowReading make (readGalley New g))

@@ -8,17 +8,20 @@ use lib.ListN.{length, getD}
 use Rattle.octets.specs.Answer.{Outcome, accepted, refused, noCharacter, galleyTooLong, galleyMalformed}
 use Rattle.galley_file.specs.declared.character.Character.{Character}
 use Rattle.galley_file.specs.declared.Found.{Found}
+use Rattle.galley_file.specs.declared.form.Form.{Form}
+use Rattle.galley_file.specs.declared.form.Form.the-variants.{New}
+use Rattle.galley_file.specs.Form.{maxGalley}
 use Rattle.galley_file.specs.Item.{charactersOf}
-use Rattle.galley_file.specs.Galley.{maxGalley, Reading, whole, malformed, readGalley}
+use Rattle.galley_file.specs.Galley.{Reading, whole, malformed, readGalley}
 
 -- a run read after n characters: accepted with the number of all characters, or 41
 abbrev pub countOutcome : ℕ → Reading → Outcome
 countOutcome n (whole is) = accepted (n + length (charactersOf is))
 countOutcome n (malformed p) = refused galleyMalformed p
 
--- the check: 40, then 41
-unfoldable pub checkOutcome : List ℕ → Outcome
-checkOutcome g = cond (ltb maxGalley (length g)) (refused galleyTooLong 0) (countOutcome 0 (readGalley g))
+-- the check of a form: 40, then 41
+unfoldable pub checkOutcome : Form → List ℕ → Outcome
+checkOutcome f g = cond (ltb (maxGalley f) (length g)) (refused galleyTooLong 0) (countOutcome 0 (readGalley f g))
 
 -- What reading back gives: a character, or a refusal's number and place
 pub data FoundOutcome : Type 0 where
@@ -50,4 +53,4 @@ pickFound n (malformed p) = notFound galleyMalformed p
 
 -- reading back: 40, 41, 11
 unfoldable pub readBackOutcome : List ℕ → ℕ → FoundOutcome
-readBackOutcome g n = cond (ltb maxGalley (length g)) (notFound galleyTooLong 0) (pickFound n (readGalley g))
+readBackOutcome g n = cond (ltb (maxGalley New) (length g)) (notFound galleyTooLong 0) (pickFound n (readGalley New g))

@@ -5,6 +5,7 @@ use Prim.Native.Nat.{ℕ}
 use lib.ListN.{length}
 use Rattle.galley_file.specs.declared.item.Item.{Item}
 use Rattle.galley_file.specs.declared.Span.{Span}
+use Rattle.galley_file.specs.declared.form.Form.{Form}
 use Rattle.galley_file.specs.Item.{charactersOf, cutsOf}
 use Rattle.galley_file.specs.Galley.{leading}
 
@@ -14,5 +15,5 @@ pub record SpanOf (r : Span) (is : List Item) : Type 0 where
   pub cuts-are : r .cuts ≡ cutsOf is
 
 -- s starts with n characters
-abbrev pub Block : ℕ → List ℕ → Type 0
-Block n s = SpanOf (record { characters = n; cuts = 0 }) (leading n s)
+abbrev pub Block : Form → ℕ → List ℕ → Type 0
+Block f n s = SpanOf (record { characters = n; cuts = 0 }) (leading f n s)

@@ -12,91 +12,92 @@ use Prim.Native.Nat.{ℕ, _+_, _≤_, _<_}
 use native.Mathlib.Omega.{arith}
 use lib.ListN.{length, drop, length-append, length-drop}
 use lib.Seq.{drop-drop}
-use Rattle.measure.specs.Place.{heightEnd}
 use Rattle.galley_file.specs.declared.item.Item.{Item}
+use Rattle.galley_file.specs.declared.form.Form.{Form}
+use Rattle.galley_file.specs.Form.{greatestHeight}
 use Rattle.galley_file.specs.Item.{validItem, itemField, itemSize, itemAt, WholeAt, tally}
 use Rattle.galley_file.specs.ItemLaws.{length-itemField, size-least, next-is, next-itemAt}
 use Rattle.galley_file.specs.Galley.{maxItems, fields, whole, reading, readGalley}
 use Rattle.galley_file.specs.GalleyLaws.{first, last, reading-length, fields-append, fields-one}
 
-pub record Walk (g : List ℕ) (done rest : List Item) (at : ℕ) : Type 0 where
-  pub at-is : at ≡ length (fields done)
+pub record Walk (form : Form) (g : List ℕ) (done rest : List Item) (at : ℕ) : Type 0 where
+  pub at-is : at ≡ length (fields form done)
   pub inside : at ≤ length g
   pub left : ℕ
   pub before : ℕ
-  pub holds : reading left (drop at g) at before ≡ whole rest
+  pub holds : reading form left (drop at g) at before ≡ whole rest
 
 -- at the end there is just End
-walk-ended : (g : List ℕ) (done : List Item) (at : ℕ) → Walk g done [] at → at + 7 ≡ length g
-walk-ended g done at w = let l = last (w .left) (drop at g) at (w .before) (w .holds) .long in omega (arith, length-drop at g, w .inside)
+walk-ended : (form : Form) (g : List ℕ) (done : List Item) (at : ℕ) → Walk form g done [] at → at + 7 ≡ length g
+walk-ended form g done at w = let l = last form (w .left) (drop at g) at (w .before) (w .holds) .long in omega (arith, length-drop at g, w .inside)
 
-pub record Stepped (g : List ℕ) (done : List Item) (i : Item) (rest : List Item) (at : ℕ) : Type 0 where
-  pub here : itemAt g at ≡ i
-  pub is-valid : validItem heightEnd i ≡ true
-  pub room : at + itemSize i + 7 ≤ length g
-  pub walk : Walk g (done ++ (i ∷ [])) rest (at + itemSize i)
+pub record Stepped (form : Form) (g : List ℕ) (done : List Item) (i : Item) (rest : List Item) (at : ℕ) : Type 0 where
+  pub here : itemAt form g at ≡ i
+  pub is-valid : validItem (greatestHeight form) i ≡ true
+  pub room : at + itemSize form i + 7 ≤ length g
+  pub walk : Walk form g (done ++ (i ∷ [])) rest (at + itemSize form i)
 
-pub walk-step : (g : List ℕ) (done : List Item) (i : Item) (rest : List Item) (at : ℕ) → Walk g done (i ∷ rest) at → Stepped g done i rest at
-walk-step g done i rest at w =
-    let f = first (w .left) (drop at g) at (w .before) i rest (w .holds) in
-    let n = next-is (drop at g) i (f .next) in
-    let l = reading-length rest (f .left) (drop (itemSize i) (drop at g)) (at + itemSize i) (w .before + tally i) (f .rest) in
-    let d = drop-drop (itemSize i) at g in
-    let room : at + itemSize i + 7 ≤ length g = omega (arith, l, n .long, length-drop at g, length-drop (itemSize i) (drop at g), w .inside) in
+pub walk-step : (form : Form) (g : List ℕ) (done : List Item) (i : Item) (rest : List Item) (at : ℕ) → Walk form g done (i ∷ rest) at → Stepped form g done i rest at
+walk-step form g done i rest at w =
+    let f = first form (w .left) (drop at g) at (w .before) i rest (w .holds) in
+    let n = next-is form (drop at g) i (f .next) in
+    let l = reading-length form rest (f .left) (drop (itemSize form i) (drop at g)) (at + itemSize form i) (w .before + tally i) (f .rest) in
+    let d = drop-drop (itemSize form i) at g in
+    let room : at + itemSize form i + 7 ≤ length g = omega (arith, l, n .long, length-drop at g, length-drop (itemSize form i) (drop at g), w .inside) in
     record {
-      here = next-itemAt g at i (f .next);
+      here = next-itemAt form g at i (f .next);
       is-valid = n .is-valid;
       room = room;
       walk = record {
-        at-is = omega (arith, w .at-is, ap length (fields-append done (i ∷ [])), length-append (fields done) (fields (i ∷ [])), ap length (fields-one i), length-itemField i);
+        at-is = omega (arith, w .at-is, ap length (fields-append form done (i ∷ [])), length-append (fields form done) (fields form (i ∷ [])), ap length (fields-one form i), length-itemField form i);
         inside = omega (arith, room);
         left = f .left;
         before = w .before + tally i;
-        holds = ap (λ (t : List ℕ). reading (f .left) t (at + itemSize i) (w .before + tally i)) (sym d) ∙ f .rest;
+        holds = ap (λ (t : List ℕ). reading form (f .left) t (at + itemSize form i) (w .before + tally i)) (sym d) ∙ f .rest;
       };
     }
 
-pub walk-start : (g : List ℕ) (is : List Item) → readGalley g ≡ whole is → Walk g [] is 0
+pub walk-start : (form : Form) (g : List ℕ) (is : List Item) → readGalley form g ≡ whole is → Walk form g [] is 0
 unfolding readGalley fields
-walk-start g is e = record { at-is = refl; inside = omega arith; left = maxItems; before = 0; holds = e }
+walk-start form g is e = record { at-is = refl; inside = omega arith; left = maxItems; before = 0; holds = e }
 
-pub record Midway (g : List ℕ) (is done : List Item) (at : ℕ) : Type 0 where
+pub record Midway (form : Form) (g : List ℕ) (is done : List Item) (at : ℕ) : Type 0 where
   pub rest : List Item
   pub all : is ≡ done ++ rest
-  pub walk : Walk g done rest at
+  pub walk : Walk form g done rest at
 
-pub midway-start : (g : List ℕ) (is : List Item) → readGalley g ≡ whole is → Midway g is [] 0
-midway-start g is e = record { rest = is; all = refl; walk = walk-start g is e }
+pub midway-start : (form : Form) (g : List ℕ) (is : List Item) → readGalley form g ≡ whole is → Midway form g is [] 0
+midway-start form g is e = record { rest = is; all = refl; walk = walk-start form g is e }
 
 -- the next item is i
-pub record Onward (g : List ℕ) (is done : List Item) (at : ℕ) (i : Item) : Type 0 where
-  pub is-valid : validItem heightEnd i ≡ true
-  pub room : at + itemSize i + 7 ≤ length g
-  pub next : Midway g is (done ++ (i ∷ [])) (at + itemSize i)
+pub record Onward (form : Form) (g : List ℕ) (is done : List Item) (at : ℕ) (i : Item) : Type 0 where
+  pub is-valid : validItem (greatestHeight form) i ≡ true
+  pub room : at + itemSize form i + 7 ≤ length g
+  pub next : Midway form g is (done ++ (i ∷ [])) (at + itemSize form i)
 
-module _ (g : List ℕ) (is done : List Item) (at : ℕ) (m : Midway g is done at) where
+module _ (form : Form) (g : List ℕ) (is done : List Item) (at : ℕ) (m : Midway form g is done at) where
   pub midway-inside : at ≤ length g
   midway-inside = m .walk .inside
 
-  pub midway-at : at ≡ length (fields done)
+  pub midway-at : at ≡ length (fields form done)
   midway-at = m .walk .at-is
 
   pub midway-end : length g ≤ at + 7 → is ≡ done
   midway-end h = go (m .rest) (m .all) (m .walk)
     where
-      go : (r : List Item) → is ≡ done ++ r → Walk g done r at → is ≡ done
+      go : (r : List Item) → is ≡ done ++ r → Walk form g done r at → is ≡ done
       go [] e w = e ∙ append-nil done
-      go (i ∷ r) e w = absurd (omega (arith, h, walk-step g done i r at w .room, size-least i))
+      go (i ∷ r) e w = absurd (omega (arith, h, walk-step form g done i r at w .room, size-least form i))
 
   -- the item there, where End does not come next
-  pub midway-next : at + 7 < length g → Onward g is done at (itemAt g at)
+  pub midway-next : at + 7 < length g → Onward form g is done at (itemAt form g at)
   midway-next h = go (m .rest) (m .all) (m .walk)
     where
-      go : (r : List Item) → is ≡ done ++ r → Walk g done r at → Onward g is done at (itemAt g at)
-      go [] e w = absurd (omega (arith, walk-ended g done at w))
+      go : (r : List Item) → is ≡ done ++ r → Walk form g done r at → Onward form g is done at (itemAt form g at)
+      go [] e w = absurd (omega (arith, walk-ended form g done at w))
       go (i ∷ r) e w =
-          let s = walk-step g done i r at w in
-          subst (Onward g is done at) (sym (s .here))
+          let s = walk-step form g done i r at w in
+          subst (Onward form g is done at) (sym (s .here))
           (record {
             is-valid = s .is-valid;
             room = s .room;
@@ -104,5 +105,5 @@ module _ (g : List ℕ) (is done : List Item) (at : ℕ) (m : Midway g is done a
           })
 
   -- what reading it asks
-  pub midway-whole : at + 7 < length g → WholeAt g at
+  pub midway-whole : at + 7 < length g → WholeAt form g at
   midway-whole h = let n = midway-next h in record { inside = omega (arith, n .room); is-valid = n .is-valid }

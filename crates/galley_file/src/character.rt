@@ -1,4 +1,6 @@
-// A galley's characters and their fields (document 01, "Galley"; document 02, "Longer columns").
+// A galley's characters and their fields (document 01, "Galley"), in either form.
+use crate::form;
+use crate::form::Form;
 use measure::Quanta;
 use measure::Units;
 use octets::field;
@@ -8,9 +10,12 @@ ghost use mathlib.Core.Bool.{_&&_};
 ghost use Prim.Native.Nat.{_+_, _≤_};
 ghost use lib.Dec.{leb, ltb};
 ghost use lib.ListN.{length};
-ghost use Rattle.octets.specs.Octets.{natAt};
+ghost use lib.IntN.{pos};
+ghost use lib.Signed.{_≤ℤ_};
+ghost use Rattle.octets.specs.Octets.{natAt, signedBytes};
 ghost use Rattle.octets.specs.Write.{Wrote};
-ghost use Rattle.measure.specs.Place.{heightEnd, within};
+ghost use Rattle.galley_file.specs.Font.{sizeIndex, isDouble};
+ghost use Rattle.galley_file.specs.Form.{heightBytes, characterSize, greatestHeight};
 ghost use Rattle.galley_file.specs.Character.{validX, valid, characterField, characterAt, isCharacter};
 
 pub struct Character {
@@ -22,14 +27,9 @@ pub struct Character {
     pub code: u8,
 }
 
-const TAG: u8 = 7;
+// Where x starts in a field, and the height.
+const X_AT: usize = 3;
 
-const LENGTH: u32 = 8;
-
-// The bytes of a whole field.
-pub const FIELD: usize = 11;
-
-// Where the height starts in a field.
 const HEIGHT_AT: usize = 5;
 
 const FONTS: u8 = 120;
@@ -38,9 +38,6 @@ const LAST_CODE: u8 = 108;
 
 // The last x that is valid in every size.
 const LAST_X: u32 = 3_184;
-
-// The greatest height, as a natural number.
-const LAST_HEIGHT: u32 = 1_000_000;
 
 // Whether x is valid in a single or a double size.
 fn valid_x(double: bool, x: Units) -> bool
@@ -54,20 +51,9 @@ fn valid_x(double: bool, x: Units) -> bool
     }
 }
 
-fn valid_height(h: Quanta) -> bool
-    ensures { λ r. ⌜ r ≡ within heightEnd (h .0) ⌝ }
-{
-    let v = h.0;
-    if 0 <= v {
-        v <= measure::HEIGHT_END
-    } else {
-        false
-    }
-}
-
-// Whether c is valid, where `across` says whether its x is.
+// Whether c is valid but for its height, where `across` says whether its x is.
 fn valid_beside_x(c: Character, across: bool) -> bool
-    ensures { λ r. ⌜ r ≡ (ltb (c .font) 120 && leb 1 (c .code) && leb (c .code) 108 && across && within heightEnd (c .height .0)) ⌝ }
+    ensures { λ r. ⌜ r ≡ (ltb (c .font) 120 && leb 1 (c .code) && leb (c .code) 108 && across) ⌝ }
 {
     let font = c.font;
     let code = c.code;
@@ -80,15 +66,12 @@ fn valid_beside_x(c: Character, across: bool) -> bool
     if LAST_CODE < code {
         return false;
     }
-    if across {
-        valid_height(c.height)
-    } else {
-        false
-    }
+    across
 }
 
-pub fn is_valid(c: Character) -> bool
-    ensures { λ r. ⌜ r ≡ valid heightEnd c ⌝ }
+// Whether c is valid but for its height.
+fn valid_but_height(c: Character) -> bool
+    ensures { λ r. ⌜ r ≡ (ltb (c .font) 120 && leb 1 (c .code) && leb (c .code) 108 && validX (isDouble (sizeIndex (c .font))) (c .x .0)) ⌝ }
 {
     valid_beside_x(
         c,
@@ -96,41 +79,53 @@ pub fn is_valid(c: Character) -> bool
     )
 }
 
-// The character whose field starts at i, of a height in range.
-pub fn character_at(s: &[u8], i: usize) -> Character
-    requires { ⌜ (i + 11 ≤ length (now s)) × (natAt 4 (i + 5) (now s) ≤ 1000000) ⌝ }
-    ensures { λ r. ⌜ r ≡ characterAt (now (s .entry)) i ⌝ }
+// The number in a height's bytes, from `at`.
+fn height_at(f: Form, s: &[u8], at: usize) -> u32
+    requires { ⌜ at + heightBytes f ≤ length (now s) ⌝ }
+    ensures { λ r. ⌜ r ≡ natAt (heightBytes f) at (now (s .entry)) ⌝ }
 {
-    let x = number::signed2_at(s, i + 3);
-    let height = number::nat4_at(s, i + 5) as i32;
+    match f {
+        Form::Old => number::nat2_at(s, at),
+        Form::New => number::nat4_at(s, at),
+    }
+}
+
+// The character whose field starts at i, of a height in range.
+pub fn character_at(f: Form, s: &[u8], i: usize) -> Character
+    requires { ⌜ (i + characterSize f ≤ length (now s)) × (pos (natAt (heightBytes f) (i + 5) (now s)) ≤ℤ greatestHeight f) ⌝ }
+    ensures { λ r. ⌜ r ≡ characterAt f (now (s .entry)) i ⌝ }
+{
+    let end = i + form::character_size(f);
+    let x = number::signed2_at(s, i + X_AT);
+    let height = height_at(f, s, i + HEIGHT_AT) as i32;
     Character {
         x: Units(x),
         height: Quanta(height),
-        font: s[i + 9],
-        code: s[i + 10],
+        font: s[end - 2],
+        code: s[end - 1],
     }
 }
 
 // Whether the character whose field s starts with is valid, of a height in range. An x of 0 to LAST_X is valid in every size.
-fn is_valid_first(s: &[u8]) -> bool
-    requires { ⌜ (11 ≤ length (now s)) × (natAt 4 5 (now s) ≤ 1000000) ⌝ }
-    ensures { λ r. ⌜ r ≡ valid heightEnd (characterAt (now (s .entry)) 0) ⌝ }
+fn is_valid_first(f: Form, s: &[u8]) -> bool
+    requires { ⌜ (characterSize f ≤ length (now s)) × (pos (natAt (heightBytes f) 5 (now s)) ≤ℤ greatestHeight f) ⌝ }
+    ensures { λ r. ⌜ r ≡ valid (greatestHeight f) (characterAt f (now (s .entry)) 0) ⌝ }
 {
-    let c = character_at(s, 0);
-    if number::nat2_at(s, field::HEAD) <= LAST_X {
+    let c = character_at(f, s, 0);
+    if number::nat2_at(s, X_AT) <= LAST_X {
         valid_beside_x(c, true)
     } else {
-        is_valid(c)
+        valid_but_height(c)
     }
 }
 
 // Whether s starts with the whole field of a valid character.
-pub fn is_character(s: &[u8]) -> bool
-    ensures { λ r. ⌜ r ≡ isCharacter (now (s .entry)) ⌝ }
+pub fn is_character(f: Form, s: &[u8]) -> bool
+    ensures { λ r. ⌜ r ≡ isCharacter f (now (s .entry)) ⌝ }
 {
-    if field::starts_field(s, TAG, LENGTH) {
-        if number::nat4_at(s, HEIGHT_AT) <= LAST_HEIGHT {
-            is_valid_first(s)
+    if field::starts_field(s, form::character_tag(f), form::body_bytes(f)) {
+        if height_at(f, s, HEIGHT_AT) <= form::height_limit(f) {
+            is_valid_first(f, s)
         } else {
             false
         }
@@ -139,14 +134,25 @@ pub fn is_character(s: &[u8]) -> bool
     }
 }
 
-// Writes a character's field; gives the place after it.
-pub fn put_character(out: &mut [u8], at: usize, c: Character) -> usize
-    requires { ⌜ at + 11 ≤ length (now out) ⌝ }
-    ensures { λ r. ⌜ Wrote (now (out .entry)) at (characterField c) (now (out .exit)) r ⌝ }
+// Writes a height; gives the place after it.
+fn put_height(f: Form, out: &mut [u8], at: usize, h: Quanta) -> usize
+    requires { ⌜ at + heightBytes f ≤ length (now out) ⌝ }
+    ensures { λ r. ⌜ Wrote (now (out .entry)) at (signedBytes (heightBytes f) (h .0)) (now (out .exit)) r ⌝ }
 {
-    let mut to = field::put_head(out, at, TAG, LENGTH);
+    match f {
+        Form::Old => number::put_signed2(out, at, h.0),
+        Form::New => number::put_signed4(out, at, h.0),
+    }
+}
+
+// Writes a character's field; gives the place after it.
+pub fn put_character(f: Form, out: &mut [u8], at: usize, c: Character) -> usize
+    requires { ⌜ at + characterSize f ≤ length (now out) ⌝ }
+    ensures { λ r. ⌜ Wrote (now (out .entry)) at (characterField f c) (now (out .exit)) r ⌝ }
+{
+    let mut to = field::put_head(out, at, form::character_tag(f), form::body_bytes(f));
     to = number::put_signed2(out, to, c.x.0);
-    to = number::put_signed4(out, to, c.height.0);
+    to = put_height(f, out, to, c.height);
     to = number::put_byte(out, to, c.font);
     number::put_byte(out, to, c.code)
 }

@@ -1,6 +1,8 @@
 // What a galley lists: characters, and the cuts between pages (document 02, "Software cuts").
 use crate::character;
 use crate::character::Character;
+use crate::form;
+use crate::form::Form;
 use octets::field;
 ghost use mathlib.Core.Path.{_≡_};
 ghost use Prim.Native.Nat.{_+_, _≤_};
@@ -28,24 +30,24 @@ pub fn is_cut(s: &[u8]) -> bool
 }
 
 // The bytes of an item's field.
-pub fn item_size(i: Item) -> usize
-    ensures { λ r. ⌜ r ≡ itemSize i ⌝ }
+pub fn item_size(f: Form, i: Item) -> usize
+    ensures { λ r. ⌜ r ≡ itemSize f i ⌝ }
 {
     match i {
-        Item::Placed(_) => character::FIELD,
+        Item::Placed(_) => form::character_size(f),
         Item::Cut => CUT_FIELD,
     }
 }
 
 // The item whose whole field starts at `at`.
-pub fn item_at(s: &[u8], at: usize) -> Item
-    requires { ⌜ WholeAt (now s) at ⌝ }
-    ensures { λ r. ⌜ r ≡ itemAt (now (s .entry)) at ⌝ }
+pub fn item_at(f: Form, s: &[u8], at: usize) -> Item
+    requires { ⌜ WholeAt f (now s) at ⌝ }
+    ensures { λ r. ⌜ r ≡ itemAt f (now (s .entry)) at ⌝ }
 {
     if s[at] == CUT_TAG {
         return Item::Cut;
     }
-    Item::Placed(character::character_at(s, at))
+    Item::Placed(character::character_at(f, s, at))
 }
 
 // Whether a DVI file holds an item's height. A cut has none.
@@ -67,12 +69,12 @@ pub fn put_cut(out: &mut [u8], at: usize) -> usize
 }
 
 // Writes an item's field; gives the place after it.
-pub fn put_item(out: &mut [u8], at: usize, i: Item) -> usize
-    requires { ⌜ at + itemSize i ≤ length (now out) ⌝ }
-    ensures { λ r. ⌜ Wrote (now (out .entry)) at (itemField i) (now (out .exit)) r ⌝ }
+pub fn put_item(f: Form, out: &mut [u8], at: usize, i: Item) -> usize
+    requires { ⌜ at + itemSize f i ≤ length (now out) ⌝ }
+    ensures { λ r. ⌜ Wrote (now (out .entry)) at (itemField f i) (now (out .exit)) r ⌝ }
 {
     match i {
-        Item::Placed(c) => character::put_character(out, at, c),
+        Item::Placed(c) => character::put_character(f, out, at, c),
         Item::Cut => put_cut(out, at),
     }
 }

@@ -1,9 +1,11 @@
 // Galleys (document 01, "Galley"): the check, with or without a limit of heights, and reading a character back.
 pub mod character;
 pub mod font;
+pub mod form;
 pub mod item;
 
 use character::Character;
+use form::Form;
 use item::Item;
 use octets::answer;
 use octets::answer::Answer;
@@ -13,7 +15,9 @@ ghost use mathlib.Core.Bool.{true};
 ghost use Prim.Native.Nat.{_+_, _*_, _≤_};
 ghost use lib.ListN.{length};
 ghost use Rattle.octets.specs.Answer.{accepted, outcomeOf};
-ghost use Rattle.galley_file.specs.Galley.{maxGalley, reading, readEnd, leading};
+ghost use Rattle.galley_file.specs.declared.form.Form.the-variants.{New};
+ghost use Rattle.galley_file.specs.Form.{maxGalley};
+ghost use Rattle.galley_file.specs.Galley.{reading, readEnd, leading};
 ghost use Rattle.galley_file.specs.Span.{SpanOf, Block};
 ghost use Rattle.galley_file.specs.Outcome.{countOutcome, checkOutcome, foundOf, readBackOutcome};
 ghost use Rattle.galley_file.specs.Low.{lowOutcome};
@@ -24,9 +28,6 @@ pub enum Found {
     Refused(u8, usize),
 }
 
-// The longest galley: 1,048,576 characters.
-pub const MAX_GALLEY: usize = 11_534_343;
-
 // A galley has at most 1,024 runs of 1,024 items.
 const RUN: usize = 1_024;
 
@@ -35,9 +36,6 @@ const RUNS: usize = 1_024;
 // The characters of a block.
 const BLOCK: usize = 64;
 
-// The bytes of their fields.
-const BLOCK_BYTES: usize = 704;
-
 // The characters and the cuts of some fields.
 pub struct Span {
     pub characters: usize,
@@ -45,8 +43,8 @@ pub struct Span {
 }
 
 // The items that s starts with, at most `room`. The part after a field goes to this function again.
-fn leading_items(s: &[u8], room: usize) -> Span
-    ensures { λ r. ⌜ SpanOf r (leading room (now (s .entry))) ⌝ }
+fn leading_items(f: Form, s: &[u8], room: usize) -> Span
+    ensures { λ r. ⌜ SpanOf r (leading f room (now (s .entry))) ⌝ }
 {
     if room == 0 {
         return Span {
@@ -54,15 +52,16 @@ fn leading_items(s: &[u8], room: usize) -> Span
             cuts: 0,
         };
     }
-    if character::is_character(s) {
-        let rest = leading_items(&s[character::FIELD..], room - 1);
+    if character::is_character(f, s) {
+        let size = form::character_size(f);
+        let rest = leading_items(f, &s[size..], room - 1);
         return Span {
             characters: rest.characters + 1,
             cuts: rest.cuts,
         };
     }
     if item::is_cut(s) {
-        let rest = leading_items(&s[item::CUT_FIELD..], room - 1);
+        let rest = leading_items(f, &s[item::CUT_FIELD..], room - 1);
         return Span {
             characters: rest.characters,
             cuts: rest.cuts + 1,
@@ -75,13 +74,14 @@ fn leading_items(s: &[u8], room: usize) -> Span
 }
 
 // Whether s starts with a block: BLOCK character fields.
-fn starts_block(s: &[u8]) -> bool
-    ensures { λ r. ⌜ (r ≡ true → Block 64 (now (s .entry))) ⌝ }
+fn starts_block(f: Form, s: &[u8]) -> bool
+    ensures { λ r. ⌜ (r ≡ true → Block f 64 (now (s .entry))) ⌝ }
 {
+    let size = form::character_size(f);
     let mut i = 0;
     while i < BLOCK {
-        let start = character::FIELD * i;
-        if !character::is_character(&s[start..]) {
+        let start = size * i;
+        if !character::is_character(f, &s[start..]) {
             return false;
         }
         i += 1;
@@ -90,25 +90,26 @@ fn starts_block(s: &[u8]) -> bool
 }
 
 // The same items, with one call for each block. The part after a block goes to this function again.
-fn leading_blocks(s: &[u8], room: usize) -> Span
-    ensures { λ r. ⌜ SpanOf r (leading room (now (s .entry))) ⌝ }
+fn leading_blocks(f: Form, s: &[u8], room: usize) -> Span
+    ensures { λ r. ⌜ SpanOf r (leading f room (now (s .entry))) ⌝ }
 {
     if room < BLOCK {
-        return leading_items(s, room);
+        return leading_items(f, s, room);
     }
-    if starts_block(s) {
-        let rest = leading_blocks(&s[BLOCK_BYTES..], room - BLOCK);
+    if starts_block(f, s) {
+        let start = form::character_size(f) * BLOCK;
+        let rest = leading_blocks(f, &s[start..], room - BLOCK);
         return Span {
             characters: BLOCK + rest.characters,
             cuts: rest.cuts,
         };
     }
-    leading_items(s, room)
+    leading_items(f, s, room)
 }
 
 // Checks s, in which no item comes next, and which starts at `at` and follows `count` characters.
 fn check_end(s: &[u8], at: usize, count: usize) -> Answer
-    requires { ⌜ at + length (now s) ≤ maxGalley ⌝ }
+    requires { ⌜ at + length (now s) ≤ maxGalley New ⌝ }
     ensures { λ r. ⌜ outcomeOf r ≡ countOutcome count (readEnd (now (s .entry)) at count) ⌝ }
 {
     if field::starts_end(s, count) {
@@ -122,44 +123,51 @@ fn check_end(s: &[u8], at: usize, count: usize) -> Answer
 
 // Checks the run of fields s, which starts at `at`, follows `count` characters and may have as many runs of RUN items. Such runs
 // bound how deep the calls go; the part after a full one goes to this function again.
-fn check_fields(s: &[u8], at: usize, count: usize, runs: usize) -> Answer
-    requires { ⌜ (at + length (now s) ≤ maxGalley) × ((count ≤ at) × (runs ≤ 1024)) ⌝ }
-    ensures { λ r. ⌜ outcomeOf r ≡ countOutcome count (reading (1024 * runs) (now (s .entry)) at count) ⌝ }
+fn check_fields(f: Form, s: &[u8], at: usize, count: usize, runs: usize) -> Answer
+    requires { ⌜ (at + length (now s) ≤ maxGalley New) × ((count ≤ at) × (runs ≤ 1024)) ⌝ }
+    ensures { λ r. ⌜ outcomeOf r ≡ countOutcome count (reading f (1024 * runs) (now (s .entry)) at count) ⌝ }
 {
     if runs == 0 {
         return check_end(s, at, count);
     }
-    let run = leading_blocks(s, RUN);
-    let start = character::FIELD * run.characters + item::CUT_FIELD * run.cuts;
+    let run = leading_blocks(f, s, RUN);
+    let start = form::character_size(f) * run.characters + item::CUT_FIELD * run.cuts;
     let rest = &s[start..];
     if run.characters + run.cuts == RUN {
-        return check_fields(rest, at + start, count + run.characters, runs - 1);
+        return check_fields(f, rest, at + start, count + run.characters, runs - 1);
     }
     check_end(rest, at + start, count + run.characters)
 }
 
-// The number of characters of the galley g, or the refusal of a galley that is too long or malformed.
-pub fn check_galley(g: &[u8]) -> Answer
-    ensures { λ r. ⌜ outcomeOf r ≡ checkOutcome (now (g .entry)) ⌝ }
+// The number of characters of the galley g of a form, or the refusal of a galley that is too long or malformed.
+pub fn check_form(f: Form, g: &[u8]) -> Answer
+    ensures { λ r. ⌜ outcomeOf r ≡ checkOutcome f (now (g .entry)) ⌝ }
 {
-    if MAX_GALLEY < g.len() {
+    if form::max_galley(f) < g.len() {
         return Answer::Refused(answer::GALLEY_TOO_LONG, 0);
     }
-    check_fields(g, 0, 0, RUNS)
+    check_fields(f, g, 0, 0, RUNS)
+}
+
+// The check of a galley of the new form.
+pub fn check_galley(g: &[u8]) -> Answer
+    ensures { λ r. ⌜ outcomeOf r ≡ checkOutcome New (now (g .entry)) ⌝ }
+{
+    check_form(Form::New, g)
 }
 
 // Checks the heights of a checked galley: a DVI file must hold them.
 fn check_heights(g: &[u8], count: usize) -> Answer
-    requires { ⌜ accepted count ≡ checkOutcome (now g) ⌝ }
+    requires { ⌜ accepted count ≡ checkOutcome New (now g) ⌝ }
     ensures { λ r. ⌜ outcomeOf r ≡ lowOutcome (now (g .entry)) ⌝ }
 {
     let mut at: usize = 0;
     while at + field::END_FIELD < g.len() {
-        let i = item::item_at(g, at);
+        let i = item::item_at(Form::New, g, at);
         if !item::is_low(i) {
             return Answer::Refused(answer::HEIGHT_TOO_GREAT, at);
         }
-        at += item::item_size(i);
+        at += item::item_size(Form::New, i);
     }
     Answer::Accepted(count)
 }
@@ -177,13 +185,13 @@ pub fn check_low(g: &[u8]) -> Answer
 
 // Character n of a checked galley, field by field.
 fn find_character(g: &[u8], count: usize, n: usize) -> Found
-    requires { ⌜ accepted count ≡ checkOutcome (now g) ⌝ }
+    requires { ⌜ accepted count ≡ checkOutcome New (now g) ⌝ }
     ensures { λ r. ⌜ foundOf r ≡ readBackOutcome (now (g .entry)) n ⌝ }
 {
     let mut left = n;
     let mut at: usize = 0;
     while at + field::END_FIELD < g.len() {
-        match item::item_at(g, at) {
+        match item::item_at(Form::New, g, at) {
             Item::Cut => {
                 at += item::CUT_FIELD;
             }
@@ -192,7 +200,7 @@ fn find_character(g: &[u8], count: usize, n: usize) -> Found
                     return Found::Placed(c);
                 }
                 left -= 1;
-                at += character::FIELD;
+                at += form::NEW_FIELD;
             }
         }
     }
@@ -211,8 +219,8 @@ pub fn read_back(g: &[u8], n: usize) -> Found
                 return Found::Refused(answer::NO_CHARACTER, 0);
             }
             // Without cuts each character has its place.
-            if g.len() == character::FIELD * count + field::END_FIELD {
-                return Found::Placed(character::character_at(g, n * character::FIELD));
+            if g.len() == form::NEW_FIELD * count + field::END_FIELD {
+                return Found::Placed(character::character_at(Form::New, g, n * form::NEW_FIELD));
             }
             find_character(g, count, n)
         }

@@ -98,6 +98,9 @@ heightTooGreat = 43
 abbrev pub noDviRoom : ℕ
 noDviRoom = 42
 
+abbrev pub noConvertedRoom : ℕ
+noConvertedRoom = 44
+
 abbrev pub noMachine : ℕ
 noMachine = 50
 

@@ -62,4 +62,6 @@ pub const HEIGHT_TOO_GREAT: u8 = 43;
 
 pub const NO_DVI_ROOM: u8 = 42;
 
+pub const NO_CONVERTED_ROOM: u8 = 44;
+
 pub const NO_MACHINE: u8 = 50;

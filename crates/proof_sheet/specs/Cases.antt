@@ -10,6 +10,7 @@ use Rattle.octets.specs.Field.{field, endField, startsField, startsEnd}
 use Rattle.octets.specs.Answer.{Result, refusal, written, ifRoom}
 use Rattle.measure.specs.Place.{directedBy, placeAt, carriageAt, heightAt}
 use Rattle.measure.specs.Target.{xOf, xTarget, yTarget}
+use Rattle.galley_file.specs.declared.form.Form.the-variants.{New}
 use Rattle.galley_file.specs.Character.{valid, characterBody, characterField, characterAt, isCharacter}
 use Rattle.galley_file.specs.declared.item.Item.{Item}
 use Rattle.galley_file.specs.declared.item.Item.the-variants.{Placed}
@@ -100,7 +101,7 @@ cases =
 -- a row with what the definitions give in place of what the sheet says
 abbrev given : Case → Case
 given (tapeCase tape r) = tapeCase tape (tapeResult tape 8 32)
-given (galleyCase g r) = galleyCase g (readGalley g)
+given (galleyCase g r) = galleyCase g (readGalley New g)
 given (targetCase x t) = targetCase x (xTarget x)
 given (fileCase g r) = fileCase g (dviResult g 64)
 given (downCase m bs) = downCase m (move Y4 m)

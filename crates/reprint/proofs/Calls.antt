@@ -10,8 +10,10 @@ use lib.Seq.{take-at}
 use Rattle.octets.specs.Octets.{Bytes}
 use Rattle.octets.specs.Answer.{Outcome, accepted, refused, Result, refusal, written, outcome, after, ifRoom, noDviRoom, noSheetRoom}
 use Rattle.octets.specs.AnswerLaws.{room-short, room-enough, accepted-length, refused-length, accepted-room}
+use Rattle.galley_file.specs.declared.form.Form.the-variants.{New}
+use Rattle.galley_file.specs.Form.{maxGalley}
 use Rattle.galley_file.specs.Item.{charactersOf, cutsOf}
-use Rattle.galley_file.specs.Galley.{maxGalley, maxItems, Reading, readGalley, itemsIn, itemsOf}
+use Rattle.galley_file.specs.Galley.{maxItems, Reading, readGalley, itemsIn, itemsOf}
 use Rattle.galley_file.specs.GalleyLaws.{checked, reading-length, length-fields}
 use Rattle.galley_file.specs.Low.{lowOutcome}
 use Rattle.galley_file.specs.LowLaws.{low-checked}
@@ -29,30 +31,30 @@ refuses dvi out q = (sym (ap reprintOutcome q), (sym (ap (dviAfter dvi) q), sym 
 
 -- what is not of characters in a galley is of cuts
 module _ (g : List ℕ) (count : ℕ) (e : accepted count ≡ lowOutcome g) where
-  pub galley-length : length g ≡ 11 * count + 3 * cutsOf (itemsOf g) + 7
+  pub galley-length : length g ≡ 11 * count + 3 * cutsOf (itemsOf New g) + 7
   unfolding itemsOf readGalley
   galley-length =
-      let c = checked g count (low-checked g count e .checked) in
+      let c = checked New g count (low-checked g count e .checked) in
       let same = ap (λ (r : Reading). cutsOf (itemsIn r)) (c .read) in
-      omega (arith, same, reading-length (c .items) maxItems g 0 0 (c .read), length-fields (c .items), c .counted)
+      omega (arith, same, reading-length New (c .items) maxItems g 0 0 (c .read), length-fields New (c .items), c .counted)
 
-  pub galley-short : length g ≤ maxGalley
-  galley-short = checked g count (low-checked g count e .checked) .fits
+  pub galley-short : length g ≤ maxGalley New
+  galley-short = checked New g count (low-checked g count e .checked) .fits
 
-  pub sheet-size-is : 16 * count + 7 * ((length g - 7 - 11 * count) / 3) + 14 ≡ sheetSize (itemsOf g)
+  pub sheet-size-is : 16 * count + 7 * ((length g - 7 - 11 * count) / 3) + 14 ≡ sheetSize (itemsOf New g)
   unfolding itemsOf
   sheet-size-is =
-      let c = checked g count (low-checked g count e .checked) in
+      let c = checked New g count (low-checked g count e .checked) in
       let same = ap (λ (r : Reading). length (charactersOf (itemsIn r))) (c .read) in
       omega (arith, galley-length, same, c .counted)
 
 module _ (g : List ℕ) (count : ℕ) (b : Bytes g) (e : lowOutcome g ≡ accepted count) where
-  pub same-file : file g count b e ≡ dviFile (itemsOf g)
+  pub same-file : file g count b e ≡ dviFile (itemsOf New g)
   unfolding itemsOf
   same-file = ap dviFile (sym (ap itemsIn (found g count b e .read)))
 
   -- the sheet's size
-  pub sheet-needed : sheetSize (itemsOf g) ≡ sheetSize (found g count b e .items)
+  pub sheet-needed : sheetSize (itemsOf New g) ≡ sheetSize (found g count b e .items)
   unfolding itemsOf
   sheet-needed = ap (λ (r : Reading). sheetSize (itemsIn r)) (found g count b e .read)
 

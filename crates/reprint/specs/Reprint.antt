@@ -18,6 +18,7 @@ use lib.IntN.{ℤ, pos}
 use lib.ListN.{length, drop}
 use Rattle.octets.specs.Answer.{Outcome, accepted, refused, Result, refusal, written, ifRoom, widthsNotWhole, noDviRoom}
 use Rattle.measure.specs.Place.{lowEnd}
+use Rattle.galley_file.specs.declared.form.Form.the-variants.{New}
 use Rattle.galley_file.specs.declared.item.Item.{Item}
 use Rattle.galley_file.specs.Item.{charactersOf, cutsOf}
 use Rattle.galley_file.specs.Galley.{AllValid, galley, whole, readGalley}
@@ -77,7 +78,7 @@ sheetSize is = 16 * length (charactersOf is) + 7 * cutsOf is + 14
 pub record Reprinted (g : List ℕ) (widths : List ℤ) (dvi out : List ℕ) (o : Outcome) (dvi′ out′ : List ℕ) : Type 0 where
   -- "every valid galley": the characters and cuts that its bytes encode, of heights at most 65,535
   pub items : List Item
-  pub galley-is : g ≡ galley items
+  pub galley-is : g ≡ galley New items
   pub valid : AllValid lowEnd items
   -- "The writer accepts the galley"
   pub writer-accepts : dviResult g (length dvi) ≡ written (dviFile items)
@@ -97,7 +98,7 @@ pub record Reprinted (g : List ℕ) (widths : List ℤ) (dvi out : List ℕ) (o 
 -- for every galley that the check accepts and whose heights are at most 65,535, every table of whole fonts, and buffers with room
 abbrev pub ReprintedWhenever : List ℕ → List ℤ → List ℕ → List ℕ → Outcome → List ℕ → List ℕ → Type 0
 ReprintedWhenever g widths dvi out o dvi′ out′ =
-    (count : ℕ) (is : List Item) → checkOutcome g ≡ accepted count → readGalley g ≡ whole is → AllValid lowEnd is → length widths % fontChars ≡ 0 → length (dviFile is) ≤ length dvi
+    (count : ℕ) (is : List Item) → checkOutcome New g ≡ accepted count → readGalley New g ≡ whole is → AllValid lowEnd is → length widths % fontChars ≡ 0 → length (dviFile is) ≤ length dvi
     → sheetSize is ≤ length out → Reprinted g widths dvi out o dvi′ out′
 
 -- two such galleys, of the items is and js, and the marks that their files show

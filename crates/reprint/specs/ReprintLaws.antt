@@ -12,6 +12,7 @@ use Rattle.octets.specs.Octets.{Bytes}
 use Rattle.octets.specs.Answer.{Outcome, accepted, refused, Result, refusal, written, outcome, after, ifRoom, widthsNotWhole, noDviRoom, noSheetRoom}
 use Rattle.octets.specs.AnswerLaws.{room-short, room-enough}
 use Rattle.measure.specs.Place.{lowEnd}
+use Rattle.galley_file.specs.declared.form.Form.the-variants.{New}
 use Rattle.galley_file.specs.declared.item.Item.{Item}
 use Rattle.galley_file.specs.Item.{charactersOf, cutsOf}
 use Rattle.galley_file.specs.Galley.{maxItems, AllValid, galley, whole, readGalley, itemsIn, itemsOf}
@@ -37,10 +38,10 @@ refused-galley g widths dviRoom sheetRoom number place e =
 -- a galley that it accepts
 module _ (g : List ℕ) (count : ℕ) (b : Bytes g) (e : lowOutcome g ≡ accepted count) where
   -- its items
-  pub found : Accepted g count
-  found = accepted-is g count b (sym (low-checked g count (sym e) .checked))
+  pub found : Accepted New g count
+  found = accepted-is New g count b (sym (low-checked g count (sym e) .checked))
 
-  items-are : itemsOf g ≡ found .items
+  items-are : itemsOf New g ≡ found .items
   unfolding itemsOf
   items-are = ap itemsIn (found .read)
 
@@ -141,8 +142,8 @@ module _ (g h : List ℕ) (n m : ℕ) (bg : Bytes g) (bh : Bytes h) (eg : lowOut
       let k = compared (low g n bg eg) (low h m bh eh) (few g n bg eg) (few h m bh eh) p q in
       record {
         same-file = (
-          λ f. a .bytes ∙ ap galley (k .same-file .0 f) ∙ sym (c .bytes),
-          λ f. ap dviFile (let r : whole (a .items) ≡ whole (c .items) = sym (a .read) ∙ ap readGalley f ∙ c .read in cc),
+          λ f. a .bytes ∙ ap (galley New) (k .same-file .0 f) ∙ sym (c .bytes),
+          λ f. ap dviFile (let r : whole (a .items) ≡ whole (c .items) = sym (a .read) ∙ ap (readGalley New) f ∙ c .read in cc),
         );
         compared = k;
       }

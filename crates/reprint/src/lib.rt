@@ -1,5 +1,6 @@
 // A galley made into a DVI file, and the file into a sheet, in one call (document 01, demand 3).
-use galley_file::character;
+ghost use Rattle.galley_file.specs.declared.form.Form.the-variants.{New};
+use galley_file::form;
 use galley_file::item;
 use octets::answer;
 use octets::answer::Answer;
@@ -26,16 +27,16 @@ const OTHER_FIELDS: usize = 14;
 // The bytes of a checked galley's sheet: what is not of characters in the galley is of cuts.
 fn sheet_length(galley: &[u8], count: usize) -> usize
     requires { ⌜ accepted count ≡ lowOutcome (now galley) ⌝ }
-    ensures { λ r. ⌜ r ≡ sheetSize (itemsOf (now (galley .entry))) ⌝ }
+    ensures { λ r. ⌜ r ≡ sheetSize (itemsOf New (now (galley .entry))) ⌝ }
 {
-    let rest = galley.len() - field::END_FIELD - character::FIELD * count;
+    let rest = galley.len() - field::END_FIELD - form::NEW_FIELD * count;
     CHARACTER_FIELD * count + PAGE_FIELD * (rest / item::CUT_FIELD) + OTHER_FIELDS
 }
 
 // The bytes of a checked galley's file: the writer names them for a buffer that is too short.
 fn file_length(galley: &[u8], count: usize) -> usize
     requires { ⌜ accepted count ≡ lowOutcome (now galley) ⌝ }
-    ensures { λ r. ⌜ r ≡ length (dviFile (itemsOf (now (galley .entry)))) ⌝ }
+    ensures { λ r. ⌜ r ≡ length (dviFile (itemsOf New (now (galley .entry)))) ⌝ }
 {
     let mut none = [0u8; 1];
     let written = dvi_writer::write_dvi(galley, &mut none);

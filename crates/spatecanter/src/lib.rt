@@ -1,4 +1,5 @@
 // The operations for C and Rust callers: each answer goes into an array that the caller lends.
+ghost use Rattle.galley_file.specs.declared.form.Form.the-variants.{New};
 use galley_file::Found;
 use octets::answer::Answer;
 ghost use mathlib.Core.Path.{_≡_};
@@ -6,6 +7,7 @@ ghost use lib.ListN.{length};
 ghost use Rattle.octets.specs.Answer.{outcomeOf, outcome, after};
 ghost use Rattle.galley_file.specs.Outcome.{checkOutcome, foundOf, outcomeOfFound, readBackOutcome};
 ghost use Rattle.tape.specs.Tape.{tapeResult};
+ghost use Rattle.conversion.specs.Conversion.{newResult, oldResult};
 ghost use Rattle.dvi.specs.Sheet.{sheetResult};
 ghost use Rattle.dvi_writer.specs.Result.{dviResult};
 ghost use Rattle.reprint.specs.Reprint.{reprintResult, reprintOutcome, dviAfter, sheetAfter, ReprintedWhenever};
@@ -58,7 +60,7 @@ pub extern "C" fn sp_read_tape(
 // Checks a galley.
 #[no_mangle]
 pub extern "C" fn sp_check_galley(galley: &[u8], answer: &mut [usize; 3])
-    ensures { λ _. ⌜ now (answer .exit) ≡ numbersOf (checkOutcome (now (galley .entry))) ⌝ }
+    ensures { λ _. ⌜ now (answer .exit) ≡ numbersOf (checkOutcome New (now (galley .entry))) ⌝ }
 {
     let a = galley_file::check_galley(galley);
     *answer = numbers(a);
@@ -77,6 +79,24 @@ pub extern "C" fn sp_read_back(
     let f = galley_file::read_back(galley, n);
     *answer = found_numbers(f);
     *character = found_character(f);
+}
+
+// Makes an old galley new.
+#[no_mangle]
+pub extern "C" fn sp_galley_to_new(old: &[u8], new: &mut [u8], answer: &mut [usize; 3])
+    ensures { λ _. ⌜ (now (answer .exit) ≡ numbersOf (outcome (newResult (now (old .entry)) (length (now (new .entry)))))) × (now (new .exit) ≡ after (now (new .entry)) (newResult (now (old .entry)) (length (now (new .entry))))) ⌝ }
+{
+    let a = conversion::galley_to_new(old, new);
+    *answer = numbers(a);
+}
+
+// Makes a new galley old.
+#[no_mangle]
+pub extern "C" fn sp_galley_to_old(new: &[u8], old: &mut [u8], answer: &mut [usize; 3])
+    ensures { λ _. ⌜ (now (answer .exit) ≡ numbersOf (outcome (oldResult (now (new .entry)) (length (now (old .entry)))))) × (now (old .exit) ≡ after (now (old .entry)) (oldResult (now (new .entry)) (length (now (old .entry))))) ⌝ }
+{
+    let a = conversion::galley_to_old(new, old);
+    *answer = numbers(a);
 }
 
 // Writes a galley's DVI file.

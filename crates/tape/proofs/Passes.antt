@@ -11,6 +11,7 @@ use lib.Seq as seq
 use lib.Seq.{take-all, length-take-le}
 use Rattle.octets.specs.Write.{putIf, sets-append}
 use Rattle.measure.specs.declared.Units.{Units}
+use Rattle.galley_file.specs.declared.form.Form.the-variants.{New}
 use Rattle.galley_file.specs.declared.character.Character.{Character}
 use Rattle.galley_file.specs.declared.item.Item.{Item}
 use Rattle.galley_file.specs.declared.item.Item.the-variants.{Placed, Cut}
@@ -34,15 +35,15 @@ use Rattle.tape.proofs.Quicks.{Counted, moves, sets}
 
 -- one field more
 put-more : (w : Bool) (first : List ℕ) (is : List Item) (i : Item) (n k : ℕ) → n ≡ length (charactersOf is) → k ≡ 3 * cutsOf is
-    → putAt w n k i (putIf w first 0 (fields is)) ≡ putIf w first 0 (fields (is ++ (i ∷ [])))
+    → putAt w n k i (putIf w first 0 (fields New is)) ≡ putIf w first 0 (fields New (is ++ (i ∷ [])))
 put-more false first is i n k e d = refl
 put-more true first is i n k e d =
-    let place : 11 * n + k ≡ 0 + length (fields is) = omega (arith, length-fields is, e, d) in
-    ap (λ (m : ℕ). seq.sets (seq.sets first 0 (fields is)) m (itemField i)) place
-    ∙ sym (sets-append first 0 (fields is) (itemField i))
-    ∙ ap (λ (l : List ℕ). seq.sets first 0 l) (ap (λ (l : List ℕ). fields is ++ l) (sym (fields-one i)) ∙ sym (fields-append is (i ∷ [])))
+    let place : 11 * n + k ≡ 0 + length (fields New is) = omega (arith, length-fields New is, e, d) in
+    ap (λ (m : ℕ). seq.sets (seq.sets first 0 (fields New is)) m (itemField New i)) place
+    ∙ sym (sets-append first 0 (fields New is) (itemField New i))
+    ∙ ap (λ (l : List ℕ). seq.sets first 0 l) (ap (λ (l : List ℕ). fields New is ++ l) (sym (fields-one New i)) ∙ sym (fields-append New is (i ∷ [])))
 
-put-none : (w : Bool) (first : List ℕ) → first ≡ putIf w first 0 (fields [])
+put-none : (w : Bool) (first : List ℕ) → first ≡ putIf w first 0 (fields New [])
 unfolding fields
 put-none true first = refl
 put-none false first = refl
@@ -57,9 +58,9 @@ unfolding cutsOf
 one-cut is (Placed c) = omega (arith, cuts-append is (Placed c ∷ []))
 one-cut is Cut = omega (arith, cuts-append is (Cut ∷ []))
 
-first-size : (i : Item) (is : List Item) → itemSize i ≤ length (fields (i ∷ is))
+first-size : (i : Item) (is : List Item) → itemSize New i ≤ length (fields New (i ∷ is))
 unfolding fields
-first-size i is = omega (arith, length-append (itemField i) (fields is), length-itemField i)
+first-size i is = omega (arith, length-append (itemField New i) (fields New is), length-itemField New i)
 
 set-sound : (s : State) → Sound s → (b : ℕ) {e : Effect} {x : Item} {t : State} → effectOf s b ≡ e → Sets s e x t → Sound t
 set-sound s r b q flashed = r
@@ -90,17 +91,17 @@ module _ (s₀ : State) (at : ℕ) (tape first : List ℕ) (w : Bool) where
             counted = r .counted ∙ sym (ap (λ (l : List Item). length (charactersOf l)) is);
             parted = r .parted ∙ sym (ap (λ (l : List Item). 3 * cutsOf l) is);
             same = r .same;
-            wrote = r .wrote ∙ sym (ap (λ (l : List Item). putIf w first 0 (fields l)) is);
+            wrote = r .wrote ∙ sym (ap (λ (l : List Item). putIf w first 0 (fields New l)) is);
           }
 
       -- a code that sets the item x and leaves the state t
       module _ {e : Effect} {x : Item} {t : State} (q : effectOf s (getD tape i 0) ≡ e) (m : Sets s e x t) where
-        pub going-room : (w ≡ true → length (fields (run s₀ at tape .items)) ≤ length first) → w ≡ true → 11 * count + cuts + itemSize x ≤ length out
+        pub going-room : (w ≡ true → length (fields New (run s₀ at tape .items)) ≤ length first) → w ≡ true → 11 * count + cuts + itemSize New x ≤ length out
         going-room p k =
             let is = soFar s₀ at tape i in
             let z = run-room s₀ at tape i s (r .ran) h q m in
-            let all = ap (λ (l : List Item). length (fields l)) (z .1) ∙ ap length (fields-append is (x ∷ z .0)) ∙ length-append (fields is) (fields (x ∷ z .0)) in
-            omega (arith, p k, r .counted, r .parted, r .same, length-fields is, all, first-size x (z .0))
+            let all = ap (λ (l : List Item). length (fields New l)) (z .1) ∙ ap length (fields-append New is (x ∷ z .0)) ∙ length-append (fields New is) (fields New (x ∷ z .0)) in
+            omega (arith, p k, r .counted, r .parted, r .same, length-fields New is, all, first-size x (z .0))
 
         pub going-set : (next : List ℕ) → length next ≡ length out → next ≡ putAt w count cuts x out → (n k : ℕ) → n ≡ count + tally x → k + 3 * tally x ≡ cuts + 3
             → Going s₀ at tape first w next t n k (i + 1)
@@ -119,7 +120,7 @@ module _ (s₀ : State) (at : ℕ) (tape first : List ℕ) (w : Bool) where
                   o
                   ∙ ap (putAt w count cuts x) (r .wrote)
                   ∙ put-more w first is x count cuts (r .counted) (r .parted)
-                  ∙ sym (ap (λ (l : List Item). putIf w first 0 (fields l)) more);
+                  ∙ sym (ap (λ (l : List Item). putIf w first 0 (fields New l)) more);
             }
 
       pub going-refused : (n : ℕ) → at + length tape ≤ maxTape → effectOf s (getD tape i 0) ≡ Refused n
@@ -133,7 +134,7 @@ module _ (s₀ : State) (at : ℕ) (tape first : List ℕ) (w : Bool) where
             few = omega (arith, going-bound);
             short = omega (arith, going-bound);
             ended = sym (ap (λ (x : Run). x .ending) f);
-            buffer = r .wrote ∙ sym (ap (λ (l : List Item). putIf w first 0 (fields l)) is);
+            buffer = r .wrote ∙ sym (ap (λ (l : List Item). putIf w first 0 (fields New l)) is);
           }
 
     pub going-done : length tape ≤ i → at + length tape ≤ maxTape → Passed (run s₀ at tape) w first (record { count = count; cuts = cuts; ending = Reached s }) out
@@ -146,7 +147,7 @@ module _ (s₀ : State) (at : ℕ) (tape first : List ℕ) (w : Bool) where
           few = omega (arith, going-bound, r .inside);
           short = omega (arith, going-bound, r .inside);
           ended = sym (sym (ap (λ (l : List ℕ). run s₀ at l .ending) all) ∙ r .ran);
-          buffer = r .wrote ∙ ap (λ (l : List Item). putIf w first 0 (fields l)) is;
+          buffer = r .wrote ∙ ap (λ (l : List Item). putIf w first 0 (fields New l)) is;
         }
 
 -- ---- a stretch, by its next code

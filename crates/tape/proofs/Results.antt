@@ -13,6 +13,7 @@ use Rattle.octets.specs.Answer.{Result, refusal, written, ifRoom, after, tapeTo
 use Rattle.octets.specs.AnswerLaws.{room-refused, room-short, room-enough}
 use Rattle.octets.specs.Field.{endField}
 use Rattle.octets.specs.Write.{sets-append, sets-start}
+use Rattle.galley_file.specs.declared.form.Form.the-variants.{New}
 use Rattle.galley_file.specs.declared.item.Item.{Item}
 use Rattle.galley_file.specs.Item.{charactersOf, cutsOf}
 use Rattle.galley_file.specs.Galley.{fields, galley}
@@ -49,7 +50,7 @@ module _ (s : State) (tape : List ℕ) (room : ℕ) where
 
   module _ (t : State) (q : run s 0 tape .ending ≡ Reached t) where
     abbrev closed : Bool → Bool → Result
-    closed k u = ifRoom noGalleyRoom room (cond k (refusal afterCut (length tape)) (cond u (written (galley (run s 0 tape .items))) (refusal noStop (length tape))))
+    closed k u = ifRoom noGalleyRoom room (cond k (refusal afterCut (length tape)) (cond u (written (galley New (run s 0 tape .items))) (refusal noStop (length tape))))
 
     closes : {k u : Bool} → t .cut ≡ k → t .stopped ≡ u → readResult s tape room ≡ closed k u
     closes d e = by-ending q ∙ (λ i. closed (d i) (e i))
@@ -61,30 +62,30 @@ module _ (s : State) (tape : List ℕ) (room : ℕ) where
       pub read-open : t .stopped ≡ false → readResult s tape room ≡ refusal noStop (length tape)
       read-open e = closes d e ∙ room-refused noGalleyRoom room noStop (length tape)
 
-      module _ (e : t .stopped ≡ true) (n : ℕ) (m : n ≡ length (fields (run s 0 tape .items))) where
-        pub needed : length (galley (run s 0 tape .items)) ≡ n + 7
-        needed = omega (arith, length-galley (run s 0 tape .items), m)
+      module _ (e : t .stopped ≡ true) (n : ℕ) (m : n ≡ length (fields New (run s 0 tape .items))) where
+        pub needed : length (galley New (run s 0 tape .items)) ≡ n + 7
+        needed = omega (arith, length-galley New (run s 0 tape .items), m)
 
         pub read-short : room < n + 7 → readResult s tape room ≡ refusal noGalleyRoom (n + 7)
         read-short h =
             closes d e
-            ∙ room-short noGalleyRoom room (galley (run s 0 tape .items)) (omega (arith, needed))
+            ∙ room-short noGalleyRoom room (galley New (run s 0 tape .items)) (omega (arith, needed))
             ∙ ap (refusal noGalleyRoom) needed
 
-        pub read-whole : n + 7 ≤ room → readResult s tape room ≡ written (galley (run s 0 tape .items))
-        read-whole h = closes d e ∙ room-enough noGalleyRoom room (galley (run s 0 tape .items)) (omega (arith, needed))
+        pub read-whole : n + 7 ≤ room → readResult s tape room ≡ written (galley New (run s 0 tape .items))
+        read-whole h = closes d e ∙ room-enough noGalleyRoom room (galley New (run s 0 tape .items)) (omega (arith, needed))
 
 -- the bytes of the fields that a pass has counted
-pub fields-counted : (is : List Item) (n k : ℕ) → n ≡ length (charactersOf is) → k ≡ 3 * cutsOf is → 11 * n + k ≡ length (fields is)
-fields-counted is n k e d = omega (arith, length-fields is, e, d)
+pub fields-counted : (is : List Item) (n k : ℕ) → n ≡ length (charactersOf is) → k ≡ 3 * cutsOf is → 11 * n + k ≡ length (fields New is)
+fields-counted is n k e d = omega (arith, length-fields New is, e, d)
 
 -- the buffer after the second pass and End
-pub filled : (is : List Item) (n at : ℕ) (buffer b₁ b₂ : List ℕ) → n ≡ length (charactersOf is) → at ≡ length (fields is) → at + 7 ≤ length buffer
-    → b₁ ≡ sets buffer 0 (fields is) → b₂ ≡ sets b₁ at (endField n) → b₂ ≡ galley is ++ drop (length (galley is)) buffer
+pub filled : (is : List Item) (n at : ℕ) (buffer b₁ b₂ : List ℕ) → n ≡ length (charactersOf is) → at ≡ length (fields New is) → at + 7 ≤ length buffer
+    → b₁ ≡ sets buffer 0 (fields New is) → b₂ ≡ sets b₁ at (endField n) → b₂ ≡ galley New is ++ drop (length (galley New is)) buffer
 unfolding galley
 filled is n at buffer b₁ b₂ en ea h e₁ e₂ =
-    let place : at ≡ 0 + length (fields is) = omega (arith, ea) in
+    let place : at ≡ 0 + length (fields New is) = omega (arith, ea) in
     e₂
     ∙ (λ i. sets (e₁ i) (place i) (endField (en i)))
-    ∙ sym (sets-append buffer 0 (fields is) (endField (length (charactersOf is))))
-    ∙ sets-start buffer (galley is) (omega (arith, length-galley is))
+    ∙ sym (sets-append buffer 0 (fields New is) (endField (length (charactersOf is))))
+    ∙ sets-start buffer (galley New is) (omega (arith, length-galley New is))

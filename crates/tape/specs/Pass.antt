@@ -5,6 +5,7 @@ use mathlib.Core.List.{List}
 use Prim.Native.Nat.{ℕ, _+_, _*_, _≤_}
 use lib.ListN.{length, take}
 use Rattle.octets.specs.Write.{putIf}
+use Rattle.galley_file.specs.declared.form.Form.the-variants.{New}
 use Rattle.galley_file.specs.declared.item.Item.{Item}
 use Rattle.galley_file.specs.Item.{itemField, charactersOf, cutsOf}
 use Rattle.galley_file.specs.Galley.{fields}
@@ -19,7 +20,7 @@ use Rattle.tape.specs.Quick.{placed}
 
 -- an item's field after n characters and k bytes of cuts
 abbrev pub putAt : Bool → ℕ → ℕ → Item → List ℕ → List ℕ
-putAt w n k i out = putIf w out (11 * n + k) (itemField i)
+putAt w n k i out = putIf w out (11 * n + k) (itemField New i)
 
 -- what a pass keeps: the bytes passed so far, run from the first state, reach the present one; the count of characters, the bytes of
 -- cuts and the buffer are those of the items that they set
@@ -30,7 +31,7 @@ pub record Going (s₀ : State) (at : ℕ) (tape first : List ℕ) (w : Bool) (o
   pub counted : count ≡ length (charactersOf (soFar s₀ at tape i))
   pub parted : cuts ≡ 3 * cutsOf (soFar s₀ at tape i)
   pub same : length out ≡ length first
-  pub wrote : out ≡ putIf w first 0 (fields (soFar s₀ at tape i))
+  pub wrote : out ≡ putIf w first 0 (fields New (soFar s₀ at tape i))
 
 -- a stretch r keeps it, whatever the pass started from
 pub record Further (w : Bool) (tape out : List ℕ) (s : State) (count cuts i : ℕ) (r : Stretch) (later : List ℕ) : Type 0 where
@@ -44,4 +45,4 @@ pub record Passed (x : Run) (w : Bool) (before : List ℕ) (r : Reading) (later 
   pub few : r .count ≤ maxTape
   pub short : r .cuts ≤ 3 * maxTape
   pub ended : r .ending ≡ x .ending
-  pub buffer : later ≡ putIf w before 0 (fields (x .items))
+  pub buffer : later ≡ putIf w before 0 (fields New (x .items))

@@ -11,6 +11,7 @@ use mathlib.Core.Option.{Option, none, some}
 use lib.Dec.{ltb, eqb}
 use lib.ListN.{length}
 use Rattle.octets.specs.Answer.{Result, refusal, written, ifRoom, tapeTooLong, afterCut, noStop, noGalleyRoom, noMachine}
+use Rattle.galley_file.specs.declared.form.Form.the-variants.{New}
 use Rattle.galley_file.specs.declared.item.Item.{Item}
 use Rattle.galley_file.specs.declared.item.Item.the-variants.{Placed, Cut}
 use Rattle.galley_file.specs.Galley.{galley}
@@ -46,7 +47,7 @@ run s at (b ∷ bs) =
 
 -- at the end of a tape of so many bytes: the first refusal; 10 after a cut; 9 without stop; else the galley of its items
 abbrev pub closing : ℕ → List Item → Ending → Result
-closing len is (Reached s) = cond (s .cut) (refusal afterCut len) (cond (s .stopped) (written (galley is)) (refusal noStop len))
+closing len is (Reached s) = cond (s .cut) (refusal afterCut len) (cond (s .stopped) (written (galley New is)) (refusal noStop len))
 closing len is (Fault n place) = refusal n place
 
 -- 12 last

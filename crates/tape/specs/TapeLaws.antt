@@ -11,11 +11,13 @@ use lib.Dec.{ltb}
 use lib.ListN.{length}
 use Rattle.octets.specs.Answer.{Result, refusal, written, outcome, ifRoom, accepted, tapeTooLong, afterCut, noStop, noGalleyRoom, noMachine}
 use Rattle.octets.specs.AnswerLaws.{accepted-room}
+use Rattle.galley_file.specs.declared.form.Form.the-variants.{New}
+use Rattle.galley_file.specs.Form.{maxGalley}
 use Rattle.galley_file.specs.declared.item.Item.{Item}
 use Rattle.galley_file.specs.Item.{charactersOf}
 use Rattle.measure.specs.Place.{heightEnd}
-use Rattle.galley_file.specs.Galley.{maxGalley, maxItems, AllValid, galley, whole, readGalley}
-use Rattle.galley_file.specs.GalleyLaws.{length-galley, fields-few, accepts, accepts-check}
+use Rattle.galley_file.specs.Galley.{maxItems, AllValid, galley, whole, readGalley}
+use Rattle.galley_file.specs.GalleyLaws.{galley-fits, accepts, accepts-check}
 use Rattle.galley_file.specs.Outcome.{checkOutcome}
 use Rattle.tape.specs.declared.code.Machine.{Machine}
 use Rattle.tape.specs.declared.Ending.{Ending}
@@ -34,36 +36,36 @@ pub record AcceptedTape (tape : List ℕ) (machine : ℕ) (bs : List ℕ) : Type
   pub kind : Machine
   pub named : machineOf machine ≡ some kind
   pub short-enough : length tape ≤ maxTape
-  pub bytes-are : bs ≡ galley (itemsOn kind tape)
+  pub bytes-are : bs ≡ galley New (itemsOn kind tape)
   pub valid : AllValid heightEnd (itemsOn kind tape)
-  pub read-as : readGalley bs ≡ whole (itemsOn kind tape)
-  pub checked : checkOutcome bs ≡ accepted (length (charactersOf (itemsOn kind tape)))
-  pub size : length bs ≤ maxGalley
+  pub read-as : readGalley New bs ≡ whole (itemsOn kind tape)
+  pub checked : checkOutcome New bs ≡ accepted (length (charactersOf (itemsOn kind tape)))
+  pub size : length bs ≤ maxGalley New
 
 never : {n p : ℕ} {bs : List ℕ} {X : Type 0} → refusal n p ≡ written bs → X
 never e = let z : _≡_ {A = ℕ} 0 1 = cc in absurd (omega arith)
 
 -- a tape that is accepted from a state gives the galley of its items
-galley-from : (s : State) (tape : List ℕ) (room : ℕ) (bs : List ℕ) → readResult s tape room ≡ written bs → bs ≡ galley (run s 0 tape .items)
+galley-from : (s : State) (tape : List ℕ) (room : ℕ) (bs : List ℕ) → readResult s tape room ≡ written bs → bs ≡ galley New (run s 0 tape .items)
 unfolding readResult ifRoom
 galley-from s tape room bs q = go (run s 0 tape .ending) q
   where
     is : List Item
     is = run s 0 tape .items
 
-    room-for : (t : Bool) → cond t (refusal noGalleyRoom (length (galley is))) (written (galley is)) ≡ written bs → bs ≡ galley is
+    room-for : (t : Bool) → cond t (refusal noGalleyRoom (length (galley New is))) (written (galley New is)) ≡ written bs → bs ≡ galley New is
     room-for true e = never e
     room-for false e = cc
 
-    stopped : (u : Bool) → ifRoom noGalleyRoom room (cond u (written (galley is)) (refusal noStop (length tape))) ≡ written bs → bs ≡ galley is
-    stopped true e = room-for (ltb room (length (galley is))) e
+    stopped : (u : Bool) → ifRoom noGalleyRoom room (cond u (written (galley New is)) (refusal noStop (length tape))) ≡ written bs → bs ≡ galley New is
+    stopped true e = room-for (ltb room (length (galley New is))) e
     stopped false e = never e
 
-    uncut : (t u : Bool) → ifRoom noGalleyRoom room (cond t (refusal afterCut (length tape)) (cond u (written (galley is)) (refusal noStop (length tape)))) ≡ written bs → bs ≡ galley is
+    uncut : (t u : Bool) → ifRoom noGalleyRoom room (cond t (refusal afterCut (length tape)) (cond u (written (galley New is)) (refusal noStop (length tape)))) ≡ written bs → bs ≡ galley New is
     uncut true u e = never e
     uncut false u e = stopped u e
 
-    go : (x : Ending) → ifRoom noGalleyRoom room (closing (length tape) is x) ≡ written bs → bs ≡ galley is
+    go : (x : Ending) → ifRoom noGalleyRoom room (closing (length tape) is x) ≡ written bs → bs ≡ galley New is
     go (Reached s) e = uncut (s .cut) (s .stopped) e
     go (Fault n p) e = never e
 
@@ -71,7 +73,7 @@ pub accepted-tape : (tape : List ℕ) (machine room : ℕ) (bs : List ℕ) → t
 unfolding tapeResult
 accepted-tape tape machine room bs q = whole-tape (ltb maxTape (length tape)) refl q
   where
-    on : (kind : Machine) → machineOf machine ≡ some kind → length tape ≤ maxTape → bs ≡ galley (itemsOn kind tape) → AcceptedTape tape machine bs
+    on : (kind : Machine) → machineOf machine ≡ some kind → length tape ≤ maxTape → bs ≡ galley New (itemsOn kind tape) → AcceptedTape tape machine bs
     on kind m l g =
         let is = itemsOn kind tape in
         let v = run-valid (start kind) 0 tape (start-sound kind) in
@@ -82,9 +84,9 @@ accepted-tape tape machine room bs q = whole-tape (ltb maxTape (length tape)) re
           short-enough = l;
           bytes-are = g;
           valid = v;
-          read-as = ap readGalley g ∙ accepts is v few;
-          checked = ap checkOutcome g ∙ accepts-check is v few;
-          size = omega (arith, ap length g, length-galley is, fields-few is, few);
+          read-as = ap (readGalley New) g ∙ accepts New is v few;
+          checked = ap (checkOutcome New) g ∙ accepts-check New is v few;
+          size = omega (arith, ap length g, galley-fits New is few);
         }
 
     by-machine : (k : Option Machine) → machineOf machine ≡ k → length tape ≤ maxTape → onMachine tape room k ≡ written bs → AcceptedTape tape machine bs

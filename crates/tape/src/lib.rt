@@ -4,7 +4,9 @@ mod machine;
 mod quick;
 
 use code::Machine;
-use galley_file::character;
+ghost use Rattle.galley_file.specs.declared.form.Form.the-variants.{New};
+use galley_file::form;
+use galley_file::form::Form;
 use galley_file::item;
 use galley_file::item::Item;
 use machine::Effect;
@@ -41,18 +43,18 @@ pub struct Reading {
 // Writes an item's field after `count` characters and so many bytes of cuts, if writing.
 fn put_after(writing: bool, out: &mut [u8], count: usize, cuts: usize, i: Item)
     requires { ⌜ (count ≤ maxTape) × (cuts ≤ 3 * maxTape) ⌝ }
-    requires { ⌜ (writing ≡ true → 11 * count + cuts + itemSize i ≤ length (now out)) ⌝ }
+    requires { ⌜ (writing ≡ true → 11 * count + cuts + itemSize New i ≤ length (now out)) ⌝ }
     ensures { λ _. ⌜ now (out .exit) ≡ putAt writing count cuts i (now (out .entry)) ⌝ }
 {
     if writing {
-        item::put_item(out, character::FIELD * count + cuts, i);
+        item::put_item(Form::New, out, form::NEW_FIELD * count + cuts, i);
     }
 }
 
 // One pass over the bytes of a tape from the place `at`, on a machine in the state `first`. It writes the items' fields, if writing.
 fn pass(first: State, at: usize, tape: &[u8], out: &mut [u8], writing: bool) -> Reading
     requires { ⌜ (Sound first) × (at + length (now tape) ≤ maxTape) ⌝ }
-    requires { ⌜ (writing ≡ true → length (fields (run first at (now tape) .items)) ≤ length (now out)) ⌝ }
+    requires { ⌜ (writing ≡ true → length (fields New (run first at (now tape) .items)) ≤ length (now out)) ⌝ }
     ensures { λ r. ⌜ Passed (run first at (now (tape .entry))) writing (now (out .entry)) r (now (out .exit)) ⌝ }
 {
     let mut s = first;
@@ -109,7 +111,7 @@ fn read_from(first: State, tape: &[u8], galley: &mut [u8]) -> Answer
 {
     let r = pass(first, 0, tape, galley, false);
     let count = r.count;
-    let start = character::FIELD * count + r.cuts;
+    let start = form::NEW_FIELD * count + r.cuts;
     let ending = r.ending;
     match ending {
         Ending::Fault(n, place) => Answer::Refused(n, place),

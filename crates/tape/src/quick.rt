@@ -8,6 +8,8 @@ use crate::machine::State;
 use galley_file::character;
 use galley_file::character::Character;
 use galley_file::font;
+use galley_file::form;
+use galley_file::form::Form;
 use measure::Carriage;
 use measure::Height;
 use measure::Units;
@@ -219,7 +221,7 @@ fn write_stretch(
     if out.len() < cuts {
         return r;
     }
-    let room = (out.len() - cuts) / character::FIELD;
+    let room = (out.len() - cuts) / form::NEW_FIELD;
     while r.next < tape.len() {
         let i = r.next;
         match quick_step(with_carriage(s, r.carriage), d, tape[i]) {
@@ -227,7 +229,7 @@ fn write_stretch(
                 if room <= r.count {
                     return r;
                 }
-                character::put_character(out, character::FIELD * r.count + cuts, c);
+                character::put_character(Form::New, out, form::NEW_FIELD * r.count + cuts, c);
                 r.count += 1;
                 r.next += 1;
             }

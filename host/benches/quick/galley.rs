@@ -39,9 +39,22 @@ pub struct Count {
     pub cuts: usize,
 }
 
+/// The longest galley, in bytes.
+pub const LONGEST: usize = 11_534_343;
+
 /// The numbers of characters and cuts, or the refusal.
 pub fn count(galley: &[u8]) -> Result<Count, (usize, usize)> {
-    if galley.len() > 11_534_343 {
+    count_of(galley, LONGEST, is_good)
+}
+
+/// The same for a galley of at most `longest` bytes, with characters in fields of N bytes that are good or not.
+#[inline(always)]
+pub fn count_of<const N: usize>(
+    galley: &[u8],
+    longest: usize,
+    is_good: impl Fn(&[u8; N]) -> bool + Copy,
+) -> Result<Count, (usize, usize)> {
+    if galley.len() > longest {
         return Err((40, 0));
     }
     let mut count = Count { characters: 0, cuts: 0 };
@@ -49,9 +62,9 @@ pub fn count(galley: &[u8]) -> Result<Count, (usize, usize)> {
     loop {
         let most = MOST - count.characters - count.cuts;
         let (fields, _) = galley[place..].as_chunks();
-        let run = good_fields(&fields[..fields.len().min(most)]);
+        let run = good_fields(&fields[..fields.len().min(most)], is_good);
         count.characters += run;
-        place += 11 * run;
+        place += N * run;
         match galley[place..] {
             [6, 0, 0, ..] if run < most => {
                 count.cuts += 1;
@@ -73,7 +86,8 @@ fn counts(characters: usize, body: [u8; 4]) -> bool {
 
 /// How many good character fields come first. Runs of 64 are tested without a branch for each; the first few
 /// fields are a run of their own, since a cut may be near.
-fn good_fields(fields: &[Field]) -> usize {
+#[inline(always)]
+fn good_fields<const N: usize>(fields: &[[u8; N]], is_good: impl Fn(&[u8; N]) -> bool + Copy) -> usize {
     let (few, rest) = fields.split_at(fields.len().min(4));
     let mut count = 0;
     for run in std::iter::once(few).chain(rest.chunks(64)) {
@@ -86,33 +100,51 @@ fn good_fields(fields: &[Field]) -> usize {
 }
 
 /// The character fields of each page of a good galley. What is left after the last cut is a page.
-pub fn pages(galley: &[u8], count: Count) -> impl Iterator<Item = &[Field]> {
+pub fn pages<const N: usize>(galley: &[u8], count: Count) -> impl Iterator<Item = &[[u8; N]]> {
     let Count { mut characters, cuts } = count;
     let mut place = 0;
     (0..=cuts).map(move |page| {
         let (fields, _) = galley[place..].as_chunks();
         let length = if page == cuts { characters } else { leading_characters(fields) };
         characters -= length;
-        place += 11 * length + 3;
+        place += N * length + 3;
         &fields[..length]
     })
 }
 
-/// How many character fields come before the cut.
-fn leading_characters(fields: &[Field]) -> usize {
-    fields.iter().take_while(|field| field[0] == 7).count()
+/// How many character fields come before the cut, in either form.
+fn leading_characters<const N: usize>(fields: &[[u8; N]]) -> usize {
+    fields.iter().take_while(|field| field[0] != 6).count()
+}
+
+/// The greatest height that DVI and the old form hold.
+pub const LOW: u32 = 65_535;
+
+/// The place of the first character of a good galley with a greater height.
+#[cold]
+pub fn first_too_high(galley: &[u8], count: Count) -> usize {
+    let mut place = 0;
+    for page in pages::<11>(galley, count) {
+        match page.iter().position(|field| height(body(field)) > LOW) {
+            Some(index) => return place + 11 * index,
+            None => place += 11 * page.len() + 3,
+        }
+    }
+    place
 }
 
 #[inline(always)]
-fn is_good(field: &Field) -> bool {
+pub fn is_good(field: &Field) -> bool {
     let word = body(field);
+    (field[..3] == [7, 0, 8]) & (height(word) <= 1_000_000) & has_good_rest(word)
+}
+
+/// Whether x, font number and character are good.
+#[inline(always)]
+pub fn has_good_rest(word: u64) -> bool {
     let font_number = font_number(word);
     let shifted = (across(word) + SHIFT[font_number]) as u32;
-    (field[..3] == [7, 0, 8])
-        & (font_number < 120)
-        & (shifted < 3_240)
-        & (height(word) <= 1_000_000)
-        & (code(word).wrapping_sub(1) < 108)
+    (font_number < 120) & (shifted < 3_240) & (code(word).wrapping_sub(1) < 108)
 }
 
 /// By font number: 55 in the double sizes.

@@ -3,11 +3,13 @@
 //! Each does what the library does: one pass for the outcome and the room, one that writes. An answer
 //! is number, place, length.
 
+mod convert;
 mod galley;
 mod reader;
 mod tape;
 mod writer;
 
+pub use convert::{to_new, to_old};
 pub use galley::{check_galley, read_back};
 pub use reader::read_dvi;
 pub use tape::read_tape;

@@ -1,15 +1,14 @@
 //! A galley to a DVI file.
 
-use super::galley::{across, body, code, count, font_number, height, pages, Count, Field};
+use super::galley::{
+    across, body, code, count, first_too_high, font_number, height, pages, Count, Field, LOW,
+};
 use super::{accepted, reader, refused};
 
 /// Bytes of BOP and EOP, of a postamble without fonts, and of one font definition.
 const PAGE: usize = 10;
 const POSTAMBLE: usize = 26;
 const DEFINITION: usize = 14;
-
-/// The greatest height that DVI holds.
-const HIGHEST: u32 = 65_535;
 
 /// Before a page's first character: no font number.
 const NO_FONT: usize = 255;
@@ -22,7 +21,7 @@ pub fn write_dvi(galley: &[u8], dvi: &mut [u8]) -> [usize; 3] {
         Err(refusal) => return refused(refusal),
     };
     let measure = measure(galley, count);
-    if measure.highest > HIGHEST {
+    if measure.highest > LOW {
         return refused((43, first_too_high(galley, count)));
     }
     let needed = measure.length();
@@ -40,7 +39,7 @@ pub fn reprint(galley: &[u8], widths: &[i32], dvi: &mut [u8], sheet: &mut [u8]) 
         Err(refusal) => return refused(refusal),
     };
     let measure = measure(galley, count);
-    if measure.highest > HIGHEST {
+    if measure.highest > LOW {
         return refused((43, first_too_high(galley, count)));
     }
     if !widths.len().is_multiple_of(128) {
@@ -72,19 +71,6 @@ impl Measure {
         let fonts = self.fonts[0].count_ones() + self.fonts[1].count_ones();
         PAGE * self.pages + self.commands + POSTAMBLE + DEFINITION * fonts as usize
     }
-}
-
-/// The place of the first character with a height that is too great.
-#[cold]
-fn first_too_high(galley: &[u8], count: Count) -> usize {
-    let mut place = 0;
-    for page in pages(galley, count) {
-        match page.iter().position(|field| height(body(field)) > HIGHEST) {
-            Some(index) => return place + 11 * index,
-            None => place += 11 * page.len() + 3,
-        }
-    }
-    place
 }
 
 /// Moves to a height that is too great are measured wrongly; no file is written then.

@@ -67,7 +67,7 @@ fn help_for_the_whole_and_for_each_command() {
     let folder = folder("help");
     let whole = run(&folder, &["--help"]);
     assert_eq!((whole.status, whole.err.as_str()), (0, ""));
-    for name in ["read", "check", "list", "set", "show", "sheet", "reprint", "plot"] {
+    for name in ["read", "check", "list", "set", "show", "sheet", "reprint", "plot", "convert"] {
         assert!(whole.text().contains(&format!("\n  {name} ")), "{name} in the whole help");
         let usage = format!("Usage: spatecanter {name} ");
         for words in [[name, "--help"], [name, "-h"], ["help", name]] {
@@ -82,7 +82,7 @@ fn help_for_the_whole_and_for_each_command() {
 fn wrong_usage_is_2() {
     let folder = folder("usage");
     fs::write(folder.join("p3.tape"), hex(P3_TAPE)).unwrap();
-    let calls: [&[&str]; 18] = [
+    let calls: [&[&str]; 24] = [
         &[],
         &["reed", "p3.tape"],
         &["read"],
@@ -101,6 +101,12 @@ fn wrong_usage_is_2() {
         &["read", "missing.tape"],
         &["read", "."],
         &["read", "p3.tape", "-o", "missing/p3.galley"],
+        &["convert", "p3.tape"],
+        &["convert", "--to", "p3.tape"],
+        &["convert", "--to", "newer", "p3.tape"],
+        &["convert", "--to=", "p3.tape"],
+        &["convert", "--to", "new", "--to", "old", "p3.tape"],
+        &["check", "p3.tape", "--to", "new"],
     ];
     for words in calls {
         let run = run(&folder, words);
@@ -274,10 +280,14 @@ fn a_tape_over_the_limit() {
     assert_eq!(run.err, "spatecanter: long.tape: refused 1 at 0: the tape is longer than 1,048,576 bytes\n");
 }
 
+/// What is said of a character of the old form.
+const OLD_HINT: &str =
+    "a character (07 00 08 ...); tag 1 is the old form, see spatecanter convert --to new\n";
+
 #[test]
 fn refused_galleys_and_dvi_files() {
     let folder = folder("others");
-    let rows: [(&str, &str, &str, &str); 15] = [
+    let rows: [(&str, &str, &str, &str); 19] = [
         ("check", "", "refused 41 at 0", "expected: a character (07 00 08 ...), a cut (06 00 00) or End (02"),
         ("check", "06 00 01 00", "refused 41 at 0", "bytes 06 00 01 00"),
         ("plot", "06 00 00 02 00 04 00 00 00 01", "refused 41 at 3", "an End that counts 0 characters"),
@@ -289,7 +299,11 @@ fn refused_galleys_and_dvi_files() {
         ("set", "06 00 00 07 00 08 00 00 FF FF FF FF 02 01", "refused 41 at 3", "a height of 0 to 1,000,000"),
         ("check", "07 00 08 00 00 00", "refused 41 at 0", "cut short"),
         ("check", "07 00 08 00 00 00 00 00 00 02 01 05", "refused 41 at 11", "offset 11 (hexadecimal B)"),
-        ("list", "01 00 06 00 00 00 00 02 01", "refused 41 at 0", "bytes 01 00 06 00 00 00 00 02 01"),
+        ("check", "01 00 06 00 00 00 00 02 01", "refused 41 at 0", OLD_HINT),
+        ("list", "01 00 06 00 00 00 00 02 01", "refused 41 at 0", OLD_HINT),
+        ("set", "01 00 06 00 00 00 00 02 01", "refused 41 at 0", OLD_HINT),
+        ("plot", "01 00 06 00 00 00 00 02 01", "refused 41 at 0", OLD_HINT),
+        ("plot", "06 00 00 01 00 06 00 00 00 00 02 01", "refused 41 at 3", OLD_HINT),
         ("show", "83", "refused 21 at 0", "command 131, PST"),
         ("show", "81 00 00 00 01 FF FF FF FF", "refused 22 at 9", "the end of the file"),
         ("show", "81 00 00 00 01 FF FF FF FF 88 01", "refused 27 at 9", "command 136, HORZCHAR"),
@@ -343,6 +357,9 @@ fn the_way_of_a_tape_with_cuts() {
     assert_eq!((plot.status, plot.err.as_str()), (0, "cut.svg: 0 characters\n"));
 }
 
+/// What is said of 43.
+const TOO_HIGH: &str = "a height above 65,535, which neither DVI nor the old form can hold";
+
 #[test]
 fn a_column_that_dvi_cannot_hold() {
     let folder = folder("column");
@@ -353,9 +370,8 @@ fn a_column_that_dvi_cannot_hold() {
     assert!(run(&folder, &["list", "a.galley"]).text().contains(" 65536 "));
     // Every reading but the last is low enough.
     let place = 11 * (count - 1);
-    let why =
-        format!("refused 43 at {place}: a height above 65,535, which DVI cannot hold\n  at offset {place} ");
-    let more = "\n  expected: a height of at most 65,535, to be set as DVI; it is 65,536\n";
+    let why = format!("refused 43 at {place}: {TOO_HIGH}\n  at offset {place} ");
+    let more = "\n  expected: a height of at most 65,535; it is 65,536\n";
     let set = run(&folder, &["set", "a.galley"]);
     assert_eq!((set.status, set.text().as_str()), (1, ""));
     assert!(set.err.starts_with(&format!("spatecanter: a.galley: {why}")) && set.err.ends_with(more));
@@ -386,6 +402,75 @@ fn the_longest_column() {
     assert!(more.err.contains("; it would go from 999998 to 1000001\n"), "{}", more.err);
 }
 
+/// P3's characters with a cut between them, in the old form and in the new.
+const OLD_P3: &str = "01 00 06 00 00 00 00 02 01 06 00 00 01 00 06 00 03 00 00 02 02 02 00 04 00 00 00 02";
+const NEW_P3: &str =
+    "07 00 08 00 00 00 00 00 00 02 01 06 00 00 07 00 08 00 03 00 00 00 00 02 02 02 00 04 00 00 00 02";
+
+#[test]
+fn an_old_galley_there_and_back() {
+    let folder = folder("convert");
+    fs::write(folder.join("a.galley"), hex(OLD_P3)).unwrap();
+    let there = run(&folder, &["convert", "--to", "new", "a.galley"]);
+    assert_eq!((there.status, there.err.as_str()), (0, "a.new.galley: 32 bytes\n"));
+    assert_eq!(fs::read(folder.join("a.new.galley")).unwrap(), hex(NEW_P3));
+    let list = "x y font size char\n0 0 1 10 1\ncut\n3 0 1 10 2\n2 glyphs\n";
+    assert_eq!(run(&folder, &["list", "a.new.galley"]).text(), list);
+    let back = run(&folder, &["convert", "a.new.galley", "--to=old", "-o", "b.galley"]);
+    assert_eq!((back.status, back.err.as_str()), (0, "b.galley: 28 bytes\n"));
+    assert_eq!(fs::read(folder.join("b.galley")).unwrap(), hex(OLD_P3));
+    assert_eq!(run(&folder, &["convert", "--to", "old", "a.new.galley"]).err, "a.new.old.galley: 28 bytes\n");
+    assert_eq!(run_on(&folder, &["convert", "--to", "new", "-"], &hex(OLD_P3)).out, hex(NEW_P3));
+    assert_eq!(run_on(&folder, &["convert", "--to", "old", "-", "-o", "-"], &hex(NEW_P3)).out, hex(OLD_P3));
+    assert_eq!(names(&folder), ["a.galley", "a.new.galley", "a.new.old.galley", "b.galley"]);
+}
+
+#[test]
+fn galleys_that_are_not_converted() {
+    let folder = folder("unconverted");
+    let new_hint = "a character (01 00 06 ...); tag 7 is the new form, see spatecanter convert --to old\n";
+    let tall = "06 00 00 07 00 08 00 00 00 01 00 00 02 01 02 00 04 00 00 00 01";
+    let rows: [(&str, &str, &str, &str); 10] = [
+        ("new", NEW_P3, "refused 41 at 0: the galley is malformed", new_hint),
+        ("old", OLD_P3, "refused 41 at 0: the galley is malformed", OLD_HINT),
+        (
+            "new",
+            "",
+            "refused 41 at 0",
+            "a character (01 00 06 ...), a cut (06 00 00) or End (02 00 04 ...)\n",
+        ),
+        ("new", "06 00 00 01 00 06 00", "refused 41 at 3", "the rest of the field, which is cut short\n"),
+        ("new", "01 00 06 00 00 00 00 78 01", "refused 41 at 0", "a font number of 0 to 119\n"),
+        ("new", "01 00 06 FF FF 00 00 08 01", "refused 41 at 0", "an x of 0 to 3,239, in a single size\n"),
+        (
+            "new",
+            "01 00 06 00 00 00 00 02 01 02 00 04 00 00 00 02",
+            "refused 41 at 9",
+            "an End that counts 1 characters\n",
+        ),
+        ("new", "06 00 00 02 00 04 00 00 00 00 00", "refused 41 at 10", "since End was read\n"),
+        ("old", tall, "refused 43 at 3: ", "expected: a height of at most 65,535; it is 65,536\n"),
+        (
+            "old",
+            tall,
+            TOO_HIGH,
+            "at offset 3 (hexadecimal 3) of the galley: bytes 07 00 08 00 00 00 01 00 00 02 01",
+        ),
+    ];
+    for (to, galley, refusal, more) in rows {
+        fs::write(folder.join("a.galley"), hex(galley)).unwrap();
+        let run = run(&folder, &["convert", "--to", to, "a.galley"]);
+        assert_eq!((run.status, run.text().as_str()), (1, ""), "{to} {galley}");
+        assert!(run.err.contains(refusal) && run.err.contains(more), "{}", run.err);
+        assert_eq!(names(&folder), ["a.galley"]);
+    }
+    fs::write(folder.join("a.galley"), vec![0; spatecanter::OLD_GALLEY_LIMIT + 1]).unwrap();
+    let long = run(&folder, &["convert", "--to", "new", "a.galley"]);
+    assert_eq!(long.status, 1);
+    let words = "the galley is longer than 11,534,343 bytes, or 9,437,191 in the old form";
+    assert_eq!(long.err, format!("spatecanter: a.galley: refused 40 at 0: {words}\n"));
+}
+
 #[test]
 fn an_input_is_never_written_over() {
     let folder = folder("inputs");
@@ -393,12 +478,13 @@ fn an_input_is_never_written_over() {
     for name in ["p3.galley", "p3.tape"] {
         fs::write(folder.join(name), &tape).unwrap();
     }
-    let calls: [&[&str]; 5] = [
+    let calls: [&[&str]; 6] = [
         &["read", "p3.galley"],
         &["read", "p3.tape", "-o", "p3.tape"],
         &["read", "p3.tape", "-o", "./p3.tape"],
         &["reprint", "p3.galley", "-d", "."],
         &["show", "p3.tape", "--widths", "p3.galley", "-o", "p3.galley"],
+        &["convert", "--to", "new", "p3.galley", "-o", "p3.galley"],
     ];
     for words in calls {
         let run = run(&folder, words);

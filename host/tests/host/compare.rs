@@ -25,6 +25,8 @@ pub struct Implementation {
     pub write_dvi: Fill,
     pub read_dvi: fn(&[u8], &[i32], &mut [u8]) -> Answer,
     pub reprint: FillBoth,
+    pub to_new: Fill,
+    pub to_old: Fill,
 }
 
 pub const QUICK: Implementation = Implementation {
@@ -35,6 +37,8 @@ pub const QUICK: Implementation = Implementation {
     write_dvi: quick::write_dvi,
     read_dvi: quick::read_dvi,
     reprint: quick::reprint,
+    to_new: quick::to_new,
+    to_old: quick::to_old,
 };
 
 /// The library by its C interface, with a guard on both sides of every answer.
@@ -89,6 +93,16 @@ pub const LIBRARY: Implementation = Implementation {
                 sheet.len(),
                 answer,
             )
+        })
+    },
+    to_new: |old, new| {
+        answered(|answer| unsafe {
+            ffi::sp_galley_to_new(old.as_ptr(), old.len(), new.as_mut_ptr(), new.len(), answer)
+        })
+    },
+    to_old: |new, old| {
+        answered(|answer| unsafe {
+            ffi::sp_galley_to_old(new.as_ptr(), new.len(), old.as_mut_ptr(), old.len(), answer)
         })
     },
 };
@@ -262,6 +276,36 @@ impl Comparison {
         self.same_bytes("reprint, DVI file", galley, &dvi.bytes, &after.0);
         self.same_bytes("reprint, sheet", galley, &sheet.bytes, &after.1);
         self.agree("reprint", galley, answer, answer_of(expected.map(|(_, sheet)| sheet)));
+    }
+
+    /// A galley of any form converted both ways, and what was accepted converted back.
+    pub fn convert(&mut self, galley: &[u8]) {
+        if let Some(new) = self.galley_to_new(galley) {
+            let old = self.galley_to_old(&new);
+            assert!(old.is_none_or(|old| old == galley), "there and back: {}", shown(galley));
+        }
+        if let Some(old) = self.galley_to_old(galley) {
+            let new = self.galley_to_new(&old);
+            assert!(new.is_none_or(|new| new == galley), "back and there: {}", shown(galley));
+        }
+    }
+
+    /// The galley made, if there was room.
+    pub fn galley_to_new(&mut self, old: &[u8]) -> Option<Vec<u8>> {
+        let result = plain::to_new(old);
+        let room = self.room(old, &result);
+        let expected = plain::with_room(result, room, 44);
+        self.fills("to_new", old, expected.clone(), room, |them, old, new| (them.to_new)(old, new));
+        expected.ok()
+    }
+
+    /// The galley made, if there was room.
+    pub fn galley_to_old(&mut self, new: &[u8]) -> Option<Vec<u8>> {
+        let result = plain::to_old(new);
+        let room = self.room(new, &result);
+        let expected = plain::with_room(result, room, 44);
+        self.fills("to_old", new, expected.clone(), room, |them, new, old| (them.to_old)(new, old));
+        expected.ok()
     }
 
     /// A call that fills one buffer.

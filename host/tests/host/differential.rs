@@ -1,7 +1,8 @@
 //! The library and the quick version against the plain reading, on the same cases.
 
-use crate::cases;
+use crate::cases::{self, Form};
 use crate::compare::{Comparison, Implementation, LIBRARY, QUICK};
+use crate::plain;
 use spatecanter::sample::Random;
 
 const SEED: u64 = 1980;
@@ -22,6 +23,7 @@ fn compare(implementation: Implementation) {
     codes(&mut comparison);
     other_machines(&mut comparison);
     galleys(&mut comparison);
+    conversions(&mut comparison);
     dvi_files(&mut comparison);
     comparison.print();
     every_number_is_met(&comparison);
@@ -149,6 +151,33 @@ fn each_part_and_change(comparison: &mut Comparison, galley: &[u8], random: &mut
     each_byte_changed(galley, random, |galley| comparison.galley(galley));
 }
 
+/// Galleys of both forms, each taken for one of either form.
+fn conversions(comparison: &mut Comparison) {
+    let mut random = Random::new(SEED + 5);
+    for form in [Form::Old, Form::New] {
+        for _ in 0..50_000 {
+            comparison.convert(&cases::galley_of(&mut random, form));
+        }
+    }
+    for (items, n) in [(0, None), (1, None), (5, Some(3)), (70, Some(20)), (200, None)] {
+        let old = cases::valid_old_galley(&mut random, items, n);
+        let new = plain::to_new(&old).unwrap();
+        for galley in [&old, &new] {
+            for length in 0..=galley.len() {
+                comparison.convert(&galley[..length]);
+            }
+            each_byte_changed(galley, &mut random, |galley| comparison.convert(galley));
+        }
+    }
+    let old = cases::valid_old_galley(&mut random, 2, None);
+    let old = [&[6, 0, 0], &old[..9], &[6, 0, 0, 6, 0, 0], &old[9..]].concat();
+    let new = plain::to_new(&old).unwrap();
+    for value in 0..=255 {
+        each_byte_set(&old, value, |old| comparison.convert(old));
+        each_byte_set(&new, value, |new| comparison.convert(new));
+    }
+}
+
 fn dvi_files(comparison: &mut Comparison) {
     let mut random = Random::new(SEED + 3);
     for _ in 0..150_000 {
@@ -190,7 +219,7 @@ fn each_byte_set(bytes: &[u8], value: u8, mut take: impl FnMut(&[u8])) {
 
 /// The cases are worth their number: each answer that small inputs can get was met often.
 fn every_number_is_met(comparison: &Comparison) {
-    let numbers: [(&str, &[usize]); 8] = [
+    let numbers: [(&str, &[usize]); 10] = [
         ("read_tape, 4 fonts", &[0, 2, 3, 4, 5, 6, 7, 8, 9, 10, 12]),
         ("read_tape, 8 fonts", &[0, 2, 3, 4, 5, 6, 7, 8, 9, 10, 12]),
         ("read_tape, no machine", &[50]),
@@ -199,6 +228,8 @@ fn every_number_is_met(comparison: &Comparison) {
         ("write_dvi", &[0, 41, 43, 42]),
         ("read_dvi", &[0, 31, 21, 22, 23, 24, 25, 26, 27, 28, 29, 30]),
         ("reprint", &[0, 41, 43, 31, 42, 30]),
+        ("to_new", &[0, 41, 44]),
+        ("to_old", &[0, 41, 43, 44]),
     ];
     for (operation, expected) in numbers {
         for &number in expected {

@@ -39,7 +39,7 @@ fn the_header_has_the_same_numbers() {
             value.split([',', ' ']).next().unwrap().parse().unwrap()
         })
         .collect();
-    assert_eq!(numbers.len(), 30);
+    assert_eq!(numbers.len(), 31);
     for &number in &numbers[1..] {
         let meaning = spatecanter::Refusal { number, place: 0 }.meaning();
         assert_ne!(meaning, "an unknown refusal", "{number}");
@@ -47,6 +47,7 @@ fn the_header_has_the_same_numbers() {
     for (name, limit) in [
         ("SP_TAPE_LIMIT", spatecanter::TAPE_LIMIT),
         ("SP_GALLEY_LIMIT", spatecanter::GALLEY_LIMIT),
+        ("SP_OLD_GALLEY_LIMIT", spatecanter::OLD_GALLEY_LIMIT),
         ("SP_DVI_LIMIT", spatecanter::DVI_LIMIT),
         ("SP_ITEM_LIMIT", spatecanter::ITEM_LIMIT),
         ("SP_HEIGHT_LIMIT", spatecanter::HEIGHT_LIMIT as usize),

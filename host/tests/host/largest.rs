@@ -2,8 +2,9 @@
 
 use crate::cases;
 use crate::compare::{Comparison, Implementation, LIBRARY, QUICK};
+use crate::plain;
 use spatecanter::sample::{book, book_widths, chart, yearbook, Random};
-use spatecanter::{Machine, DVI_LIMIT, GALLEY_LIMIT, TAPE_LIMIT};
+use spatecanter::{Machine, DVI_LIMIT, GALLEY_LIMIT, OLD_GALLEY_LIMIT, TAPE_LIMIT};
 
 /// Characters and cuts in a galley, together.
 const ITEMS: usize = 1_048_576;
@@ -26,6 +27,7 @@ fn on_a_small_stack(implementation: Implementation) {
         galleys(&mut comparison);
         galleys_with_cuts(&mut comparison);
         long_columns(&mut comparison);
+        conversions(&mut comparison);
         dvi_files(&mut comparison);
         comparison.print();
         needs_the_largest_sheet(implementation);
@@ -102,6 +104,37 @@ fn long_columns(comparison: &mut Comparison) {
         comparison.galley(&galley);
     }
     comparison.galley(&cases::tall_galley(&mut Random::new(9), ITEMS, 10));
+}
+
+/// Full galleys of both forms, and with one byte, one cut or one character more; then the last character too
+/// high for the old form, bad, or missing.
+fn conversions(comparison: &mut Comparison) {
+    for cuts in [None, Some(10), Some(1)] {
+        let mut old = cases::valid_old_galley(&mut Random::new(10), ITEMS, cuts);
+        let mut new = plain::to_new(&old).unwrap();
+        comparison.convert(&old);
+        for (galley, character) in
+            [(&old, &[1, 0, 6, 0, 0, 0, 0, 2, 1][..]), (&new, &[7, 0, 8, 0, 0, 0, 0, 0, 0, 2, 1])]
+        {
+            let (fields, end) = galley.split_at(galley.len() - 7);
+            comparison.convert(&[fields, &[6, 0, 0], end].concat());
+            comparison.convert(&[character, fields, end].concat());
+        }
+        old.push(0);
+        new.push(0);
+        comparison.convert(&old);
+        comparison.convert(&new);
+    }
+    let old = cases::valid_old_galley(&mut Random::new(11), ITEMS, None);
+    let mut new = plain::to_new(&old).unwrap();
+    assert_eq!((old.len(), new.len()), (OLD_GALLEY_LIMIT, GALLEY_LIMIT));
+    let last = new.len() - 7 - 11;
+    for height in [65_535_u32, 65_536, 1_000_001] {
+        new[last + 5..last + 9].copy_from_slice(&height.to_be_bytes());
+        comparison.convert(&new);
+    }
+    comparison.convert(&new[..last]);
+    comparison.convert(&old[..old.len() - 8]);
 }
 
 fn dvi_files(comparison: &mut Comparison) {

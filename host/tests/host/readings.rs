@@ -409,6 +409,114 @@ fn tall_characters_read_back() {
     }
 }
 
+/// A character at height 0 and at 65,535 in the old form.
+const OLD_LOW: &str = "01 00 06 00 00 00 00 02 01 ";
+const OLD_DEEP: &str = "01 00 06 00 00 FF FF 02 01 ";
+
+/// Old galleys, and the new ones of the same characters and cuts: each is made from the other.
+#[test]
+fn galleys_of_both_forms() {
+    let none = "02 00 04 00 00 00 00";
+    let [one, two, three, _] = ENDS;
+    let rows: [(String, String); 8] = [
+        (none.into(), none.into()),
+        ([CUT, CUT, none].concat(), [CUT, CUT, none].concat()),
+        ([OLD_LOW, one].concat(), [LOW, one].concat()),
+        ([OLD_DEEP, one].concat(), [DEEP, one].concat()),
+        ([OLD_DEEP, CUT, OLD_LOW, two].concat(), [DEEP, CUT, LOW, two].concat()),
+        ([CUT, OLD_LOW, CUT, CUT, OLD_LOW, CUT, two].concat(), [CUT, LOW, CUT, CUT, LOW, CUT, two].concat()),
+        // x -55 in a double size and 3,239 in a single one, character 108, heights 256 and 1.
+        (
+            ["01 00 06 FF C9 01 00 77 6C 01 00 06 0C A7 00 01 08 6C ", two].concat(),
+            ["07 00 08 FF C9 00 00 01 00 77 6C 07 00 08 0C A7 00 00 00 01 08 6C ", two].concat(),
+        ),
+        ([OLD_LOW, OLD_DEEP, OLD_LOW, three].concat(), [LOW, DEEP, LOW, three].concat()),
+    ];
+    for (old, new) in rows {
+        let (old, new) = (hex(&old), hex(&new));
+        assert_eq!(plain::to_new(&old), Ok(new.clone()), "plain reading of {old:02X?}");
+        assert_eq!(plain::to_old(&new), Ok(old.clone()), "plain reading of {new:02X?}");
+        for them in [LIBRARY, QUICK] {
+            let (mut old_made, mut new_made) = (vec![0; old.len()], vec![0; new.len()]);
+            assert_eq!((them.to_new)(&old, &mut new_made), [0, 0, new.len()], "{} on {old:02X?}", them.name);
+            assert_eq!((them.to_old)(&new, &mut old_made), [0, 0, old.len()], "{} on {new:02X?}", them.name);
+            assert_eq!((old_made, new_made), (old.clone(), new.clone()), "{}", them.name);
+            // 44 with all the bytes needed, for one byte less and for none.
+            for room in [0, old.len() - 1] {
+                let answer = (them.to_old)(&new, &mut vec![0; room]);
+                assert_eq!(answer, [44, old.len(), 0], "{} on {new:02X?}", them.name);
+            }
+            for room in [0, new.len() - 1] {
+                let answer = (them.to_new)(&old, &mut vec![0; room]);
+                assert_eq!(answer, [44, new.len(), 0], "{} on {old:02X?}", them.name);
+            }
+        }
+    }
+}
+
+/// Each direction takes its own form only, and refuses before it asks for room.
+#[test]
+fn galleys_not_converted() {
+    let [one, two, three, _] = ENDS;
+    let to_new: [(String, usize, usize); 13] = [
+        ("".into(), 41, 0),
+        ([LOW, one].concat(), 41, 0),
+        ([OLD_LOW, LOW, two].concat(), 41, 9),
+        ([OLD_LOW].concat(), 41, 9),
+        ([OLD_LOW, two].concat(), 41, 9),
+        ([OLD_LOW, one, " 00"].concat(), 41, 16),
+        ([OLD_LOW, CUT, "01 00 06 00 00 00 00 78 01 ", two].concat(), 41, 12),
+        (["01 00 06 0C A8 00 00 02 01 ", one].concat(), 41, 0),
+        (["01 00 06 00 00 00 00 02 6D ", one].concat(), 41, 0),
+        (["01 00 08 00 00 00 00 00 00 02 01 ", one].concat(), 41, 0),
+        (["01 00 05 00 00 00 00 02 ", one].concat(), 41, 0),
+        (["07 00 06 00 00 00 00 02 01 ", one].concat(), 41, 0),
+        ([OLD_LOW, "01 00 06 00 00 00 00 02"].concat(), 41, 9),
+    ];
+    let to_old: [(String, usize, usize); 14] = [
+        ("".into(), 41, 0),
+        ([OLD_LOW, one].concat(), 41, 0),
+        ([LOW, OLD_LOW, two].concat(), 41, 11),
+        ([LOW, two].concat(), 41, 11),
+        ([LOW, one, " 00"].concat(), 41, 18),
+        ([LOW, CUT, "07 00 08 00 00 00 00 00 00 78 01 ", two].concat(), 41, 14),
+        // 43 at the first field with a greater height than 65,535.
+        ([TALL, one].concat(), 43, 0),
+        ([LOW, DEEP, TALL, three].concat(), 43, 22),
+        ([LOW, TALLEST, TALL, three].concat(), 43, 11),
+        ([CUT, LOW, CUT, TALL, two].concat(), 43, 17),
+        // 41 wherever it stands comes first.
+        ([TALL, two].concat(), 41, 11),
+        ([TALL, one, " 00"].concat(), 41, 18),
+        ([TALL, "07 00 08 00 00 00 0F 42 41 02 01 ", two].concat(), 41, 11),
+        ([TALL, OLD_LOW, two].concat(), 41, 11),
+    ];
+    for room in [0, 256] {
+        for them in [LIBRARY, QUICK] {
+            for (galley, number, place) in &to_new {
+                let galley = hex(galley);
+                assert_eq!(plain::to_new(&galley), Err((*number, *place)), "plain reading of {galley:02X?}");
+                let answer = (them.to_new)(&galley, &mut vec![0; room]);
+                assert_eq!(answer, [*number, *place, 0], "{} on {galley:02X?}", them.name);
+            }
+            for (galley, number, place) in &to_old {
+                let galley = hex(galley);
+                assert_eq!(plain::to_old(&galley), Err((*number, *place)), "plain reading of {galley:02X?}");
+                let answer = (them.to_old)(&galley, &mut vec![0; room]);
+                assert_eq!(answer, [*number, *place, 0], "{} on {galley:02X?}", them.name);
+            }
+        }
+    }
+    // 40 by the limit of the form, before a bad first byte.
+    let zeros = vec![0; spatecanter::GALLEY_LIMIT + 1];
+    for them in [LIBRARY, QUICK] {
+        assert_eq!((them.to_new)(&zeros[..spatecanter::OLD_GALLEY_LIMIT + 1], &mut []), [40, 0, 0]);
+        assert_eq!((them.to_new)(&zeros[..spatecanter::OLD_GALLEY_LIMIT], &mut []), [41, 0, 0]);
+        assert_eq!((them.to_old)(&zeros, &mut []), [40, 0, 0]);
+        assert_eq!((them.to_old)(&zeros[1..], &mut []), [41, 0, 0]);
+    }
+}
+
 /// The start of a first page, number 1.
 const BOP: &str = "81 00 00 00 01 FF FF FF FF ";
 

@@ -69,6 +69,17 @@ fn the_chart_is_made_by_the_generator() {
     assert_eq!(spatecanter::reprint(&galley, &[]), Err(refused));
 }
 
+/// The galley of the three pages in the old form.
+#[test]
+fn the_shelf_is_converted() {
+    let shelf = sample("shelf.galley");
+    assert_eq!(spatecanter::check_galley(&shelf), Err(Refusal { number: 41, place: 0 }));
+    let galley = spatecanter::read_tape(&sample("pages.tape"), Machine::Eight).unwrap();
+    assert_eq!((shelf.len(), galley.len()), (5_665, 6_921));
+    assert!(spatecanter::galley_to_new(&shelf).unwrap() == galley);
+    assert!(spatecanter::galley_to_old(&galley).unwrap() == shelf);
+}
+
 #[test]
 fn the_damaged_tape_has_lost_a_bit() {
     let (tape, damaged) = (sample("yearbook.tape"), sample("damaged.tape"));

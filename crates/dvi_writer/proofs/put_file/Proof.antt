@@ -5,6 +5,7 @@ use borrow.Author.Needs.{needs}
 use Rattle.octets.specs.Write.{length-wrote}
 use Rattle.dvi.specs.Writer.{firstPress}
 use Rattle.dvi.specs.WriterLaws.{itemsBytes-most, length-pages, length-file}
+use Rattle.galley_file.specs.declared.form.Form.the-variants.{New}
 use Rattle.galley_file.specs.Galley.{itemsOf}
 use Rattle.dvi_writer.proofs.Galleys.{few}
 use Rattle.dvi_writer.proofs.Results.{pst-is, post-room, file-is}
@@ -14,13 +15,13 @@ use Rattle.dvi_writer.proofs.put_file.Tie as tie
 put-pages-requires : tie.Need-put-pages-requires
 put-pages-requires c κs =
     let s = c .before .before .before in
-    let is = itemsOf (s .args .g .now) in
+    let is = itemsOf New (s .args .g .now) in
     (s .pre .0, omega (arith, s .pre .1 .1, length-pages is, length-file is))
 
 put-postamble-requires : tie.Need-put-postamble-requires
 put-postamble-requires c κs =
     let s = c .before .before .before .before .before .before .before in
-    let is = itemsOf (s .args .g .now) in
+    let is = itemsOf New (s .args .g .now) in
     let p = c .before .before .before .put-pages .ensures in (
       omega (arith, s .pre .1 .1, post-room _ _ (s .pre .1 .0) _ _ _ _ (p .0) (p .1), length-wrote (p .0)),
       omega (arith, pst-is _ _ (s .pre .1 .0) _ _ _ _ (p .0) (p .1), length-pages is, itemsBytes-most firstPress is, few _ _ (s .pre .0)),

@@ -8,6 +8,7 @@ use lib.ListN.{length}
 use Rattle.octets.specs.Answer.{outcome, after}
 use Rattle.dvi.specs.Writer.{firstPress, dviFile}
 use Rattle.dvi.specs.WriterLaws.{itemsBytes-most}
+use Rattle.galley_file.specs.declared.form.Form.the-variants.{New}
 use Rattle.galley_file.specs.Galley.{itemsOf}
 use Rattle.dvi_writer.proofs.Galleys.{few}
 use Rattle.dvi_writer.proofs.Results.{file-length, no-room, with-room}
@@ -17,9 +18,9 @@ use Rattle.dvi_writer.proofs.write_checked.Tie as tie
 small : (c : tie.After-extents-of) → c .extents-of .result .length ≤ 17825792
 small c =
     let s = c .before .before .before in
-    omega (arith, c .extents-of .ensures .length-is, itemsBytes-most firstPress (itemsOf (s .args .g .now)), few _ _ (s .pre))
+    omega (arith, c .extents-of .ensures .length-is, itemsBytes-most firstPress (itemsOf New (s .args .g .now)), few _ _ (s .pre))
 
-needed-is : (c : tie.After-count) → 36 + c .before .before .extents-of .result .length + 14 * c .count .result ≡ length (dviFile (itemsOf (c .before .before .before .before .before .args .g .now)))
+needed-is : (c : tie.After-count) → 36 + c .before .before .extents-of .result .length + 14 * c .count .result ≡ length (dviFile (itemsOf New (c .before .before .before .before .before .args .g .now)))
 needed-is c = omega (arith, c .count .ensures .0, file-length _ _ (c .before .before .extents-of .ensures))
 
 extents-of-requires : tie.Need-extents-of-requires

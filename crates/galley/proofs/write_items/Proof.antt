@@ -6,6 +6,7 @@ use Prim.Native.Nat.{ℕ, _+_, _-_, _≤_, _<_}
 use native.Mathlib.Omega.{arith}
 use borrow.Author.Needs.{needs}
 use lib.ListN.{length}
+use Rattle.galley_file.specs.declared.form.Form.the-variants.{New}
 use Rattle.galley_file.specs.declared.item.Item.{Item}
 use Rattle.galley_file.specs.Item.{itemSize, itemAt}
 use Rattle.galley_file.specs.ItemLaws.{size-least}
@@ -17,11 +18,11 @@ use Rattle.galley.proofs.write_items.Tie as tie
 
 record Listed (g : List ℕ) (at : ℕ) : Type 0 where
   done : List Item
-  midway : Midway g (itemsOf g) done at
+  midway : Midway New g (itemsOf New g) done at
 
 -- past the next item
-onward : (g : List ℕ) (at : ℕ) (l : Listed g at) → at + 7 < length g → (i : Item) → i ≡ itemAt g at → Onward g (itemsOf g) (l .done) at i
-onward g at l h i e = subst (Onward g (itemsOf g) (l .done) at) (sym e) (midway-next g (itemsOf g) (l .done) at (l .midway) h)
+onward : (g : List ℕ) (at : ℕ) (l : Listed g at) → at + 7 < length g → (i : Item) → i ≡ itemAt New g at → Onward New g (itemsOf New g) (l .done) at i
+onward g at l h i e = subst (Onward New g (itemsOf New g) (l .done) at) (sym e) (midway-next New g (itemsOf New g) (l .done) at (l .midway) h)
 
 abbrev Inv-loop : tie.InvT-loop
 Inv-loop g count at₀ at = Listed g at
@@ -30,16 +31,16 @@ abbrev μ-loop : tie.MeasureT-loop
 μ-loop g count at₀ at = length g - at
 
 loop-holds : tie.Need-loop-holds Inv-loop μ-loop
-loop-holds c = record { done = []; midway = midway-start _ _ (read-as _ _ (c .before .pre)) }
+loop-holds c = record { done = []; midway = midway-start New _ _ (read-as New _ _ (c .before .pre)) }
 
 add-loop : tie.Need-add-loop Inv-loop μ-loop
 add-loop c =
     let s = c .before .before in
     let l = c .loop .inv in
-    omega (arith, midway-inside _ _ (l .done) _ (l .midway), checked _ _ (s .pre) .fits)
+    omega (arith, midway-inside New _ _ (l .done) _ (l .midway), checked New _ _ (s .pre) .fits)
 
 item-at-requires : tie.Need-item-at-requires Inv-loop μ-loop
-item-at-requires c κs = let l = c .before .loop .inv in midway-whole _ _ (l .done) _ (l .midway) (c .loop-test .taken)
+item-at-requires c κs = let l = c .before .loop .inv in midway-whole New _ _ (l .done) _ (l .midway) (c .loop-test .taken)
 
 write-item-requires : tie.Need-write-item-requires Inv-loop μ-loop
 write-item-requires c κs = search needs
@@ -53,10 +54,10 @@ inside c =
     omega (arith, onward _ _ (c .before .before .before .before .loop .inv) (c .before .before .before .loop-test .taken) _ (c .before .before .item-at .ensures) .room, c .item-size .ensures)
 
 add-at : tie.Need-add-at Inv-loop μ-loop
-add-at c = omega (arith, inside c, checked _ _ (c .before .before .before .before .before .before .pre) .fits)
+add-at c = omega (arith, inside c, checked New _ _ (c .before .before .before .before .before .before .pre) .fits)
 
 loop-less : tie.Need-loop-less Inv-loop μ-loop
-loop-less c = omega (arith, inside c, c .item-size .ensures, size-least (c .before .before .item-at .result))
+loop-less c = omega (arith, inside c, c .item-size .ensures, size-least New (c .before .before .item-at .result))
 
 loop-again : tie.Need-loop-again Inv-loop μ-loop
 loop-again c =

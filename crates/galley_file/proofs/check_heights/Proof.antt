@@ -6,7 +6,7 @@ use native.Mathlib.Omega.{arith}
 use borrow.Author.Needs.{needs}
 use borrow.Author.Tests.{not-true, not-false}
 use lib.ListN.{length}
-use Rattle.galley_file.specs.Galley.{maxGalley}
+use Rattle.galley_file.specs.declared.form.Form.the-variants.{New}
 use Rattle.galley_file.specs.GalleyLaws.{checked}
 use Rattle.galley_file.specs.ItemLaws.{size-least}
 use Rattle.galley_file.proofs.Heights.{Lower, lower-start, lower-inside, lower-whole, lower-size, lower-next, lower-high, lower-end}
@@ -23,7 +23,7 @@ loop-holds : tie.Need-loop-holds Inv-loop μ-loop
 loop-holds c = lower-start _ _ (c .before .pre)
 
 add-loop : tie.Need-add-loop Inv-loop μ-loop
-add-loop c = omega (arith, lower-inside _ _ (c .loop .inv), checked _ _ (c .before .before .pre) .fits)
+add-loop c = omega (arith, lower-inside _ _ (c .loop .inv), checked New _ _ (c .before .before .pre) .fits)
 
 item-at-requires : tie.Need-item-at-requires Inv-loop μ-loop
 item-at-requires c κs = lower-whole _ _ (c .before .loop .inv) (c .loop-test .taken)
@@ -47,10 +47,10 @@ inside c =
     omega (arith, lower-size _ _ (l .loop .inv) (c .before .before .before .before .loop-test .taken) _ (c .before .before .before .item-at .ensures), c .item-size .ensures)
 
 add-at : tie.Need-add-at Inv-loop μ-loop
-add-at c = omega (arith, inside c, checked _ _ (c .before .before .before .before .before .before .before .pre) .fits)
+add-at c = omega (arith, inside c, checked New _ _ (c .before .before .before .before .before .before .before .pre) .fits)
 
 loop-less : tie.Need-loop-less Inv-loop μ-loop
-loop-less c = omega (arith, inside c, c .item-size .ensures, size-least (c .before .before .before .item-at .result))
+loop-less c = omega (arith, inside c, c .item-size .ensures, size-least New (c .before .before .before .item-at .result))
 
 loop-again : tie.Need-loop-again Inv-loop μ-loop
 loop-again c =

@@ -8,7 +8,8 @@ use lib.ListN.{length}
 use borrow.Author.Needs.{needs}
 use Rattle.octets.specs.Answer.{accepted}
 use Rattle.galley_file.specs.declared.item.Item.the-variants.{Placed, Cut}
-use Rattle.galley_file.specs.Galley.{maxGalley}
+use Rattle.galley_file.specs.declared.form.Form.the-variants.{New}
+use Rattle.galley_file.specs.Form.{maxGalley}
 use Rattle.galley_file.specs.Outcome.{checkOutcome, found}
 use Rattle.galley_file.proofs.Back.{Passing, passing-start, passing-whole, passing-next, passing-found, passing-none}
 use Rattle.galley_file.proofs.find_character.Statement.{statement}
@@ -24,7 +25,7 @@ loop-holds : tie.Need-loop-holds Inv-loop μ-loop
 loop-holds c = passing-start _ _ _ (c .before .pre)
 
 -- the place is in the galley
-inside : {g : List ℕ} {n left at : ℕ} → Passing g n left at → at ≤ maxGalley
+inside : {g : List ℕ} {n left at : ℕ} → Passing g n left at → at ≤ maxGalley New
 inside p = omega (arith, p .midway .walk .inside, p .fits)
 
 add-loop : tie.Need-add-loop Inv-loop μ-loop

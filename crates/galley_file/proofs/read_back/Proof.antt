@@ -3,6 +3,7 @@
 use mathlib.Core.Path.{_≡_, sym, ap, _∙_}
 use native.Mathlib.Omega.{arith}
 use borrow.Author.Needs.{needs}
+use Rattle.galley_file.specs.declared.form.Form.the-variants.{New}
 use Rattle.galley_file.specs.Outcome.{checkOutcome, found}
 use Rattle.octets.specs.Answer.{accepted, outcomeOf}
 use Rattle.galley_file.proofs.Back.{back-refused, back-few, back-room, back-found, back-none}
@@ -19,7 +20,7 @@ enum-known-checked-2 : tie.Need-enum-known-checked-2
 enum-known-checked-2 c = search needs
 
 -- the answer of the check, in the arm for an accepted galley
-counted : (c : tie.After-checked2) → accepted (c .checked2 .given .0 .0) ≡ checkOutcome (c .before .before .before .before .args .g .now)
+counted : (c : tie.After-checked2) → accepted (c .checked2 .given .0 .0) ≡ checkOutcome New (c .before .before .before .before .args .g .now)
 counted c = sym (ap outcomeOf (c .checked2 .given .1)) ∙ c .before .before .check-galley .ensures
 
 returns : tie.Need-returns

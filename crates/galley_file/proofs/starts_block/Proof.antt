@@ -3,28 +3,40 @@
 -- Assumes nothing.
 use mathlib.Core.Path.{_≡_, refl, sym, ap, _∙_}
 use Prim.Native.Nat.{ℕ, _-_, _*_, _≤_}
+use lib.ListN.{length, take, drop}
 use native.Mathlib.Omega.{arith}
 use borrow.Author.Needs.{needs}
 use borrow.Author.Tests.{not-false}
+use Rattle.galley_file.specs.Form.{characterSize}
+use Rattle.galley_file.specs.FormLaws.{size-times}
+use Rattle.galley_file.specs.Character.{isCharacter}
 use Rattle.galley_file.specs.Span.{Block}
 use Rattle.galley_file.proofs.Reading.{span-none, block-fits, block-next}
 use Rattle.galley_file.proofs.starts_block.Statement.{statement}
 use Rattle.galley_file.proofs.starts_block.Tie as tie
 
 abbrev Inv-loop : tie.InvT-loop
-Inv-loop s i₀ i = (i ≤ 64) × Block i s
+Inv-loop f s size i₀ i = (i ≤ 64) × Block f i s
 
 abbrev μ-loop : tie.MeasureT-loop
-μ-loop s i₀ i = 64 - i
+μ-loop f s size i₀ i = 64 - i
+
+character-size-requires : tie.Need-character-size-requires Inv-loop μ-loop
+character-size-requires c κs = search needs
 
 loop-holds : tie.Need-loop-holds Inv-loop μ-loop
-loop-holds c = (omega arith, span-none 0 _ refl)
+loop-holds c = (omega arith, span-none _ 0 _ refl)
+
+-- where the next field starts
+module _ (c : tie.In-loop Inv-loop μ-loop) where
+  start-is : c .before .before .character-size .result * c .before .loop .i ≡ characterSize (c .before .before .before .before .args .f) * c .before .loop .i
+  start-is = ap (λ (n : ℕ). n * c .before .loop .i) (c .before .before .character-size .ensures .0)
 
 mul-start : tie.Need-mul-start Inv-loop μ-loop
-mul-start c = omega arith
+mul-start c = omega (arith, start-is c, size-times (c .before .before .before .before .args .f) (c .before .loop .i), c .loop-test .taken)
 
 sub-is-character : tie.Need-sub-is-character Inv-loop μ-loop
-sub-is-character c = block-fits _ _ (c .before .loop .inv .1)
+sub-is-character c = omega (arith, start-is c, block-fits _ _ _ (c .before .loop .inv .1))
 
 part-is-character-start : tie.Need-part-is-character-start Inv-loop μ-loop
 part-is-character-start c = sub-is-character c
@@ -46,8 +58,12 @@ loop-less c = omega arith
 
 loop-again : tie.Need-loop-again Inv-loop μ-loop
 loop-again c =
-    let i = c .before .before .before .before .loop in
-    (omega arith, block-next (i .i) _ (i .inv .1) (sym (c .before .is-character .ensures) ∙ not-false _ (c .if1 .left)))
+    let k = c .before .before .before in
+    let i = k .before .loop in
+    let a = k .before .before .before .before .args in
+    let s = a .s .now in
+    let here = ap (λ (n : ℕ). isCharacter (a .f) (take (length s - n) (drop n s))) (start-is k) in
+    (omega arith, block-next (a .f) (i .i) s (i .inv .1) (sym here ∙ sym (c .before .is-character .ensures) ∙ not-false _ (c .if1 .left)))
 
 returns-2 : tie.Need-returns-2 Inv-loop μ-loop
 returns-2 c e =
@@ -61,6 +77,7 @@ starts-block-spec =
     (tie.spec
     Inv-loop
     μ-loop
+    character-size-requires
     loop-holds
     mul-start
     sub-is-character

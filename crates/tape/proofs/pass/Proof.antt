@@ -9,6 +9,7 @@ use borrow.Author.Needs.{needs}
 use lib.ListN.{length, getD}
 use mir.Syntax.{w64}
 use mir.Val.{Fits}
+use Rattle.galley_file.specs.declared.form.Form.the-variants.{New}
 use Rattle.galley_file.specs.declared.item.Item.{Item}
 use Rattle.galley_file.specs.Item.{itemSize, tally}
 use Rattle.tape.specs.declared.machine.State.{State}
@@ -81,7 +82,7 @@ module _ (c : tie.After-place Inv-loop μ-loop) where
     moved = let a = start .args in going-moved (a .first) (a .at) (a .tape .now) (a .out .now) (a .writing) out now count cuts i going h
 
     module _ {e : Effect} {x : Item} {t : State} (q : effectOf now code ≡ e) (m : Sets now e x t) where
-      room : start .args .writing ≡ true → 11 * count + cuts + itemSize x ≤ length out
+      room : start .args .writing ≡ true → 11 * count + cuts + itemSize New x ≤ length out
       room = let a = start .args in going-room (a .first) (a .at) (a .tape .now) (a .out .now) (a .writing) out now count cuts i going h q m (start .pre .1)
 
       set : (next : List ℕ) → length next ≡ length out → next ≡ putAt (start .args .writing) count cuts x out → (n k : ℕ) → n ≡ count + tally x → k + 3 * tally x ≡ cuts + 3

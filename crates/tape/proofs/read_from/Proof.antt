@@ -9,6 +9,7 @@ use borrow.Author.Needs.{needs}
 use lib.ListN.{length}
 use lib.Seq.{sets}
 use Rattle.octets.specs.Answer.{accepted, outcome, after}
+use Rattle.galley_file.specs.declared.form.Form.the-variants.{New}
 use Rattle.galley_file.specs.Galley.{fields}
 use Rattle.octets.specs.Answer.{outcome, after}
 use Rattle.tape.specs.Tape.{run}
@@ -32,7 +33,7 @@ enum-known-ending-2 : tie.Need-enum-known-ending-2
 enum-known-ending-2 c = search needs
 
 -- the bytes of the fields that the first pass has counted
-bytes-counted : (c : tie.After-pass) → 11 * (c .pass .result .count) + c .pass .result .cuts ≡ length (fields (run (c .before .before .before .before .args .first) 0 (c .before .before .before .before .args .tape .now) .items))
+bytes-counted : (c : tie.After-pass) → 11 * (c .pass .result .count) + c .pass .result .cuts ≡ length (fields New (run (c .before .before .before .before .args .first) 0 (c .before .before .before .before .args .tape .now) .items))
 bytes-counted c = fields-counted _ _ _ (c .pass .ensures .counted) (c .pass .ensures .parted)
 
 same-length : tie.Need-same-length
@@ -90,7 +91,7 @@ returns-3 c =
     let room : 11 * p .result .count + p .result .cuts + 7 ≤ length (a .galley .now) = omega (arith, t .if3 .left, ap length same) in
     let q = read-whole (a .first) (a .tape .now) (length (a .galley .now)) _ e (c .before .before .before .before .before .before .before .before .before .before .if1 .left) (c .before .before .before .before .before .before .before .before .before .if2 .taken) _ n room in
     let is = run (a .first) 0 (a .tape .now) .items in
-    let w = m .ensures .buffer ∙ ap (λ (g : List ℕ). sets g 0 (fields is)) same in (
+    let w = m .ensures .buffer ∙ ap (λ (g : List ℕ). sets g 0 (fields New is)) same in (
       ap accepted (sym (needed (a .first) (a .tape .now) (length (a .galley .now)) _ e (c .before .before .before .before .before .before .before .before .before .before .if1 .left) (c .before .before .before .before .before .before .before .before .before .if2 .taken) _ n)) ∙ sym (ap outcome q),
       filled is (p .result .count) _ (a .galley .now) (m .last .1 .1 .1 .0) (c .before .before .put-end .last .0) (p .ensures .counted) n room w (c .before .before .put-end .ensures .buffer-is)
           ∙ sym (ap (after (a .galley .now)) q),

@@ -17,6 +17,8 @@ pub struct Arguments {
     pub page: Option<OsString>,
     /// --machine
     pub machine: Option<OsString>,
+    /// --to
+    pub to: Option<OsString>,
 }
 
 /// Whether --help or -h is among the options.
@@ -68,6 +70,7 @@ impl Arguments {
             "-d" => Some(&mut self.folder),
             "--page" => Some(&mut self.page),
             "--machine" => Some(&mut self.machine),
+            "--to" => Some(&mut self.to),
             _ => None,
         }
     }

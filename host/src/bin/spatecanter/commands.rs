@@ -1,13 +1,14 @@
 //! The commands.
 
 use crate::arguments::Arguments;
+use crate::explain::{self, Form};
 use crate::failure::Failure;
 use crate::files::{self, Output, NO_LIMIT};
 use crate::summary::Summary;
 use crate::text::{self, grouped};
-use crate::{explain, help, plot, progress};
+use crate::{help, plot, progress};
 use spatecanter::galley::characters;
-use spatecanter::{sheet, Machine, Reprint, DVI_LIMIT, GALLEY_LIMIT, TAPE_LIMIT};
+use spatecanter::{sheet, Machine, Reprint, DVI_LIMIT, GALLEY_LIMIT, OLD_GALLEY_LIMIT, TAPE_LIMIT};
 use std::ffi::OsStr;
 use std::fs;
 use std::ops::Range;
@@ -21,7 +22,7 @@ pub struct Command {
     pub run: fn(&Arguments) -> Result<(), Failure>,
 }
 
-pub const COMMANDS: [Command; 8] = [
+pub const COMMANDS: [Command; 9] = [
     Command {
         name: "read",
         usage: "read TAPE [--machine 4|8] [-o GALLEY]",
@@ -54,9 +55,17 @@ pub const COMMANDS: [Command; 8] = [
         help: help::PLOT,
         run: draw,
     },
+    Command {
+        name: "convert",
+        usage: CONVERT_USAGE,
+        options: &["--to", "-o"],
+        help: help::CONVERT,
+        run: convert,
+    },
 ];
 
 const REPRINT_USAGE: &str = "reprint TAPE [--machine 4|8] -d FOLDER";
+const CONVERT_USAGE: &str = "convert --to new|old GALLEY [-o GALLEY]";
 
 fn read(arguments: &Arguments) -> Result<(), Failure> {
     let machine = machine(arguments)?;
@@ -160,7 +169,7 @@ fn draw(arguments: &Arguments) -> Result<(), Failure> {
     let output = Output::choose(arguments.output.as_deref(), &[&arguments.input], "svg")?;
     let bytes = files::read(&arguments.input, GALLEY_LIMIT)?;
     let galley = match bytes.first() {
-        Some(2 | 6 | 7) => {
+        Some(1 | 2 | 6 | 7) => {
             spatecanter::check_galley(&bytes)
                 .map_err(|refusal| explain::galley(&arguments.input, &bytes, refusal))?;
             bytes
@@ -187,6 +196,40 @@ fn chosen(page: Option<&OsStr>, pages: usize) -> Result<Range<usize>, Failure> {
             "--page {} is no page: there are {}, counted from 1",
             word.to_string_lossy(),
             grouped(pages)
+        ))),
+    }
+}
+
+fn convert(arguments: &Arguments) -> Result<(), Failure> {
+    let to = form(arguments)?;
+    let (from, limit, extension) = match to {
+        Form::New => (Form::Old, OLD_GALLEY_LIMIT, "new.galley"),
+        Form::Old => (Form::New, GALLEY_LIMIT, "old.galley"),
+    };
+    let output = Output::choose(arguments.output.as_deref(), &[&arguments.input], extension)?;
+    let galley = files::read(&arguments.input, limit)?;
+    let converted = progress::during("converting the galley", || match to {
+        Form::New => spatecanter::galley_to_new(&galley),
+        Form::Old => spatecanter::galley_to_old(&galley),
+    })
+    .map_err(|refusal| explain::galley_of_form(from, &arguments.input, &galley, refusal))?;
+    output.write(&converted)?;
+    output.tell(&format!("{} bytes", grouped(converted.len())));
+    Ok(())
+}
+
+/// The form that --to names.
+fn form(arguments: &Arguments) -> Result<Form, Failure> {
+    let Some(word) = &arguments.to else {
+        let what = format!("convert needs --to new or --to old\nUsage: spatecanter {CONVERT_USAGE}");
+        return Err(Failure::Usage(what));
+    };
+    match word.to_str() {
+        Some("new") => Ok(Form::New),
+        Some("old") => Ok(Form::Old),
+        _ => Err(Failure::Usage(format!(
+            "--to {} is no form of a galley: it is new or old",
+            word.to_string_lossy()
         ))),
     }
 }

@@ -3,9 +3,16 @@
 use crate::failure::Failure;
 use crate::files::shown;
 use crate::text::grouped;
-use spatecanter::galley::{characters, items};
+use spatecanter::galley::characters;
 use spatecanter::{number, Machine, Refusal, ITEM_LIMIT};
 use std::ffi::OsStr;
+
+/// The form of a galley: its characters have tag 1 and two bytes for the height, or tag 7 and four.
+#[derive(Clone, Copy)]
+pub enum Form {
+    Old,
+    New,
+}
 
 pub fn tape(name: &OsStr, tape: &[u8], machine: Machine, refusal: Refusal) -> Failure {
     let mut lines = vec![format!("{}: {refusal}", shown(name))];
@@ -20,10 +27,15 @@ pub fn tape(name: &OsStr, tape: &[u8], machine: Machine, refusal: Refusal) -> Fa
 }
 
 pub fn galley(name: &OsStr, galley: &[u8], refusal: Refusal) -> Failure {
+    galley_of_form(Form::New, name, galley, refusal)
+}
+
+/// A galley that was taken for one of this form.
+pub fn galley_of_form(form: Form, name: &OsStr, galley: &[u8], refusal: Refusal) -> Failure {
     let mut lines = vec![format!("{}: {refusal}", shown(name))];
     let rest = &galley[refusal.place.min(galley.len())..];
     let expected = match refusal.number {
-        number::GALLEY_MALFORMED => Some(expected_field(galley, refusal.place)),
+        number::GALLEY_MALFORMED => Some(expected_field(form, galley, refusal.place)),
         number::TOO_HIGH => Some(expected_height(rest)),
         _ => None,
     };
@@ -148,24 +160,60 @@ fn standing(start: &[u8], machine: Machine) -> Option<(i32, i32)> {
     characters(&galley).last().map(|character| (character.x, character.height))
 }
 
-/// What is wrong with the first bad field of a galley.
-fn expected_field(galley: &[u8], place: usize) -> String {
+/// What is wrong with the first bad field of a galley of this form.
+fn expected_field(form: Form, galley: &[u8], place: usize) -> String {
     let (before, rest) = galley.split_at(place.min(galley.len()));
-    let (items, characters) = (items(before).count(), characters(before).count());
-    let cuts = items - characters;
-    match rest {
-        _ if 11 * characters + 3 * cuts < before.len() => "the end of the file, since End was read".into(),
-        [2, 0, 4, _, _, _, _, ..] => format!("an End that counts {} characters", grouped(characters)),
-        _ if items == ITEM_LIMIT => {
-            format!("End (02 00 04 ...), after {} characters and cuts", grouped(items))
+    let Run { characters, cuts, ended } = run_of(before);
+    match (form, rest) {
+        _ if ended => "the end of the file, since End was read".into(),
+        (_, [2, 0, 4, _, _, _, _, ..]) => format!("an End that counts {} characters", grouped(characters)),
+        _ if characters + cuts == ITEM_LIMIT => {
+            format!("End (02 00 04 ...), after {} characters and cuts", grouped(ITEM_LIMIT))
         }
-        [7, 0, 8, _, _, height1, height2, height3, height4, font_number, code, ..] => {
+        (Form::New, [7, 0, 8, _, _, height1, height2, height3, height4, font_number, code, ..]) => {
             let height = u32::from_be_bytes([*height1, *height2, *height3, *height4]);
             expected_character(height, *font_number, *code).into()
         }
-        [7, 0, 8, ..] | [2, 0, 4, ..] => "the rest of the field, which is cut short".into(),
-        _ => "a character (07 00 08 ...), a cut (06 00 00) or End (02 00 04 ...)".into(),
+        (Form::Old, [1, 0, 6, _, _, height1, height2, font_number, code, ..]) => {
+            let height = u16::from_be_bytes([*height1, *height2]);
+            expected_character(height.into(), *font_number, *code).into()
+        }
+        (Form::New, [7, 0, 8, ..]) | (Form::Old, [1, 0, 6, ..]) | (_, [2, 0, 4, ..]) => {
+            "the rest of the field, which is cut short".into()
+        }
+        (Form::New, [1, ..]) => {
+            "a character (07 00 08 ...); tag 1 is the old form, see spatecanter convert --to new".into()
+        }
+        (Form::Old, [7, ..]) => {
+            "a character (01 00 06 ...); tag 7 is the new form, see spatecanter convert --to old".into()
+        }
+        (Form::New, _) => "a character (07 00 08 ...), a cut (06 00 00) or End (02 00 04 ...)".into(),
+        (Form::Old, _) => "a character (01 00 06 ...), a cut (06 00 00) or End (02 00 04 ...)".into(),
     }
+}
+
+/// What stands before the first bad field: how many characters and cuts, and whether End.
+#[derive(Default)]
+struct Run {
+    characters: usize,
+    cuts: usize,
+    ended: bool,
+}
+
+/// Good fields of one form.
+fn run_of(fields: &[u8]) -> Run {
+    let mut run = Run::default();
+    let mut rest = fields;
+    while let [tag, high, low, after @ ..] = rest {
+        match tag {
+            6 => run.cuts += 1,
+            2 => run.ended = true,
+            _ => run.characters += 1,
+        }
+        let length = usize::from(u16::from_be_bytes([*high, *low]));
+        rest = &after[length.min(after.len())..];
+    }
+    run
 }
 
 fn expected_character(height: u32, font_number: u8, code: u8) -> &'static str {
@@ -182,10 +230,10 @@ fn expected_character(height: u32, font_number: u8, code: u8) -> &'static str {
     }
 }
 
-/// What DVI asks of the height of the character that comes first in a rest.
+/// What DVI and the old form ask of the height of the character that comes first in a rest.
 fn expected_height(rest: &[u8]) -> String {
     let height = characters(rest).next().map_or(0, |character| character.height as usize);
-    format!("a height of at most 65,535, to be set as DVI; it is {}", grouped(height))
+    format!("a height of at most 65,535; it is {}", grouped(height))
 }
 
 fn command_in_words(command: u8) -> String {

@@ -2,7 +2,7 @@
 
 pub const WHOLE: &str = "\
 C/A/T phototypesetter tapes to galleys, galleys to DVI files of 1980, and DVI files to
-sheets.
+sheets; and old galleys to new ones and back.
 
 Usage: spatecanter COMMAND ...
 
@@ -14,12 +14,16 @@ Usage: spatecanter COMMAND ...
   sheet SHEET                           a sheet as text
   reprint TAPE -d FOLDER                a tape to galley, DVI file and sheet, with a summary
   plot TAPE|GALLEY [--page N] [-o SVG]  a picture of the pages
+  convert --to new|old GALLEY           an old galley to a new one, or back
 
   COMMAND --help                        more about a command
   --version                             the version
 
 Machines. A tape does not say whether its machine had 4 or 8 fonts: read, reprint and plot
 take --machine 4 or --machine 8. Without it the machine has 8.
+
+Old galleys. Characters once had tag 1, and heights of two bytes. Only convert takes such a
+galley; all other commands take and make the new form, with tag 7 and four bytes.
 
 Files. - is standard input or standard output. Without -o the output is named after the
 input, with .galley, .dvi, .sheet or .svg for its extension; if the input is standard input,
@@ -158,10 +162,28 @@ Usage: spatecanter plot TAPE|GALLEY [--machine 4|8] [--page N] [-o SVG]
 Font 1 is blue and upright, font 2 orange and slanted, other fonts grey; marks of double
 sizes are larger. The legend tells how many there are. A file that begins with byte 02, 06 or
 07 is read as a galley, any other as a tape; no tape and no galley is taken for the other.
---machine is that of read; a galley has its fonts already, whatever it says. Refusals are
-those of read and check.
+Byte 01 begins an old galley, which is refused: convert it first. --machine is that of read;
+a galley has its fonts already, whatever it says. Refusals are those of read and check.
 
 The picture has the size of the pages, with rulers in inches: a column of 1,000,000 quanta
 makes it 6,945 inches high. With --page only that page is drawn, counted from 1. Without -o
 the picture of page.tape is page.svg.
+";
+
+pub const CONVERT: &str = "\
+Writes a galley of the old form in the new form, or back. Each character keeps its x, height,
+font and number; order, cuts and End stay. There and back gives the same bytes.
+
+Usage: spatecanter convert --to new|old GALLEY [-o GALLEY]
+
+The forms differ in the field of a character:
+  old  01 00 06, x (2 bytes), height (2), font number (1), character (1)
+  new  07 00 08, x (2 bytes), height (4), font number (1), character (1)
+
+Numbers:
+  40  the galley is longer than 9,437,191 bytes in the old form, 11,534,343 in the new; at 0
+  41  it is malformed by the rules of its form; at a place as in check
+  43  to the old form: a height above 65,535; at the field of the first such character
+
+Without -o the new form of page.galley is page.new.galley, its old form page.old.galley.
 ";

@@ -5,7 +5,9 @@ mod galley;
 mod tape;
 
 pub use dvi::{dvi_file, valid_dvi_file};
-pub use galley::{galley, tall_galley, valid_galley, valid_galley_with_cuts};
+pub use galley::{
+    galley, galley_of, tall_galley, valid_galley, valid_galley_with_cuts, valid_old_galley, Form,
+};
 pub use tape::{tape, valid_tape};
 
 use spatecanter::sample::Random;

@@ -1,6 +1,18 @@
-//! A galley is checked and read back.
+//! A galley is checked and read back, in its new form or its old.
 
 use super::{field, Refused};
+
+/// A form of galleys: the tag of a character, the bytes and the limit of its height, the longest galley.
+#[derive(Clone, Copy)]
+pub struct Form {
+    tag: u8,
+    height_bytes: usize,
+    highest: u32,
+    longest: usize,
+}
+
+pub const NEW: Form = Form { tag: 7, height_bytes: 4, highest: 1_000_000, longest: 11_534_343 };
+pub const OLD: Form = Form { tag: 1, height_bytes: 2, highest: 65_535, longest: 9_437_191 };
 
 #[derive(Clone, Copy, Debug, PartialEq)]
 pub struct Character {
@@ -11,29 +23,34 @@ pub struct Character {
 }
 
 impl Character {
-    fn field(&self) -> Vec<u8> {
+    fn field(&self, form: Form) -> Vec<u8> {
         let mut body = Vec::new();
         body.extend((self.x as i16).to_be_bytes());
-        body.extend(self.height.to_be_bytes());
+        body.extend(&self.height.to_be_bytes()[4 - form.height_bytes..]);
         body.push(self.font_number as u8);
         body.push(self.code as u8);
-        field(7, &body)
+        field(form.tag, &body)
     }
 
-    fn of(body: &[u8]) -> Character {
+    fn of(form: Form, body: &[u8]) -> Character {
+        let (place, rest) = body.split_at(2 + form.height_bytes);
+        let mut height = 0;
+        for &byte in &place[2..] {
+            height = 256 * height + u32::from(byte);
+        }
         Character {
-            x: i16::from_be_bytes([body[0], body[1]]).into(),
-            height: u32::from_be_bytes([body[2], body[3], body[4], body[5]]),
-            font_number: body[6].into(),
-            code: body[7].into(),
+            x: i16::from_be_bytes([place[0], place[1]]).into(),
+            height,
+            font_number: rest[0].into(),
+            code: rest[1].into(),
         }
     }
 
-    fn is_valid(&self) -> bool {
+    fn is_valid(&self, form: Form) -> bool {
         let doubled = self.font_number % 15 >= 9;
         let across = if doubled { -55..=3_184 } else { 0..=3_239 };
         across.contains(&self.x)
-            && self.height <= 1_000_000
+            && self.height <= form.highest
             && (0..=119).contains(&self.font_number)
             && (1..=108).contains(&self.code)
     }
@@ -47,19 +64,19 @@ pub enum Item {
 }
 
 impl Item {
-    pub fn field(&self) -> Vec<u8> {
+    fn field(&self, form: Form) -> Vec<u8> {
         match self {
-            Item::Character(character) => character.field(),
+            Item::Character(character) => character.field(form),
             Item::Cut => field(6, &[]),
         }
     }
 }
 
 /// The galley of these items; End counts the characters.
-pub fn galley_of(items: &[Item]) -> Vec<u8> {
+pub fn galley_of(form: Form, items: &[Item]) -> Vec<u8> {
     let mut galley = Vec::new();
     for item in items {
-        galley.extend(item.field());
+        galley.extend(item.field(form));
     }
     let count = characters(items).len() as u32;
     galley.extend(field(2, &count.to_be_bytes()));
@@ -68,11 +85,11 @@ pub fn galley_of(items: &[Item]) -> Vec<u8> {
 
 /// The number of characters.
 pub fn check_galley(galley: &[u8]) -> Result<usize, Refused> {
-    Ok(characters(&items(galley)?).len())
+    Ok(characters(&items(NEW, galley)?).len())
 }
 
 pub fn read_back(galley: &[u8], n: usize) -> Result<Character, Refused> {
-    characters(&items(galley)?).get(n).copied().ok_or((11, 0))
+    characters(&items(NEW, galley)?).get(n).copied().ok_or((11, 0))
 }
 
 fn characters(items: &[Item]) -> Vec<Character> {
@@ -85,8 +102,21 @@ fn characters(items: &[Item]) -> Vec<Character> {
     characters
 }
 
-pub fn items(galley: &[u8]) -> Result<Vec<Item>, Refused> {
-    if galley.len() > 11_534_343 {
+/// The items of a galley with no height above 65,535; else 43 at the first field that has one.
+pub fn low_items(galley: &[u8]) -> Result<Vec<Item>, Refused> {
+    let items = items(NEW, galley)?;
+    let mut place = 0;
+    for item in &items {
+        if matches!(item, Item::Character(character) if character.height > 65_535) {
+            return Err((43, place));
+        }
+        place += item.field(NEW).len();
+    }
+    Ok(items)
+}
+
+pub fn items(form: Form, galley: &[u8]) -> Result<Vec<Item>, Refused> {
+    if galley.len() > form.longest {
         return Err((40, 0));
     }
     let mut items = Vec::new();
@@ -106,9 +136,9 @@ pub fn items(galley: &[u8]) -> Result<Vec<Item>, Refused> {
         if items.len() == 1_048_576 && tag != 2 {
             return bad;
         }
-        if tag == 7 && length == 8 {
-            let character = Character::of(body);
-            if !character.is_valid() {
+        if tag == form.tag && length == 4 + form.height_bytes {
+            let character = Character::of(form, body);
+            if !character.is_valid(form) {
                 return bad;
             }
             items.push(Item::Character(character));

@@ -2,11 +2,13 @@
 //!
 //! Each operation gives the bytes it would write, or a refusal as (number, place).
 
+mod convert;
 mod dvi;
 mod galley;
 mod tape;
 mod writer;
 
+pub use convert::{to_new, to_old};
 pub use dvi::read_dvi;
 pub use galley::{check_galley, read_back, Character};
 pub use tape::read_tape;

@@ -1,6 +1,6 @@
 //! A tape becomes a galley.
 
-use super::galley::{galley_of, Character, Item};
+use super::galley::{galley_of, Character, Item, NEW};
 use super::Refused;
 
 struct Machine {
@@ -59,7 +59,7 @@ pub fn read_tape(tape: &[u8], fonts: u32) -> Result<Vec<u8>, Refused> {
     if !machine.stopped {
         return Err((9, tape.len()));
     }
-    Ok(galley_of(&items))
+    Ok(galley_of(NEW, &items))
 }
 
 impl Machine {

@@ -1,6 +1,6 @@
 //! A galley becomes a DVI file.
 
-use super::galley::{items, Item};
+use super::galley::{low_items, Item};
 use super::Refused;
 use std::collections::BTreeSet;
 
@@ -8,10 +8,7 @@ const POINTS: [&str; 15] =
     ["07", "08", "10", "11", "12", "14", "18", "09", "06", "16", "20", "22", "24", "28", "36"];
 
 pub fn write_dvi(galley: &[u8]) -> Result<Vec<u8>, Refused> {
-    let items = items(galley)?;
-    if let Some(place) = too_high(&items) {
-        return Err((43, place));
-    }
+    let items = low_items(galley)?;
     let mut dvi = Vec::new();
     let mut last_bop = -1_i32;
     let (mut widest, mut deepest) = (0, 0);
@@ -58,18 +55,6 @@ pub fn write_dvi(galley: &[u8]) -> Result<Vec<u8>, Refused> {
     dvi.extend(postamble.to_be_bytes());
     dvi.extend([0, 223, 223, 223, 223]);
     Ok(dvi)
-}
-
-/// The place of the first character with a height that DVI cannot hold.
-fn too_high(items: &[Item]) -> Option<usize> {
-    let mut place = 0;
-    for item in items {
-        if matches!(item, Item::Character(character) if character.height > 65_535) {
-            return Some(place);
-        }
-        place += item.field().len();
-    }
-    None
 }
 
 /// The whole number nearest to 32,768x/3: of the three next to it the one with three times itself

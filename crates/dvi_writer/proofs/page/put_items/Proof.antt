@@ -6,6 +6,7 @@ use Prim.Native.Nat.{ℕ, _+_, _-_, _≤_, _<_}
 use native.Mathlib.Omega.{arith}
 use borrow.Author.Needs.{needs}
 use lib.ListN.{length}
+use Rattle.galley_file.specs.declared.form.Form.the-variants.{New}
 use Rattle.galley_file.specs.Item.{itemSize, itemAt}
 use Rattle.galley_file.specs.ItemLaws.{size-least}
 use Rattle.dvi_writer.proofs.Galleys.{few, within, all-low}
@@ -42,13 +43,13 @@ item-size-requires c κs = search needs
 -- the next place is in the galley
 inside : (c : tie.After-item-size Inv-loop μ-loop) → c .before .before .before .before .before .before .before .loop .at + c .item-size .result + 7 ≤ length (c .before .before .before .before .before .before .before .before .before .before .before .args .g .now)
 inside c =
-    omega (arith, printed-size _ _ _ _ _ (c .before .before .before .before .before .before .before .loop .inv) (c .before .before .before .before .before .before .loop-test .taken), c .item-size .ensures, ap itemSize (c .before .before .before .before .before .item-at .ensures))
+    omega (arith, printed-size _ _ _ _ _ (c .before .before .before .before .before .before .before .loop .inv) (c .before .before .before .before .before .before .loop-test .taken), c .item-size .ensures, ap (itemSize New) (c .before .before .before .before .before .item-at .ensures))
 
 add-at : tie.Need-add-at Inv-loop μ-loop
 add-at c = omega (arith, inside c, within _ _ (c .before .before .before .before .before .before .before .before .before .before .before .pre .0))
 
 loop-less : tie.Need-loop-less Inv-loop μ-loop
-loop-less c = omega (arith, inside c, c .item-size .ensures, size-least (c .before .before .before .before .before .item-at .result))
+loop-less c = omega (arith, inside c, c .item-size .ensures, size-least New (c .before .before .before .before .before .item-at .result))
 
 loop-again : tie.Need-loop-again Inv-loop μ-loop
 loop-again c =

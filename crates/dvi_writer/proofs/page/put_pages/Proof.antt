@@ -11,6 +11,7 @@ use Rattle.octets.specs.Octets.{bytes, signedBytes}
 use Rattle.octets.specs.Write.{Wrote, then, length-wrote}
 use Rattle.dvi.specs.Writer.{bopBytes, Press, firstPress, itemsBytes, pressAll, pagesBytes}
 use Rattle.dvi.specs.WriterLaws.{length-pages}
+use Rattle.galley_file.specs.declared.form.Form.the-variants.{New}
 use Rattle.galley_file.specs.Galley.{itemsOf}
 use Rattle.dvi_writer.specs.Press.{pressOf}
 use Rattle.dvi_writer.proofs.page.put_pages.Statement.{statement}
@@ -25,20 +26,20 @@ ends-at : {o o′ bs : List ℕ} {i j k : ℕ} → Wrote o i bs o′ j → j ≡
 ends-at {o} {o′} {bs} {i} w e = subst (λ (n : ℕ). Wrote o i bs o′ n) e w
 
 put-bop-requires : tie.Need-put-bop-requires
-put-bop-requires c κs = let s = c .before .before .before in omega (arith, s .pre .1, length-pages (itemsOf (s .args .g .now)))
+put-bop-requires c κs = let s = c .before .before .before in omega (arith, s .pre .1, length-pages (itemsOf New (s .args .g .now)))
 
 put-items-requires : tie.Need-put-items-requires
 put-items-requires c κs =
     let s = c .before .before .before .before .before .before .before in
     let w = c .before .before .before .put-bop .ensures in
-    (s .pre .0, omega (arith, s .pre .1, length-pages (itemsOf (s .args .g .now)), length-wrote w))
+    (s .pre .0, omega (arith, s .pre .1, length-pages (itemsOf New (s .args .g .now)), length-wrote w))
 
 put-byte-requires : tie.Need-put-byte-requires
 put-byte-requires c κs =
     let s = c .before .before .before .before .before .before .before .before .before .before .before in
     let w = c .before .before .before .before .before .before .before .put-bop .ensures in
     let v = c .before .before .before .put-items .ensures .0 in
-    omega (arith, s .pre .1, length-pages (itemsOf (s .args .g .now)), v .next-is, length-wrote w, length-wrote v)
+    omega (arith, s .pre .1, length-pages (itemsOf New (s .args .g .now)), v .next-is, length-wrote w, length-wrote v)
 
 same-length : tie.Need-same-length
 same-length c = search needs

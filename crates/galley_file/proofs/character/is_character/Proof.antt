@@ -8,44 +8,72 @@ use lib.IntN.{pos}
 use lib.Signed.{leZ}
 use Rattle.integers.specs.Parts.{integers, false-leZ}
 use Rattle.octets.specs.Octets.{natAt}
-use Rattle.measure.specs.Place.{heightEnd}
+use Rattle.octets.specs.Field.{startsField}
 use Rattle.octets.specs.FieldLaws.{Starts, starts}
+use Rattle.galley_file.specs.Form.{characterTag, heightBytes, bodyBytes, greatestHeight}
+use Rattle.galley_file.specs.FormLaws.{form-sizes}
 use Rattle.galley_file.specs.Character.{characterAt, isCharacter}
 use Rattle.galley_file.specs.CharacterLaws.{too-high}
 use Rattle.galley_file.proofs.character.is_character.Statement.{statement}
 use Rattle.galley_file.proofs.character.is_character.Tie as tie
 
+character-tag-requires : tie.Need-character-tag-requires
+character-tag-requires c κs = search needs
+
+body-bytes-requires : tie.Need-body-bytes-requires
+body-bytes-requires c κs = search needs
+
 starts-field-requires : tie.Need-starts-field-requires
 starts-field-requires c κs = search needs
 
--- what the field's head tells
-head : (c : tie.Then1) → Starts 7 8 (c .before .before .before .args .s .now)
-head c = starts (sym (c .before .starts-field .ensures) ∙ c .if1 .taken)
+-- whether the field's head is a character's
+module _ (c : tie.After-starts-field) where
+  abbrev start : tie.Start
+  start = c .before .before .before .before
 
-nat4-at-requires : tie.Need-nat4-at-requires
-nat4-at-requires c κs = omega (arith, head c .long)
+  head-is : c .starts-field .result ≡ startsField (characterTag (start .args .f)) (bodyBytes (start .args .f)) (start .args .s .now)
+  head-is =
+      c .starts-field .ensures
+      ∙ (λ i. startsField (c .before .before .character-tag .ensures i) (c .before .body-bytes .ensures i) (start .args .s .now))
+
+-- what the head tells
+head : (c : tie.Then1) → let s = start (c .before) in Starts (characterTag (s .args .f)) (bodyBytes (s .args .f)) (s .args .s .now)
+head c = starts (sym (head-is (c .before)) ∙ c .if1 .taken)
+
+height-at-requires : tie.Need-height-at-requires
+height-at-requires c κs = let f = form-sizes (start (c .before) .args .f) in omega (arith, head c .long, f .body-is)
+
+height-limit-requires : tie.Need-height-limit-requires
+height-limit-requires c κs = search needs
 
 is-valid-first-requires : tie.Need-is-valid-first-requires
-is-valid-first-requires c κs = (omega (arith, head (c .before .before) .long), omega (arith, c .before .nat4-at .ensures, c .if2 .taken))
+is-valid-first-requires c κs =
+    let t = c .before .before .before in
+    let f = form-sizes (start (t .before) .args .f) in
+    (omega (arith, head t .long, f .body-is, f .size-is), omega (integers, c .before .before .height-at .ensures, c .before .height-limit .ensures, c .if2 .taken))
 
 returns : tie.Need-returns
 unfolding isCharacter
 returns c =
-    let t = c .before .before .before in
-    simp (sym (t .before .starts-field .ensures) ∙ t .if1 .taken) (c .is-valid-first .ensures)
+    let t = c .before .before .before .before in
+    simp (sym (head-is (t .before)) ∙ t .if1 .taken) (c .is-valid-first .ensures)
 
 returns-2 : tie.Need-returns-2
 unfolding isCharacter characterAt
 returns-2 c =
-    let t = c .before .before in
-    let s = t .before .before .before .args .s .now in
-    let h : leZ (pos (natAt 4 5 s)) heightEnd ≡ false = false-leZ (pos (natAt 4 5 s)) heightEnd (omega (integers, c .before .nat4-at .ensures, c .if2 .left)) in
-    simp (sym (t .before .starts-field .ensures) ∙ t .if1 .taken) (sym (too-high heightEnd (characterAt s 0) h))
+    let t = c .before .before .before in
+    let a = start (t .before) .args in
+    let s = a .s .now in
+    let n = natAt (heightBytes (a .f)) 5 s in
+    let h : leZ (pos n) (greatestHeight (a .f)) ≡ false = false-leZ (pos n) (greatestHeight (a .f)) (omega (integers, c .before .before .height-at .ensures, c .before .height-limit .ensures, c .if2 .left)) in
+    simp (sym (head-is (t .before)) ∙ t .if1 .taken) (sym (too-high (greatestHeight (a .f)) (characterAt (a .f) s 0) h))
 
 returns-3 : tie.Need-returns-3
 unfolding isCharacter
-returns-3 c = simp (sym (c .before .starts-field .ensures) ∙ c .if1 .left)
+returns-3 c = simp (sym (head-is (c .before)) ∙ c .if1 .left)
 
 pub is-character-spec : {M : Type 1} → statement M
 is-character-spec =
-    tie.close (tie.spec starts-field-requires nat4-at-requires is-valid-first-requires returns returns-2 returns-3)
+    tie.close
+    (tie.spec character-tag-requires body-bytes-requires starts-field-requires height-at-requires height-limit-requires is-valid-first-requires
+    returns returns-2 returns-3)

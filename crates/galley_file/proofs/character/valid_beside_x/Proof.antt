@@ -1,7 +1,6 @@
 -- `galley_file::character::valid_beside_x` meets its contract: the tests are those of `valid`, in its order.
 -- Assumes nothing.
 use borrow.Author.Tests.{lt-ltb, le-ltb, lt-leb, le-leb}
-use borrow.Author.Needs.{needs}
 use Rattle.galley_file.proofs.character.valid_beside_x.Statement.{statement}
 use Rattle.galley_file.proofs.character.valid_beside_x.Tie as tie
 
@@ -14,19 +13,8 @@ returns-2 c = simp (lt-ltb _ _ (c .before .if1 .left), lt-leb _ _ (c .if2 .taken
 returns-3 : tie.Need-returns-3
 returns-3 c = simp (lt-ltb _ _ (c .before .before .if1 .left), le-leb _ _ (c .before .if2 .left), lt-leb _ _ (c .if3 .taken))
 
-valid-height-requires : tie.Need-valid-height-requires
-valid-height-requires c κs = search needs
-
 returns-4 : tie.Need-returns-4
-returns-4 c =
-    let t = c .before .before in
-    simp (lt-ltb _ _ (t .before .before .if1 .left), le-leb _ _ (t .before .if2 .left), le-leb _ _ (t .if3 .left), c .before .if4 .taken)
-    (c .valid-height .ensures)
-
-returns-5 : tie.Need-returns-5
-returns-5 c =
-    let t = c .before in
-    simp (lt-ltb _ _ (t .before .before .if1 .left), le-leb _ _ (t .before .if2 .left), le-leb _ _ (t .if3 .left), c .if4 .left)
+returns-4 c = simp (lt-ltb _ _ (c .before .before .if1 .left), le-leb _ _ (c .before .if2 .left), le-leb _ _ (c .if3 .left))
 
 pub valid-beside-x-spec : {M : Type 1} → statement M
-valid-beside-x-spec = tie.close (tie.spec returns returns-2 returns-3 valid-height-requires returns-4 returns-5)
+valid-beside-x-spec = tie.close (tie.spec returns returns-2 returns-3 returns-4)

@@ -10,14 +10,14 @@ use Rattle.galley_file.proofs.item.item_at.Statement.{statement}
 use Rattle.galley_file.proofs.item.item_at.Tie as tie
 
 shared-slice-read-if1 : tie.Need-shared-slice-read-if1
-shared-slice-read-if1 c = let s = c .before .before in omega (arith, s .pre .inside, size-least (itemAt (s .args .s .now) (s .args .at)))
+shared-slice-read-if1 c = let s = c .before .before in omega (arith, s .pre .inside, size-least (s .args .f) (itemAt (s .args .f) (s .args .s .now) (s .args .at)))
 
 returns : tie.Need-returns
 unfolding itemAt
 returns c = rw (eq-eqb _ _ (c .if1 .taken))
 
 character-at-requires : tie.Need-character-at-requires
-character-at-requires c κs = whole-character _ _ (c .before .before .before .pre) (c .if1 .left)
+character-at-requires c κs = whole-character _ _ _ (c .before .before .before .pre) (c .if1 .left)
 
 returns-2 : tie.Need-returns-2
 unfolding itemAt

@@ -103,10 +103,10 @@ loop-again c =
     let p = c .before .before .before .before .put-character in
     let e = subst (Quickly (placed (a .s) (r .carriage)) (getD (a .tape .now) (r .next) 0)) (k .1) (said (c .before .before .before .before .before .before .before .before .before .before .before .before)) in
     record {
-      further = further-flashed true (a .tape .now) (a .out .now) (a .s) (a .before) (a .cuts) (a .from) r (l .out) (l .inv .further) (c .before .before .before .before .before .before .before .before .before .before .before .before .before .before .before .if2 .taken) (k .0 .0) e (p .last .0) (p .kept .0) (p .ensures .buffer-is);
+      further = further-flashed true (a .tape .now) (a .out .now) (a .s) (a .before) (a .cuts) (a .from) r (l .out) (l .inv .further) (c .before .before .before .before .before .before .before .before .before .before .before .before .before .before .before .if2 .taken) (k .0 .0) e (p .last .1 .0) (p .kept .1 .0) (p .ensures .buffer-is);
       few = omega (arith, l .inv .few);
       sound = l .inv .sound;
-      same = p .kept .0 ∙ l .inv .same;
+      same = p .kept .1 .0 ∙ l .inv .same;
     }
 
 enum-known-c-2 : tie.Need-enum-known-c-2 Inv-loop μ-loop

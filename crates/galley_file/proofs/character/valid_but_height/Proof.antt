@@ -1,12 +1,13 @@
--- `galley_file::character::is_valid` meets its contract: x is tested by its size, and the rest beside it.
+-- `galley_file::character::valid_but_height` meets its contract: x is tested by its size, and the rest beside it.
 -- Assumes nothing.
 use mathlib.Core.Path.{_≡_, ap, _∙_}
-use mathlib.Core.Bool.{Bool}
+use mathlib.Core.Bool.{Bool, _&&_}
 use borrow.Author.Needs.{needs}
+use lib.Dec.{leb, ltb}
 use Rattle.galley_file.specs.Font.{sizeIndex, isDouble}
-use Rattle.galley_file.specs.Character.{validX, valid}
-use Rattle.galley_file.proofs.character.is_valid.Statement.{statement}
-use Rattle.galley_file.proofs.character.is_valid.Tie as tie
+use Rattle.galley_file.specs.Character.{validX}
+use Rattle.galley_file.proofs.character.valid_but_height.Statement.{statement}
+use Rattle.galley_file.proofs.character.valid_but_height.Tie as tie
 
 size-index-requires : tie.Need-size-index-requires
 size-index-requires c κs = search needs
@@ -28,8 +29,7 @@ across c =
     ∙ ap (λ (d : Bool). validX d (g .x .0)) (c .before .is-double .ensures ∙ ap isDouble (c .before .before .size-index .ensures .0))
 
 returns : tie.Need-returns
-unfolding valid
 returns c = rw (← across (c .before)) (c .valid-beside-x .ensures)
 
-pub is-valid-spec : {M : Type 1} → statement M
-is-valid-spec = tie.close (tie.spec size-index-requires is-double-requires valid-x-requires valid-beside-x-requires returns)
+pub valid-but-height-spec : {M : Type 1} → statement M
+valid-but-height-spec = tie.close (tie.spec size-index-requires is-double-requires valid-x-requires valid-beside-x-requires returns)

@@ -1,0 +1,65 @@
+// The two forms of a galley (document 02, "Old galleys and new"): a character's field, and the limits that follow from it.
+ghost use mathlib.Core.Path.{_≡_};
+ghost use Prim.Native.Nat.{_≤_};
+ghost use lib.IntN.{pos};
+ghost use Rattle.galley_file.specs.Form.{characterTag, bodyBytes, characterSize, greatestHeight, maxGalley};
+
+pub enum Form {
+    // Tag 1, with a height of two bytes.
+    Old,
+    // Tag 7, with a height of four bytes. Galleys are written in this form.
+    New,
+}
+
+// The bytes of a character's field in the new form.
+pub const NEW_FIELD: usize = 11;
+
+// The tag of a character's field.
+pub fn character_tag(f: Form) -> u8
+    ensures { λ r. ⌜ r ≡ characterTag f ⌝ }
+{
+    match f {
+        Form::Old => 1,
+        Form::New => 7,
+    }
+}
+
+// The bytes of its body.
+pub fn body_bytes(f: Form) -> u32
+    ensures { λ r. ⌜ r ≡ bodyBytes f ⌝ }
+{
+    match f {
+        Form::Old => 6,
+        Form::New => 8,
+    }
+}
+
+// The bytes of a whole field.
+pub fn character_size(f: Form) -> usize
+    ensures { λ r. ⌜ (r ≡ characterSize f) × (r ≤ 11) ⌝ }
+{
+    match f {
+        Form::Old => 9,
+        Form::New => NEW_FIELD,
+    }
+}
+
+// The greatest height.
+pub fn height_limit(f: Form) -> u32
+    ensures { λ r. ⌜ pos r ≡ greatestHeight f ⌝ }
+{
+    match f {
+        Form::Old => 65_535,
+        Form::New => 1_000_000,
+    }
+}
+
+// The bytes of the longest galley.
+pub fn max_galley(f: Form) -> usize
+    ensures { λ r. ⌜ r ≡ maxGalley f ⌝ }
+{
+    match f {
+        Form::Old => 9_437_191,
+        Form::New => 11_534_343,
+    }
+}
