@@ -10,6 +10,7 @@ use galley_file::form::Form;
 use galley_file::item;
 use galley_file::item::Item;
 use measure::Rsu;
+use measure::ruler;
 use octets::field;
 use octets::number;
 ghost use mathlib.Core.Path.{_≡_};
@@ -124,12 +125,13 @@ pub fn extents_of(g: &[u8], count: usize) -> Extents
     requires { ⌜ accepted count ≡ lowOutcome (now g) ⌝ }
     ensures { λ r. ⌜ ExtentsAre r (itemsOf New (now (g .entry))) ⌝ }
 {
+    let ruler = ruler::targets();
     let mut e = none();
     let mut last = pen::new_pen();
     let mut at: usize = 0;
     while at + field::END_FIELD < g.len() {
         let i = item::item_at(Form::New, g, at);
-        let next = pen::pen_after(i);
+        let next = pen::pen_after(i, &ruler);
         e = with_item(e, last, next, i);
         last = next;
         at += item::item_size(Form::New, i);

@@ -9,6 +9,8 @@ use galley_file::form::Form;
 use galley_file::item;
 use galley_file::item::Item;
 use measure::Rsu;
+use measure::ruler;
+use measure::ruler::Ruler;
 use octets::field;
 use octets::number;
 ghost use mathlib.Core.Path.{_≡_};
@@ -18,6 +20,7 @@ ghost use lib.ListN.{length};
 ghost use Rattle.octets.specs.Answer.{accepted};
 ghost use Rattle.measure.specs.Place.{lowEnd};
 ghost use Rattle.octets.specs.Write.{Wrote};
+ghost use Rattle.measure.specs.Target.{xTargets};
 ghost use Rattle.galley_file.specs.declared.item.Item.the-variants.{Placed, Cut};
 ghost use Rattle.galley_file.specs.Item.{validItem};
 ghost use Rattle.galley_file.specs.Galley.{itemsOf};
@@ -141,11 +144,12 @@ fn put_cut(out: &mut [u8], p: Press, next: Pen) -> Press
 }
 
 // Writes an item.
-fn put_item(out: &mut [u8], p: Press, i: Item) -> Press
+fn put_item(out: &mut [u8], p: Press, i: Item, ruler: &Ruler) -> Press
     requires { ⌜ ((p .at + length (itemBytes (pressOf p) i) ≤ length (now out)) × ((p .at < 2147483648) × (p .bop < 2147483648))) × ((p .page < 4294967295) × (OnPage (penOf (p .pen)) × (validItem lowEnd i ≡ true))) ⌝ }
+    requires { ⌜ now ruler ≡ xTargets ⌝ }
     ensures { λ r. ⌜ (Wrote (now (out .entry)) (p .at) (itemBytes (pressOf p) i) (now (out .exit)) (r .at)) × PressIs r (pressAfter (pressOf p) i) ⌝ }
 {
-    let next = pen::pen_after(i);
+    let next = pen::pen_after(i, ruler);
     match i {
         Item::Placed(c) => put_character(out, p, next, c),
         Item::Cut => put_cut(out, p, next),
@@ -157,11 +161,12 @@ fn put_items(g: &[u8], count: usize, out: &mut [u8]) -> Press
     requires { ⌜ (accepted count ≡ lowOutcome (now g)) × (9 + length (itemsBytes firstPress (itemsOf New (now g))) ≤ length (now out)) ⌝ }
     ensures { λ r. ⌜ (Wrote (now (out .entry)) 9 (itemsBytes firstPress (itemsOf New (now (g .entry)))) (now (out .exit)) (r .at)) × PressIs r (pressAll firstPress (itemsOf New (now (g .entry)))) ⌝ }
 {
+    let ruler = ruler::targets();
     let mut p = press::first_press();
     let mut at: usize = 0;
     while at + field::END_FIELD < g.len() {
         let i = item::item_at(Form::New, g, at);
-        p = put_item(out, p, i);
+        p = put_item(out, p, i, &ruler);
         at += item::item_size(Form::New, i);
     }
     p

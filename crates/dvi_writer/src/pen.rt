@@ -2,9 +2,11 @@
 use galley_file::character::Character;
 use galley_file::item::Item;
 use measure::Rsu;
+use measure::ruler::Ruler;
 ghost use mathlib.Core.Path.{_≡_};
 ghost use mathlib.Core.Bool.{true};
 ghost use Rattle.measure.specs.Place.{lowEnd};
+ghost use Rattle.measure.specs.Target.{xTargets};
 ghost use Rattle.galley_file.specs.Character.{valid};
 ghost use Rattle.galley_file.specs.Item.{validItem};
 ghost use Rattle.dvi.specs.Writer.{newPen};
@@ -32,11 +34,12 @@ pub fn new_pen() -> Pen
 }
 
 // The pen after c: its font and its targets.
-fn pen_at(c: Character) -> Pen
+fn pen_at(c: Character, ruler: &Ruler) -> Pen
     requires { ⌜ valid lowEnd c ≡ true ⌝ }
+    requires { ⌜ now ruler ≡ xTargets ⌝ }
     ensures { λ r. ⌜ PenAt r c ⌝ }
 {
-    let x = c.x.target();
+    let x = c.x.target(ruler);
     let y = c.height.target();
     Pen {
         font: c.font,
@@ -46,12 +49,13 @@ fn pen_at(c: Character) -> Pen
 }
 
 // The pen after an item: a cut starts a page.
-pub fn pen_after(i: Item) -> Pen
+pub fn pen_after(i: Item, ruler: &Ruler) -> Pen
     requires { ⌜ validItem lowEnd i ≡ true ⌝ }
+    requires { ⌜ now ruler ≡ xTargets ⌝ }
     ensures { λ r. ⌜ PenIs r (penPast i) ⌝ }
 {
     match i {
-        Item::Placed(c) => pen_at(c),
+        Item::Placed(c) => pen_at(c, ruler),
         Item::Cut => new_pen(),
     }
 }

@@ -1,1 +1,1 @@
-// The laws on ℤ that the tactic `omega` lacks: see specs/Parts.antt.
+// The laws on ℤ that the tactic `omega` lacks (specs/Parts.antt), and on tables (specs/Tables.antt).

@@ -2,15 +2,17 @@
 -- Assumes nothing.
 use mathlib.Core.Path.{_≡_, refl, ap}
 use mathlib.Core.Logic.{_⊎_, inl, inr}
-use Prim.Native.Nat.{ℕ, zero, suc, _+_, _*_, _/_, _≤_}
+use Prim.Native.Nat.{ℕ, zero, suc, _+_, _*_, _/_, _≤_, _<_}
 use native.Mathlib.Omega.{arith}
-use lib.IntN.{ℤ, pos, negsuc, negℤ, natAbs, _+ℤ_, _-ℤ_, _*ℤ_}
+use lib.IntN.{ℤ, pos, negsuc, natAbs, _+ℤ_, _-ℤ_, _*ℤ_}
 use mir.Syntax.{w32}
 use mir.Val.{SFits}
-use lib.Signed.{quotZ, _≤ℤ_, _<ℤ_}
+use lib.Signed.{_≤ℤ_, _<ℤ_}
+use lib.ListN.{getD}
 use Rattle.integers.specs.Parts.{integers, up, dn, sum-parts, dif-parts, scale-parts, neg-up, neg-dn, abs-parts, abs-le, parts-eq}
+use Rattle.integers.specs.Tables.{table-entry}
 use Rattle.measure.specs.Place.{lowEnd}
-use Rattle.measure.specs.Target.{third, xTarget, yTarget, Near}
+use Rattle.measure.specs.Target.{third, xTarget, placeOf, xTargets, yTarget, Near}
 
 third-up : (n : ℤ) → up (third n) ≡ (up n + 1) / 3
 third-up (pos n) = refl
@@ -19,17 +21,6 @@ third-up (negsuc n) = neg-up (pos ((suc n + 1) / 3))
 third-dn : (n : ℤ) → dn (third n) ≡ (dn n + 1) / 3
 third-dn (pos n) = refl
 third-dn (negsuc n) = neg-dn (pos ((suc n + 1) / 3))
-
--- by a quotient toward zero, as the machine divides
-pub third-below : (n : ℤ) → n <ℤ pos 0 → quotZ (n -ℤ pos 1) (pos 3) ≡ third n
-third-below (pos n) h = absurd (omega integers)
-third-below (negsuc n) h =
-    let e : suc (suc (n + 0)) / 3 ≡ (suc n + 1) / 3 = omega arith in
-    ap (λ (m : ℕ). negℤ (pos m)) e
-
-pub third-above : (n : ℤ) → pos 0 ≤ℤ n → quotZ (n +ℤ pos 1) (pos 3) ≡ third n
-third-above (pos n) h = refl
-third-above (negsuc n) h = absurd (h .le)
 
 near : (n : ℤ) → Near n (third n)
 near (pos n) =
@@ -76,6 +67,11 @@ target-least x h = omega (integers, target-parts x)
 
 pub target-greatest : (x : ℤ) → x ≤ℤ pos 3239 → xTarget x ≤ℤ pos 35378517
 target-greatest x h = omega (integers, target-parts x)
+
+-- each entry of the ruler is the target of its place
+pub target-entry : (k : ℕ) → k < 3295 → getD xTargets k (pos 0) ≡ xTarget (placeOf k)
+unfolding xTargets
+target-entry k h = table-entry (λ (k : ℕ). xTarget (placeOf k)) (pos 0) 3295 k h
 
 -- ---- moves
 

@@ -1,14 +1,14 @@
 -- The classes of the 256 codes: low bits by masks, and the code's sorting by top bits against the table, by one computed test.
 -- Assumes nothing.
-use mathlib.Core.Path.{_≡_, refl, sym, _∙_, ap}
+use mathlib.Core.Path.{_≡_, refl, _∙_}
 use mathlib.Core.Bool.{cond}
-use mathlib.Core.List.{List, [], _∷_, map}
-use Prim.Native.Nat.{ℕ, zero, suc, _+_, _-_, _/_, _%_, _<_}
-use native.Mathlib.Nat.{add-zero, add-suc, suc-add, zero-add, le-of-suc-le-suc, not-suc-le-zero}
+use mathlib.Core.List.{map}
+use Prim.Native.Nat.{ℕ, zero, suc, _-_, _/_, _%_, _<_}
 use native.Mathlib.Omega.{arith}
 use lib.Bits.{bitAnd, and-mask}
 use lib.Dec.{eqb}
 use lib.ListN.{getD}
+use Rattle.integers.specs.Tables.{numbers, agree}
 use Rattle.tape.specs.declared.code.Machine.{Machine}
 use Rattle.tape.specs.declared.code.Machine.the-variants.{Four, Eight}
 use Rattle.tape.specs.declared.code.Code.{Code}
@@ -21,20 +21,6 @@ low-seven b h = and-mask (255 - b) 7 ∙ omega arith
 
 pub low-five : (b : ℕ) → b < 256 → bitAnd (255 - b) 31 ≡ 31 - b % 32
 low-five b h = and-mask (255 - b) 5 ∙ omega arith
-
--- two functions that agree on a list of the numbers below n agree at each of them
-abbrev numbers : ℕ → ℕ → List ℕ
-numbers k zero = []
-numbers k (suc n) = k ∷ numbers (suc k) n
-
-at-number : {A : Type 0} (f : ℕ → A) (d : A) (n k i : ℕ) → i < n → getD (map f (numbers k n)) i d ≡ f (k + i)
-at-number f d zero k i h = absurd (not-suc-le-zero h)
-at-number f d (suc n) k zero h = ap f (sym (add-zero k))
-at-number f d (suc n) k (suc i) h = at-number f d n (suc k) i (le-of-suc-le-suc h) ∙ ap f (suc-add k i ∙ sym (add-suc k i))
-
-agree : {A : Type 0} (f g : ℕ → A) (d : A) (n : ℕ) → map f (numbers 0 n) ≡ map g (numbers 0 n) → (i : ℕ) → i < n → f i ≡ g i
-agree f g d n e i h =
-    ap f (sym (zero-add i)) ∙ sym (at-number f d n 0 i h) ∙ ap (λ (l : List _). getD l i d) e ∙ at-number g d n 0 i h ∙ ap g (zero-add i)
 
 -- a code sorted by its top bits, as the code sorts it
 abbrev pub sorted : Machine → ℕ → Code

@@ -28,7 +28,7 @@ put-character-requires c κs =
     let e = c .before .before .i .given .1 in
     let n = pen-kind _ e (c .before .before .before .before .pen-after .ensures) in
     let l = ap (λ (i : Item). length (itemBytes (pressOf (s .args .p)) i)) e in
-    (omega (arith, l, s .pre .0 .0), (s .pre .1 .1 .0, record { is-valid = sym (ap (validItem lowEnd) e) ∙ s .pre .1 .1 .1; pen-is = n .pen-is }))
+    (omega (arith, l, s .pre .0 .0 .0), (s .pre .0 .1 .1 .0, record { is-valid = sym (ap (validItem lowEnd) e) ∙ s .pre .0 .1 .1 .1; pen-is = n .pen-is }))
 
 enum-told : tie.Need-enum-told
 enum-told c = search needs
@@ -39,7 +39,7 @@ put-cut-requires c κs =
     let e = c .before .enum-told .given .1 in
     let n = pen-kind _ e (c .before .before .before .pen-after .ensures) in
     let l = ap (λ (i : Item). length (itemBytes (pressOf (s .args .p)) i)) e ∙ length-cut (pressOf (s .args .p)) in
-    ((omega (arith, l, s .pre .0 .0), s .pre .0 .1), (s .pre .1 .0, n))
+    ((omega (arith, l, s .pre .0 .0 .0), s .pre .0 .0 .1), (s .pre .0 .1 .0, n))
 
 same-length : tie.Need-same-length
 same-length c = search needs

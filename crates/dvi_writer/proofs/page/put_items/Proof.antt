@@ -15,47 +15,50 @@ use Rattle.dvi_writer.proofs.page.put_items.Statement.{statement}
 use Rattle.dvi_writer.proofs.page.put_items.Tie as tie
 
 abbrev Inv-loop : tie.InvT-loop
-Inv-loop g count out₀ p₀ at₀ out p at = Printed g at out₀ out p
+Inv-loop g count out₀ ruler p₀ at₀ out p at = Printed g at out₀ out p
 
 abbrev μ-loop : tie.MeasureT-loop
-μ-loop g count out₀ p₀ at₀ out p at = length g - at
+μ-loop g count out₀ ruler p₀ at₀ out p at = length g - at
+
+targets-requires : tie.Need-targets-requires Inv-loop μ-loop
+targets-requires c κs = search needs
 
 first-press-requires : tie.Need-first-press-requires Inv-loop μ-loop
 first-press-requires c κs = search needs
 
 loop-holds : tie.Need-loop-holds Inv-loop μ-loop
-loop-holds c = printed-start _ _ (c .before .before .before .pre .0) _ _ (c .first-press .ensures)
+loop-holds c = printed-start _ _ (c .before .before .before .before .pre .0) _ _ (c .first-press .ensures)
 
 add-loop : tie.Need-add-loop Inv-loop μ-loop
-add-loop c = omega (arith, printed-inside _ _ _ _ _ (c .loop .inv), within _ _ (c .before .before .before .before .pre .0))
+add-loop c = omega (arith, printed-inside _ _ _ _ _ (c .loop .inv), within _ _ (c .before .before .before .before .before .pre .0))
 
 item-at-requires : tie.Need-item-at-requires Inv-loop μ-loop
 item-at-requires c κs = printed-whole _ _ _ _ _ (c .before .loop .inv) (c .loop-test .taken)
 
 put-item-requires : tie.Need-put-item-requires Inv-loop μ-loop
 put-item-requires c κs =
-    let s = c .before .before .before .before .before .before .before in
-    printed-asks _ _ _ _ _ (c .before .before .before .loop .inv) (c .before .before .loop-test .taken) (all-low _ _ (s .pre .0)) (few _ _ (s .pre .0)) (s .pre .1) _ (c .before .item-at .ensures)
+    let s = c .before .before .before .before .before .before .before .before .before in
+    (printed-asks _ _ _ _ _ (c .before .before .before .before .loop .inv) (c .before .before .before .loop-test .taken) (all-low _ _ (s .pre .0)) (few _ _ (s .pre .0)) (s .pre .1) _ (c .before .before .item-at .ensures), c .before .before .before .before .before .before .targets .ensures)
 
 item-size-requires : tie.Need-item-size-requires Inv-loop μ-loop
 item-size-requires c κs = search needs
 
 -- the next place is in the galley
-inside : (c : tie.After-item-size Inv-loop μ-loop) → c .before .before .before .before .before .before .before .loop .at + c .item-size .result + 7 ≤ length (c .before .before .before .before .before .before .before .before .before .before .before .args .g .now)
+inside : (c : tie.After-item-size Inv-loop μ-loop) → c .before .before .before .before .before .before .before .before .loop .at + c .item-size .result + 7 ≤ length (c .before .before .before .before .before .before .before .before .before .before .before .before .before .args .g .now)
 inside c =
-    omega (arith, printed-size _ _ _ _ _ (c .before .before .before .before .before .before .before .loop .inv) (c .before .before .before .before .before .before .loop-test .taken), c .item-size .ensures, ap (itemSize New) (c .before .before .before .before .before .item-at .ensures))
+    omega (arith, printed-size _ _ _ _ _ (c .before .before .before .before .before .before .before .before .loop .inv) (c .before .before .before .before .before .before .before .loop-test .taken), c .item-size .ensures, ap (itemSize New) (c .before .before .before .before .before .before .item-at .ensures))
 
 add-at : tie.Need-add-at Inv-loop μ-loop
-add-at c = omega (arith, inside c, within _ _ (c .before .before .before .before .before .before .before .before .before .before .before .pre .0))
+add-at c = omega (arith, inside c, within _ _ (c .before .before .before .before .before .before .before .before .before .before .before .before .before .pre .0))
 
 loop-less : tie.Need-loop-less Inv-loop μ-loop
-loop-less c = omega (arith, inside c, c .item-size .ensures, size-least New (c .before .before .before .before .before .item-at .result))
+loop-less c = omega (arith, inside c, c .item-size .ensures, size-least New (c .before .before .before .before .before .before .item-at .result))
 
 loop-again : tie.Need-loop-again Inv-loop μ-loop
 loop-again c =
     let w = c .before .before .before .put-item in
     rw (c .item-size .ensures)
-    (printed-next _ _ _ _ _ (c .before .before .before .before .before .before .before .loop .inv) (c .before .before .before .before .before .before .loop-test .taken) _ (c .before .before .before .before .before .item-at .ensures) _ _ (search needs) (w .ensures .0) (w .ensures .1))
+    (printed-next _ _ _ _ _ (c .before .before .before .before .before .before .before .before .loop .inv) (c .before .before .before .before .before .before .before .loop-test .taken) _ (c .before .before .before .before .before .before .item-at .ensures) _ _ (search needs) (w .ensures .0) (w .ensures .1))
 
 same-length : tie.Need-same-length Inv-loop μ-loop
 same-length c = c .before .loop .inv .same
@@ -66,5 +69,5 @@ returns c = printed-end _ _ _ _ _ (c .before .loop .inv) (c .loop-test .left)
 pub put-items-spec : {M : Type 1} → statement M
 put-items-spec =
     tie.close
-    (tie.spec Inv-loop μ-loop first-press-requires loop-holds add-loop item-at-requires put-item-requires item-size-requires add-at loop-less
+    (tie.spec Inv-loop μ-loop targets-requires first-press-requires loop-holds add-loop item-at-requires put-item-requires item-size-requires add-at loop-less
     loop-again same-length returns)

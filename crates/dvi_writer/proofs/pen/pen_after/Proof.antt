@@ -13,7 +13,9 @@ enum-known-i : tie.Need-enum-known-i
 enum-known-i c = search needs
 
 pen-at-requires : tie.Need-pen-at-requires
-pen-at-requires c κs = sym (ap (validItem lowEnd) (c .before .i .given .1)) ∙ c .before .before .before .pre
+pen-at-requires c κs =
+    let s = c .before .before .before in
+    (sym (ap (validItem lowEnd) (c .before .i .given .1)) ∙ s .pre .0, s .pre .1)
 
 enum-told : tie.Need-enum-told
 enum-told c = search needs

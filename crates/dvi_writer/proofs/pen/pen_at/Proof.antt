@@ -6,13 +6,13 @@ use Rattle.dvi_writer.proofs.pen.pen_at.Statement.{statement}
 use Rattle.dvi_writer.proofs.pen.pen_at.Tie as tie
 
 target-requires : tie.Need-target-requires
-target-requires c κs = x-between (c .args .c) (c .pre)
+target-requires c κs = (x-between (c .args .c) (c .pre .0), c .pre .1)
 
 target-requires-2 : tie.Need-target-requires-2
-target-requires-2 c κs = y-between (c .before .args .c) (c .before .pre)
+target-requires-2 c κs = y-between (c .before .args .c) (c .before .pre .0)
 
 returns : tie.Need-returns
-returns c = pen-made (c .before .before .args .c) (c .before .before .pre) _ refl (c .before .target .ensures) (c .target2 .ensures)
+returns c = pen-made (c .before .before .args .c) (c .before .before .pre .0) _ refl (c .before .target .ensures) (c .target2 .ensures)
 
 pub pen-at-spec : {M : Type 1} → statement M
 pen-at-spec = tie.close (tie.spec target-requires target-requires-2 returns)

@@ -1,76 +1,65 @@
--- `measure::Units::target` meets its contract: nothing wraps for x in -55..=3239, and each arm's quotient is the nearest third.
+-- `measure::Units::target` meets its contract: x + 55 is the index of x on the ruler.
 -- Assumes nothing.
-use mathlib.Core.Path.{_≡_, sym, _∙_}
-use lib.IntN.{ℤ, pos, _+ℤ_, _-ℤ_, _*ℤ_}
-use lib.Signed.{quotZ, _<ℤ_, _≤ℤ_}
+use mathlib.Core.Path.{_≡_, ap, _∙_}
+use mathlib.Core.List.{List}
+use Prim.Native.Nat.{ℕ, _≤_, _<_}
 use borrow.Author.Needs.{needs}
+use lib.IntN.{ℤ, pos, negsuc, natAbs, _-ℤ_}
+use lib.ListN.{getD}
 use mir.Syntax.{w32}
 use mir.Val.{SFits, toZ, ofZ}
-use Rattle.integers.specs.Parts.{integers, plain, scale-parts, sum-parts, dif-parts, quot-fits}
-use Rattle.measure.specs.Target.{xTarget}
-use Rattle.measure.specs.TargetLaws.{third-below, third-above}
+use Rattle.integers.specs.Parts.{integers, up, dn, plain, dif-parts, abs-parts, range-parts, nonNeg-by}
+use Rattle.measure.specs.Target.{xTarget, placeOf}
+use Rattle.measure.specs.TargetLaws.{target-parts, target-entry}
 use Rattle.measure.proofs.Units.target.Statement.{statement}
 use Rattle.measure.proofs.Units.target.Tie as tie
 
--- 32768 x, which the machine holds exactly
-n : tie.After-struct-told → ℤ
-n c = pos 32768 *ℤ c .before .before .args .self .0
+module _ (c : tie.After-struct-told) where
+  abbrev x : ℤ
+  x = c .before .before .args .self .0
 
-n-fits : (c : tie.After-struct-told) → SFits w32 (n c)
-unfolding n
-n-fits c = omega (integers, scale-parts 32768 (c .before .before .args .self .0))
+  -- as the code makes it, by a subtraction
+  abbrev index : ℤ
+  index = x -ℤ negsuc 54
 
-n-plain : (c : tie.After-struct-told) → toZ w32 (ofZ w32 (c .before .before .args .self .0)) ≡ c .before .before .args .self .0
-n-plain c = let f : SFits w32 (c .before .before .args .self .0) = search needs in plain f
+  x-fits : SFits w32 x
+  x-fits = search needs
 
-mul-n : tie.Need-mul-n
-unfolding n
-mul-n c = rw (n-plain c) (n-fits c)
+  index-parts : (up index ≤ 3294) × (dn index ≤ 0)
+  index-parts = range-parts index 0 3294 (omega (integers, dif-parts x (negsuc 54))) (omega (integers, dif-parts x (negsuc 54)))
 
--- its bounds
-less-fits : (c : tie.After-struct-told) → SFits w32 (n c -ℤ pos 1)
-unfolding n
-less-fits c = omega (integers, scale-parts 32768 (c .before .before .args .self .0), dif-parts (n c) (pos 1))
+  index-fits : SFits w32 index
+  index-fits = omega (integers, index-parts)
 
-more-fits : (c : tie.After-struct-told) → SFits w32 (n c +ℤ pos 1)
-unfolding n
-more-fits c = omega (integers, scale-parts 32768 (c .before .before .args .self .0), sum-parts (n c) (pos 1))
+  index-below : natAbs index < 3295
+  index-below = omega (integers, index-parts, abs-parts index)
 
-sub-t5 : tie.Need-sub-t5
-unfolding n
-sub-t5 c = rw (n-plain (c .before), plain (n-fits (c .before))) (less-fits (c .before))
+  place : placeOf (natAbs index) ≡ x
+  place = omega (integers, index-parts, abs-parts index, dif-parts x (negsuc 54), dif-parts (pos (natAbs index)) (pos 55))
 
-div-t6 : tie.Need-div-t6
-unfolding n
-div-t6 c =
-    rw (n-plain (c .before), plain (n-fits (c .before)), plain (less-fits (c .before)))
-    (search needs, quot-fits (n (c .before) -ℤ pos 1) 2 (less-fits (c .before)))
+  target-fits : SFits w32 (xTarget x)
+  target-fits = omega (integers, target-parts x)
 
-add-t7 : tie.Need-add-t7
-unfolding n
-add-t7 c = rw (n-plain (c .before), plain (n-fits (c .before))) (more-fits (c .before))
+sub-k : tie.Need-sub-k
+sub-k c = rw (plain (x-fits c)) (index-fits c)
 
-div-t8 : tie.Need-div-t8
-unfolding n
-div-t8 c =
-    rw (n-plain (c .before), plain (n-fits (c .before)), plain (more-fits (c .before)))
-    (search needs, quot-fits (n (c .before) +ℤ pos 1) 2 (more-fits (c .before)))
+cast-k : tie.Need-cast-k
+cast-k c =
+    rw (plain (x-fits c), plain (index-fits c))
+    (nonNeg-by (index c) (omega (integers, index-parts c)), omega (integers, index-below c))
+
+mul-x : tie.Need-mul-x
+mul-x c = rw (plain (x-fits c), plain (index-fits c)) (omega (integers, index-below c))
+
+element-copy-out-x : tie.Need-element-copy-out-x
+element-copy-out-x c = rw (plain (x-fits c), plain (index-fits c)) (index-below c)
 
 returns : tie.Need-returns
-unfolding n xTarget
 returns c =
     let s = c .before in
-    let low = rw (n-plain s, plain (n-fits s)) at (c .if1 .taken) in
-    rw (n-plain s, plain (n-fits s), plain (less-fits s), plain (quot-fits (n s -ℤ pos 1) 2 (less-fits s)))
-    (third-below (n s) (omega (integers, low)))
-
-returns-2 : tie.Need-returns-2
-unfolding n xTarget
-returns-2 c =
-    let s = c .before in
-    let high = rw (n-plain s, plain (n-fits s)) at (c .if1 .left) in
-    rw (n-plain s, plain (n-fits s), plain (more-fits s), plain (quot-fits (n s +ℤ pos 1) 2 (more-fits s)))
-    (third-above (n s) (omega (integers, high)))
+    let k = natAbs (index s) in
+    let e = ap (λ (l : List ℤ). getD l k (pos 0)) (s .before .before .pre .1) ∙ target-entry k (index-below s) ∙ ap xTarget (place s) in
+    rw (plain (x-fits s), plain (index-fits s)) (ap (λ (z : ℤ). toZ w32 (ofZ w32 z)) e ∙ plain (target-fits s))
 
 pub target-spec : {M : Type 1} → statement M
-target-spec = tie.close (tie.spec mul-n sub-t5 div-t6 add-t7 div-t8 returns returns-2)
+target-spec = tie.close (tie.spec sub-k cast-k mul-x element-copy-out-x returns)
