@@ -29,8 +29,8 @@ use Rattle.tape.specs.Tape.{maxTape, Run, run}
 use Rattle.tape.specs.RunLaws.{Sets, flashed, parted, soFar, run-length, run-moved, run-set, run-refused, run-room}
 use Rattle.tape.specs.Sound.{Sound}
 use Rattle.tape.specs.SoundLaws.{stays-sound, parted-sound}
-use Rattle.tape.specs.Quick.{placed, flashesIn, stretchAt}
-use Rattle.tape.specs.Pass.{putAt, Going, Further, Passed}
+use Rattle.tape.specs.Quick.{placed, flashesIn}
+use Rattle.tape.specs.Pass.{putAt, Going, Further, Stretched, Passed}
 use Rattle.tape.proofs.Quicks.{Counted, moves, sets}
 
 -- one field more
@@ -150,40 +150,56 @@ module _ (s₀ : State) (at : ℕ) (tape first : List ℕ) (w : Bool) where
           buffer = r .wrote ∙ ap (λ (l : List Item). putIf w first 0 (fields New l)) is;
         }
 
--- ---- a stretch, by its next code
+-- ---- further, by the next code
 
 module _ (w : Bool) (tape out : List ℕ) (s : State) (count cuts i : ℕ) where
-  pub further-start : Further w tape out s count cuts i (stretchAt s i count) out
-  further-start = record { onward = omega arith; keeps = λ s₀ at first g. g }
+  pub further-start : Further w tape out s count cuts i s count i out
+  further-start = record { onward = omega arith; few = λ h. h; sound = λ h. h; same = refl; keeps = λ s₀ at first g. g }
 
-  module _ (r : Stretch) (later : List ℕ) (f : Further w tape out s count cuts i r later) (h : r .next < length tape) where
-    pub further-moved : (c : Units) → effectOf (placed s (r .carriage)) (getD tape (r .next) 0) ≡ Moved (placed s c)
-        → Further w tape out s count cuts i (record { next = r .next + 1; carriage = c; count = r .count }) later
-    further-moved c e =
+  module _ (t : State) (n j : ℕ) (later : List ℕ) (f : Further w tape out s count cuts i t n j later) where
+    pub further-then : {u : State} {m k : ℕ} {next : List ℕ} → Further w tape later t n cuts j u m k next → Further w tape out s count cuts i u m k next
+    further-then g =
         record {
-          onward = omega (arith, f .onward);
-          keeps = λ s₀ at first g. going-moved s₀ at tape first w later (placed s (r .carriage)) (r .count) cuts (r .next) (f .keeps s₀ at first g) h (placed s c) e;
+          onward = omega (arith, f .onward, g .onward);
+          few = λ h. g .few (f .few h);
+          sound = λ h. g .sound (f .sound h);
+          same = g .same ∙ f .same;
+          keeps = λ s₀ at first x. g .keeps s₀ at first (f .keeps s₀ at first x);
         }
 
-    pub further-flashed : (k : Character) → effectOf (placed s (r .carriage)) (getD tape (r .next) 0) ≡ Flashed k → (next : List ℕ) → length next ≡ length later → next ≡ putAt w (r .count) cuts (Placed k) later
-        → Further w tape out s count cuts i (record { next = r .next + 1; carriage = r .carriage; count = r .count + 1 }) next
-    further-flashed k e next l n =
-        record {
-          onward = omega (arith, f .onward);
-          keeps = λ s₀ at first g. going-set s₀ at tape first w later (placed s (r .carriage)) (r .count) cuts (r .next) (f .keeps s₀ at first g) h e flashed next l n (r .count + 1) cuts refl refl;
-        }
+    module _ (h : j < length tape) where
+      pub further-moved : (u : State) → effectOf t (getD tape j 0) ≡ Moved u → Further w tape out s count cuts i u n (j + 1) later
+      further-moved u e =
+          record {
+            onward = omega (arith, f .onward);
+            few = λ l. omega (arith, f .few l);
+            sound = λ l. stays-sound t (f .sound l) (getD tape j 0) e;
+            same = f .same;
+            keeps = λ s₀ at first g. going-moved s₀ at tape first w later t n cuts j (f .keeps s₀ at first g) h u e;
+          }
 
--- where nothing is written
-module _ (tape out : List ℕ) (s : State) (count cuts i : ℕ) (r : Stretch) (f : Further false tape out s count cuts i r out) (h : r .next < length tape) where
+      pub further-flashed : (k : Character) → effectOf t (getD tape j 0) ≡ Flashed k → (next : List ℕ) → length next ≡ length later → next ≡ putAt w n cuts (Placed k) later
+          → Further w tape out s count cuts i t (n + 1) (j + 1) next
+      further-flashed k e next l q =
+          record {
+            onward = omega (arith, f .onward);
+            few = λ m. omega (arith, f .few m);
+            sound = f .sound;
+            same = l ∙ f .same;
+            keeps = λ s₀ at first g. going-set s₀ at tape first w later t n cuts j (f .keeps s₀ at first g) h e flashed next l q (n + 1) cuts refl refl;
+          }
+
+-- over a stretch where nothing is written
+module _ (tape out : List ℕ) (s : State) (count cuts i : ℕ) (r : Stretch) (f : Stretched false tape out s count cuts i r out) (h : r .next < length tape) where
   pub further-counted : (c : Units) → Counted (placed s (r .carriage)) (getD tape (r .next) 0) c
-      → Further false tape out s count cuts i (record { next = r .next + 1; carriage = c; count = r .count + flashesIn (getD tape (r .next) 0) }) out
+      → Stretched false tape out s count cuts i (record { next = r .next + 1; carriage = c; count = r .count + flashesIn (getD tape (r .next) 0) }) out
   further-counted c (moves e z) =
       let same : r .count ≡ r .count + flashesIn (getD tape (r .next) 0) = omega (arith, z) in
-      subst (λ (n : ℕ). Further false tape out s count cuts i (record { next = r .next + 1; carriage = c; count = n }) out) same
-      (further-moved false tape out s count cuts i r out f h c e)
+      subst (λ (n : ℕ). Further false tape out s count cuts i (placed s c) n (r .next + 1) out) same
+      (further-moved false tape out s count cuts i (placed s (r .carriage)) (r .count) (r .next) out f h (placed s c) e)
   further-counted c (sets k e q z) =
       let more : r .count + 1 ≡ r .count + flashesIn (getD tape (r .next) 0) = omega (arith, z) in
       let here : r .carriage ≡ c = sym (ap (λ (t : State). t .carriage) q) in
-      subst (λ (n : ℕ). Further false tape out s count cuts i (record { next = r .next + 1; carriage = c; count = n }) out) more
-      (subst (λ (u : Units). Further false tape out s count cuts i (record { next = r .next + 1; carriage = u; count = r .count + 1 }) out) here
-      (further-flashed false tape out s count cuts i r out f h k e out refl refl))
+      subst (λ (n : ℕ). Further false tape out s count cuts i (placed s c) n (r .next + 1) out) more
+      (subst (λ (u : Units). Further false tape out s count cuts i (placed s u) (r .count + 1) (r .next + 1) out) here
+      (further-flashed false tape out s count cuts i (placed s (r .carriage)) (r .count) (r .next) out f h k e out refl refl))

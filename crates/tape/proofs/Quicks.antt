@@ -140,9 +140,13 @@ module _ (s : State) (b : ℕ) (d : Derived) (f : DerivedFrom s d) (t : Takes d 
           (ap (λ (n : ℕ). carriageAt (s .carriage .0 +ℤ directedBy (s .modes .«escape_back») n)) (sym (one-way (b / 128) (127 - b % 128) (omega arith))) ∙ e))
           (ap (λ (u : Bool). cond u 0 (1 - b / 128)) (ne-eqb b 0 (not-zero b (omega arith))) ∙ omega arith)
 
--- what is derived from a state stays where only the carriage moves
-pub still-derived : (s : State) (c : Units) {d : Derived} → DerivedFrom s d → DerivedFrom (placed s c) d
-still-derived s c f =
+-- a state with its carriage and its height elsewhere
+abbrev pub elsewhere : State → Units → Quanta → State
+elsewhere s c h = record { machine = s .machine; initialized = s .initialized; parked = s .parked; stopped = s .stopped; cut = s .cut; modes = s .modes; size = s .size; carriage = c; height = h }
+
+-- what is derived from a state stays where only the carriage and the height move
+pub still-derived : (s : State) (c : Units) (q : Quanta) {d : Derived} → DerivedFrom s d → DerivedFrom (elsewhere s c q) d
+still-derived s c q f =
     record {
       escapes = f .escapes;
       escaping = λ h. let r = f .escaping h in record { begun = r .begun; uncut = r .uncut; unstopped = r .unstopped; unparked = r .unparked };

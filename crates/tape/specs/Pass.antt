@@ -33,10 +33,17 @@ pub record Going (s₀ : State) (at : ℕ) (tape first : List ℕ) (w : Bool) (o
   pub same : length out ≡ length first
   pub wrote : out ≡ putIf w first 0 (fields New (soFar s₀ at tape i))
 
--- a stretch r keeps it, whatever the pass started from
-pub record Further (w : Bool) (tape out : List ℕ) (s : State) (count cuts i : ℕ) (r : Stretch) (later : List ℕ) : Type 0 where
-  pub onward : i ≤ r .next
-  pub keeps : (s₀ : State) (at : ℕ) (first : List ℕ) → Going s₀ at tape first w out s count cuts i → Going s₀ at tape first w later (placed s (r .carriage)) (r .count) cuts (r .next)
+-- from a state, counts and a place on to others: a pass keeps it, whatever it started from
+pub record Further (w : Bool) (tape out : List ℕ) (s : State) (count cuts i : ℕ) (t : State) (n j : ℕ) (later : List ℕ) : Type 0 where
+  pub onward : i ≤ j
+  pub few : count ≤ i → n ≤ j
+  pub sound : Sound s → Sound t
+  pub same : length later ≡ length out
+  pub keeps : (s₀ : State) (at : ℕ) (first : List ℕ) → Going s₀ at tape first w out s count cuts i → Going s₀ at tape first w later t n cuts j
+
+-- over a stretch, where only the carriage moves
+abbrev pub Stretched : Bool → List ℕ → List ℕ → State → ℕ → ℕ → ℕ → Stretch → List ℕ → Type 0
+Stretched w tape out s count cuts i r later = Further w tape out s count cuts i (placed s (r .carriage)) (r .count) (r .next) later
 
 -- what a pass finds of a run, and the buffer after it
 pub record Passed (x : Run) (w : Bool) (before : List ℕ) (r : Reading) (later : List ℕ) : Type 0 where

@@ -58,21 +58,19 @@ fn pass(first: State, at: usize, tape: &[u8], out: &mut [u8], writing: bool) -> 
     ensures { λ r. ⌜ Passed (run first at (now (tape .entry))) writing (now (out .entry)) r (now (out .exit)) ⌝ }
 {
     let mut s = first;
-    let mut d = quick::derived_of(first);
     let mut count: usize = 0;
     let mut cuts: usize = 0;
     let mut i: usize = 0;
     while i < tape.len() {
-        let r = quick::quick_stretch(writing, s, d, tape, i, count, cuts, out);
-        let place = r.carriage;
-        s.carriage = place;
+        let r = quick::quick_run(writing, s, tape, i, count, cuts, out);
+        let reached = r.state;
+        s = reached;
         count = r.count;
         i = r.next;
         if i < tape.len() {
-            match quick::effect_of(s, tape[i]) {
+            match machine::step(s, tape[i]) {
                 Effect::Moved(next) => {
                     s = next;
-                    d = quick::derived_of(next);
                     i += 1;
                 }
                 Effect::Flashed(c) => {
@@ -84,7 +82,6 @@ fn pass(first: State, at: usize, tape: &[u8], out: &mut [u8], writing: bool) -> 
                     put_after(writing, out, count, cuts, Item::Cut);
                     cuts += item::CUT_FIELD;
                     s = next;
-                    d = quick::derived_of(next);
                     i += 1;
                 }
                 Effect::Refused(n) => {

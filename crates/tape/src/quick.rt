@@ -2,7 +2,6 @@
 use crate::code;
 use crate::code::Machine;
 use crate::machine;
-use crate::machine::Effect;
 use crate::machine::Modes;
 use crate::machine::State;
 use galley_file::character;
@@ -17,10 +16,9 @@ ghost use mathlib.Core.Path.{_≡_};
 ghost use mathlib.Core.Bool.{true, false};
 ghost use mathlib.Core.List.{List};
 ghost use Prim.Native.Nat.{ℕ, _≤_};
-ghost use Rattle.tape.specs.Machine.{effectOf};
 ghost use Rattle.tape.specs.Sound.{Sound};
 ghost use Rattle.tape.specs.Quick.{Running, halfSize, DerivedFrom, Takes, escapeBy, flashesIn, Turn, turnedBy, modesAfter, sizeAfter, Leads, placed, stretchAt, Quickly};
-ghost use Rattle.tape.specs.Pass.{Further};
+ghost use Rattle.tape.specs.Pass.{Further, Stretched};
 
 // What is derived from a state and outlives flashes and escapes: the last escape and the last flash that are taken, or 0, and the font number.
 pub struct Derived {
@@ -33,6 +31,13 @@ pub struct Derived {
 pub struct Stretch {
     pub next: usize,
     pub carriage: Units,
+    pub count: usize,
+}
+
+// Where a run of the quick ways ends: the place on the tape, the state, and the number of characters.
+pub struct Halt {
+    pub next: usize,
+    pub state: State,
     pub count: usize,
 }
 
@@ -92,7 +97,7 @@ fn half_size(upper: bool) -> u8
     }
 }
 
-pub fn derived_of(s: State) -> Derived
+fn derived_of(s: State) -> Derived
     ensures { λ r. ⌜ DerivedFrom s r ⌝ }
 {
     let size = s.size;
@@ -180,7 +185,7 @@ fn flashes_in(b: u8) -> usize
 // A stretch from `from` on, after `before` characters: counts. Flashes and escapes mix at random, so no branch tells them apart.
 fn count_stretch(s: State, d: Derived, tape: &[u8], from: usize, before: usize) -> Stretch
     requires { ⌜ ((Sound s) × (DerivedFrom s d)) × (before ≤ from) ⌝ }
-    ensures { λ r. ⌜ ((out : List ℕ) (cuts : ℕ) → Further false (now (tape .entry)) out s before cuts from r out) ⌝ }
+    ensures { λ r. ⌜ ((out : List ℕ) (cuts : ℕ) → Stretched false (now (tape .entry)) out s before cuts from r out) ⌝ }
 {
     let mut r = at_state(s, from, before);
     while r.next < tape.len() {
@@ -215,7 +220,7 @@ fn write_stretch(
     out: &mut [u8],
 ) -> Stretch
     requires { ⌜ ((Sound s) × (DerivedFrom s d)) × (before ≤ from) ⌝ }
-    ensures { λ r. ⌜ Further true (now (tape .entry)) (now (out .entry)) s before cuts from r (now (out .exit)) ⌝ }
+    ensures { λ r. ⌜ Stretched true (now (tape .entry)) (now (out .entry)) s before cuts from r (now (out .exit)) ⌝ }
 {
     let mut r = at_state(s, from, before);
     if out.len() < cuts {
@@ -246,7 +251,7 @@ fn write_stretch(
 }
 
 // A stretch from `from` on, after `before` characters and so many bytes of cuts; writes their fields, if writing.
-pub fn quick_stretch(
+fn quick_stretch(
     writing: bool,
     s: State,
     d: Derived,
@@ -257,7 +262,7 @@ pub fn quick_stretch(
     out: &mut [u8],
 ) -> Stretch
     requires { ⌜ ((Sound s) × (DerivedFrom s d)) × (before ≤ from) ⌝ }
-    ensures { λ r. ⌜ Further writing (now (tape .entry)) (now (out .entry)) s before cuts from r (now (out .exit)) ⌝ }
+    ensures { λ r. ⌜ Stretched writing (now (tape .entry)) (now (out .entry)) s before cuts from r (now (out .exit)) ⌝ }
 {
     if writing {
         write_stretch(s, d, tape, from, before, cuts, out)
@@ -276,32 +281,18 @@ fn tilts(machine: Machine) -> bool
     }
 }
 
-// Whether b turns a mode or sets a size. The machine is asked before the code, since it stays the same.
+// Whether b turns a mode or sets a size. Which of them comes is hard to foresee, so no branch tells them apart; the machine stays the same.
 fn turns(machine: Machine, b: u8) -> bool
     ensures { λ r. ⌜ (r ≡ true → Turn machine b) ⌝ }
 {
     if b >> 5 != 2 {
         return false;
     }
-    if b == 0x40 {
-        return false;
-    }
-    if b == 0x49 {
-        return false;
-    }
-    if b == 0x4B {
-        return false;
-    }
-    if b == 0x4D {
-        return false;
-    }
+    let settles = (b != 0x40) & (b != 0x49) & (b != 0x4B) & (b != 0x4D) & (b != 0x5F);
     if tilts(machine) {
-        return b != 0x5F;
+        return settles;
     }
-    if b >> 1 == 0x27 {
-        return false;
-    }
-    b != 0x5F
+    settles & (b >> 1 != 0x27)
 }
 
 // Whether b turns a mode or sets a size of a running machine.
@@ -320,11 +311,7 @@ fn takes_turn(s: State, b: u8) -> bool
 fn turned(mode: bool, b: u8, on: u8, off: u8) -> bool
     ensures { λ r. ⌜ r ≡ turnedBy on off b mode ⌝ }
 {
-    if b == on {
-        true
-    } else {
-        if b == off { false } else { mode }
-    }
+    (mode & (b != off)) | (b == on)
 }
 
 // The modes after a code that turns one or sets a size. Which one comes is hard to foresee, so every mode is computed.
@@ -362,24 +349,58 @@ fn led(s: State, b: u8) -> Height
     }
 }
 
-// What any code does: a turn or a lead of a running machine by the quick ways, every other code by the whole step.
-pub fn effect_of(s: State, b: u8) -> Effect
-    requires { ⌜ Sound s ⌝ }
-    ensures { λ r. ⌜ r ≡ effectOf s b ⌝ }
+// Runs from `from` on, after `before` characters and so many bytes of cuts, up to a code that needs the whole step; writes the characters' fields, if writing.
+pub fn quick_run(
+    writing: bool,
+    first: State,
+    tape: &[u8],
+    from: usize,
+    before: usize,
+    cuts: usize,
+    out: &mut [u8],
+) -> Halt
+    requires { ⌜ (Sound first) × (before ≤ from) ⌝ }
+    ensures { λ r. ⌜ Further writing (now (tape .entry)) (now (out .entry)) first before cuts from (r .state) (r .count) (r .next) (now (out .exit)) ⌝ }
 {
-    let mut next = s;
-    if takes_turn(s, b) {
-        let modes = modes_after(s.modes, b);
-        let size = size_after(s.size, b);
-        next.modes = modes;
-        next.size = size;
-        return Effect::Moved(next);
-    }
-    match led(s, b) {
-        Height::At(h) => {
-            next.height = h;
-            Effect::Moved(next)
+    let mut s = first;
+    let mut d = derived_of(first);
+    let mut count = before;
+    let mut i = from;
+    while i < tape.len() {
+        let r = quick_stretch(writing, s, d, tape, i, count, cuts, out);
+        let place = r.carriage;
+        s.carriage = place;
+        count = r.count;
+        i = r.next;
+        if i < tape.len() {
+            let b = tape[i];
+            if takes_turn(s, b) {
+                let modes = modes_after(s.modes, b);
+                let size = size_after(s.size, b);
+                s.modes = modes;
+                s.size = size;
+                d = derived_of(s);
+                i += 1;
+            } else {
+                match led(s, b) {
+                    Height::At(h) => {
+                        s.height = h;
+                        i += 1;
+                    }
+                    Height::Outside => {
+                        return Halt {
+                            next: i,
+                            state: s,
+                            count: count,
+                        };
+                    }
+                }
+            }
         }
-        Height::Outside => machine::step(s, b),
+    }
+    Halt {
+        next: i,
+        state: s,
+        count: count,
     }
 }

@@ -1,4 +1,4 @@
--- `tape::pass` meets its contract. The invariant is `Going`; its laws are in `Passes`, a stretch keeps it by its contract.
+-- `tape::pass` meets its contract. The invariant is `Going`; its laws are in `Passes`, the quick ways keep it by their contract.
 -- Assumes nothing.
 use mathlib.Core.Path.{_≡_, refl, sym, _∙_}
 use mathlib.Core.Bool.{true}
@@ -17,47 +17,42 @@ use Rattle.tape.specs.declared.machine.Effect.{Effect}
 use Rattle.tape.specs.declared.machine.Effect.the-variants.{Moved, Flashed, Parted}
 use Rattle.tape.specs.Machine.{effectOf}
 use Rattle.tape.specs.RunLaws.{Sets, flashed, parted}
-use Rattle.tape.specs.Quick.{placed, DerivedFrom}
 use Rattle.tape.specs.Pass.{putAt, Going}
-use Rattle.tape.proofs.Quicks.{still-derived}
 use Rattle.tape.proofs.Passes.{going-start, going-bound, going-moved, going-room, going-set, going-refused, going-done}
 use Rattle.tape.proofs.pass.Statement.{statement}
 use Rattle.tape.proofs.pass.Tie as tie
 
 abbrev Inv-loop : tie.InvT-loop
-Inv-loop at tape out₀ writing s₀ d₀ count₀ cuts₀ i₀ out s d count cuts i = Going s₀ at tape out₀ writing out s count cuts i × DerivedFrom s d
+Inv-loop at tape out₀ writing s₀ count₀ cuts₀ i₀ out s count cuts i = Going s₀ at tape out₀ writing out s count cuts i
 
 abbrev μ-loop : tie.MeasureT-loop
-μ-loop at tape out₀ writing s₀ d₀ count₀ cuts₀ i₀ out s d count cuts i = length tape - i
+μ-loop at tape out₀ writing s₀ count₀ cuts₀ i₀ out s count cuts i = length tape - i
 
--- the laws of a turn of the loop, after its stretch
-module _ (c : tie.After-place Inv-loop μ-loop) where
+-- the laws of a turn of the loop, after the quick ways
+module _ (c : tie.After-reached Inv-loop μ-loop) where
   abbrev start : tie.Start Inv-loop μ-loop
-  start = c .before .before .before .before .before .before .before .before .before .before
+  start = c .before .before .before .before .before .before .before .before .before
 
   abbrev now : State
-  now = placed (c .before .before .before .before .before .before .loop .s) (c .before .before .before .quick-stretch .result .carriage)
+  now = c .before .before .before .quick-run .result .state
 
   abbrev count : ℕ
-  count = c .before .before .before .quick-stretch .result .count
+  count = c .before .before .before .quick-run .result .count
 
   abbrev cuts : ℕ
   cuts = c .before .before .before .before .before .before .loop .cuts
 
   abbrev i : ℕ
-  i = c .before .before .before .quick-stretch .result .next
+  i = c .before .before .before .quick-run .result .next
 
   abbrev out : List ℕ
-  out = c .before .before .before .quick-stretch .last .1 .1 .1 .1 .1 .1 .1 .0
+  out = c .before .before .before .quick-run .last .1 .1 .1 .1 .1 .1 .0
 
   abbrev code : ℕ
   code = getD (start .args .tape .now) i 0
 
   going : Going (start .args .first) (start .args .at) (start .args .tape .now) (start .args .out .now) (start .args .writing) out now count cuts i
-  going = let a = start .args in c .before .before .before .quick-stretch .ensures .keeps (a .first) (a .at) (a .out .now) (c .before .before .before .before .before .before .loop .inv .0)
-
-  derived : DerivedFrom now (c .before .before .before .before .before .before .loop .d)
-  derived = let l = c .before .before .before .before .before .before .loop in still-derived (l .s) (c .before .before .before .quick-stretch .result .carriage) (l .inv .1)
+  going = let a = start .args in c .before .before .before .quick-run .ensures .keeps (a .first) (a .at) (a .out .now) (c .before .before .before .before .before .before .loop .inv)
 
   module _ (h : i < length (start .args .tape .now)) where
     next-i : Fits w64 (i + 1)
@@ -76,7 +71,7 @@ module _ (c : tie.After-place Inv-loop μ-loop) where
     few = (omega (arith, h, bound, start .pre .0 .1), omega (arith, h, bound, start .pre .0 .1))
 
     less : length (start .args .tape .now) - (i + 1) < length (start .args .tape .now) - c .before .before .before .before .before .before .loop .i
-    less = omega (arith, h, c .before .before .before .quick-stretch .ensures .onward)
+    less = omega (arith, h, c .before .before .before .quick-run .ensures .onward)
 
     moved : (t : State) → effectOf now code ≡ Moved t → Going (start .args .first) (start .args .at) (start .args .tape .now) (start .args .out .now) (start .args .writing) out t count cuts (i + 1)
     moved = let a = start .args in going-moved (a .first) (a .at) (a .tape .now) (a .out .now) (a .writing) out now count cuts i going h
@@ -91,48 +86,42 @@ module _ (c : tie.After-place Inv-loop μ-loop) where
 
 -- the character, or the cut, that a code sets
 flashes : (c : tie.After-c Inv-loop μ-loop) → effectOf (now (c .before .before .before .before .before)) (code (c .before .before .before .before .before)) ≡ Flashed (c .c .given .0 .0)
-flashes c = sym (c .before .before .effect-of .ensures) ∙ c .c .given .1
+flashes c = sym (c .before .before .step .ensures) ∙ c .c .given .1
 
 parts : (c : tie.After-next2 Inv-loop μ-loop) → effectOf (now (c .before .before .before .before .before)) (code (c .before .before .before .before .before)) ≡ Parted (c .next2 .given .0 .0)
-parts c = sym (c .before .before .effect-of .ensures) ∙ c .next2 .given .1
-
-derived-of-requires : tie.Need-derived-of-requires Inv-loop μ-loop
-derived-of-requires c κs = search needs
+parts c = sym (c .before .before .step .ensures) ∙ c .next2 .given .1
 
 loop-holds : tie.Need-loop-holds Inv-loop μ-loop
 loop-holds c =
-    let s = c .before .before .before in
+    let s = c .before .before in
     let a = s .args in
-    (going-start (a .first) (a .at) (a .tape .now) (a .out .now) (a .writing) (s .pre .0 .0), c .derived-of .ensures)
+    going-start (a .first) (a .at) (a .tape .now) (a .out .now) (a .writing) (s .pre .0 .0)
 
-quick-stretch-requires : tie.Need-quick-stretch-requires Inv-loop μ-loop
-quick-stretch-requires c κs =
+quick-run-requires : tie.Need-quick-run-requires Inv-loop μ-loop
+quick-run-requires c κs =
     let l = c .before .before .loop in
-    let a = c .before .before .before .before .before .before .args in
-    ((l .inv .0 .sound, l .inv .1), omega (arith, going-bound (a .first) (a .at) (a .tape .now) (a .out .now) (a .writing) (l .out) (l .s) (l .count) (l .cuts) (l .i) (l .inv .0)))
+    let a = c .before .before .before .before .before .args in
+    (l .inv .sound, omega (arith, going-bound (a .first) (a .at) (a .tape .now) (a .out .now) (a .writing) (l .out) (l .s) (l .count) (l .cuts) (l .i) (l .inv)))
 
-shared-slice-read-effect-of : tie.Need-shared-slice-read-effect-of Inv-loop μ-loop
-shared-slice-read-effect-of c = search needs
+shared-slice-read-step : tie.Need-shared-slice-read-step Inv-loop μ-loop
+shared-slice-read-step c = search needs
 
-effect-of-requires : tie.Need-effect-of-requires Inv-loop μ-loop
-effect-of-requires c κs = going (c .before .before) .sound
+step-requires : tie.Need-step-requires Inv-loop μ-loop
+step-requires c κs = going (c .before .before) .sound
 
 enum-known-next : tie.Need-enum-known-next Inv-loop μ-loop
 enum-known-next c = search needs
 
-derived-of-requires-2 : tie.Need-derived-of-requires-2 Inv-loop μ-loop
-derived-of-requires-2 c κs = search needs
-
 add-i : tie.Need-add-i Inv-loop μ-loop
-add-i c = next-i (c .before .before .before .before .before .before .before) (c .before .before .before .before .before .before .if1 .taken)
+add-i c = next-i (c .before .before .before .before .before .before) (c .before .before .before .before .before .if1 .taken)
 
 loop-less : tie.Need-loop-less Inv-loop μ-loop
-loop-less c = less (c .before .before .before .before .before .before .before) (c .before .before .before .before .before .before .if1 .taken)
+loop-less c = less (c .before .before .before .before .before .before) (c .before .before .before .before .before .if1 .taken)
 
 loop-again : tie.Need-loop-again Inv-loop μ-loop
 loop-again c =
-    let k = c .before .before .next .given in
-    (moved (c .before .before .before .before .before .before .before) (c .before .before .before .before .before .before .if1 .taken) (k .0 .0) (sym (c .before .before .before .before .effect-of .ensures) ∙ k .1), c .derived-of2 .ensures)
+    let k = c .before .next .given in
+    moved (c .before .before .before .before .before .before) (c .before .before .before .before .before .if1 .taken) (k .0 .0) (sym (c .before .before .before .step .ensures) ∙ k .1)
 
 enum-known-c : tie.Need-enum-known-c Inv-loop μ-loop
 enum-known-c c = search needs
@@ -154,9 +143,8 @@ loop-less-2 c = less (c .before .before .before .before .before .before .before 
 
 loop-again-2 : tie.Need-loop-again-2 Inv-loop μ-loop
 loop-again-2 c =
-    let t = c .before .before .before .before .before .before .before .before .before .before in
     let p = c .before .before .put-after in
-    (set t (c .before .before .before .before .before .before .before .before .before .if1 .taken) (flashes (c .before .before .before .before .before)) flashed (p .last .1 .0) (p .kept .1 .0) (p .ensures) _ _ refl refl, derived t)
+    set (c .before .before .before .before .before .before .before .before .before .before) (c .before .before .before .before .before .before .before .before .before .if1 .taken) (flashes (c .before .before .before .before .before)) flashed (p .last .1 .0) (p .kept .1 .0) (p .ensures) _ _ refl refl
 
 enum-known-next-2 : tie.Need-enum-known-next-2 Inv-loop μ-loop
 enum-known-next-2 c = search needs
@@ -170,24 +158,21 @@ put-after-requires-2 c κs =
 add-cuts : tie.Need-add-cuts Inv-loop μ-loop
 add-cuts c = next-cuts (c .before .before .before .before .before .before .before .before .before .before) (c .before .before .before .before .before .before .before .before .before .if1 .taken)
 
-derived-of-requires-3 : tie.Need-derived-of-requires-3 Inv-loop μ-loop
-derived-of-requires-3 c κs = search needs
-
 add-i-3 : tie.Need-add-i-3 Inv-loop μ-loop
-add-i-3 c = next-i (c .before .before .before .before .before .before .before .before .before .before .before) (c .before .before .before .before .before .before .before .before .before .before .if1 .taken)
+add-i-3 c = next-i (c .before .before .before .before .before .before .before .before .before .before) (c .before .before .before .before .before .before .before .before .before .if1 .taken)
 
 loop-less-3 : tie.Need-loop-less-3 Inv-loop μ-loop
-loop-less-3 c = less (c .before .before .before .before .before .before .before .before .before .before .before) (c .before .before .before .before .before .before .before .before .before .before .if1 .taken)
+loop-less-3 c = less (c .before .before .before .before .before .before .before .before .before .before) (c .before .before .before .before .before .before .before .before .before .if1 .taken)
 
 loop-again-3 : tie.Need-loop-again-3 Inv-loop μ-loop
 loop-again-3 c =
-    let p = c .before .before .before .put-after2 in
-    (set (c .before .before .before .before .before .before .before .before .before .before .before) (c .before .before .before .before .before .before .before .before .before .before .if1 .taken) (parts (c .before .before .before .before .before .before)) parted (p .last .1 .0) (p .kept .1 .0) (p .ensures) _ _ (omega arith) (omega arith), c .derived-of3 .ensures)
+    let p = c .before .before .put-after2 in
+    set (c .before .before .before .before .before .before .before .before .before .before) (c .before .before .before .before .before .before .before .before .before .if1 .taken) (parts (c .before .before .before .before .before)) parted (p .last .1 .0) (p .kept .1 .0) (p .ensures) _ _ (omega arith) (omega arith)
 
 enum-known-n : tie.Need-enum-known-n Inv-loop μ-loop
 enum-known-n c = search needs
 
-add-place : tie.Need-add-t32 Inv-loop μ-loop
+add-place : tie.Need-add-t31 Inv-loop μ-loop
 add-place c = let t = c .before .before .before .before .before .before in omega (arith, c .before .before .before .before .before .if1 .taken, start t .pre .0 .1, start t .good)
 
 same-length : tie.Need-same-length Inv-loop μ-loop
@@ -199,28 +184,27 @@ returns c =
     let s = start t in
     let a = s .args in
     going-refused (a .first) (a .at) (a .tape .now) (a .out .now) (a .writing) (out t) (now t) (count t) (cuts t) (i t) (going t) (c .before .before .before .before .before .if1 .taken) (c .before .n .given .0 .0) (s .pre .0 .1)
-    (sym (c .before .before .before .effect-of .ensures) ∙ c .before .n .given .1)
+    (sym (c .before .before .before .step .ensures) ∙ c .before .n .given .1)
 
 loop-less-4 : tie.Need-loop-less-4 Inv-loop μ-loop
 loop-less-4 c = omega (arith, c .if1 .left, c .before .before .before .before .before .before .loop-test .taken)
 
 loop-again-4 : tie.Need-loop-again-4 Inv-loop μ-loop
-loop-again-4 c = (going (c .before), derived (c .before))
+loop-again-4 c = going (c .before)
 
 same-length-2 : tie.Need-same-length-2 Inv-loop μ-loop
-same-length-2 c = c .before .loop .inv .0 .same
+same-length-2 c = c .before .loop .inv .same
 
 returns-2 : tie.Need-returns-2 Inv-loop μ-loop
 returns-2 c =
     let l = c .before .loop in
-    let s = c .before .before .before .before .before in
+    let s = c .before .before .before .before in
     let a = s .args in
-    going-done (a .first) (a .at) (a .tape .now) (a .out .now) (a .writing) (l .out) (l .s) (l .count) (l .cuts) (l .i) (l .inv .0) (c .loop-test .left) (s .pre .0 .1)
+    going-done (a .first) (a .at) (a .tape .now) (a .out .now) (a .writing) (l .out) (l .s) (l .count) (l .cuts) (l .i) (l .inv) (c .loop-test .left) (s .pre .0 .1)
 
 pub pass-spec : {M : Type 1} → statement M
 pass-spec =
     tie.close
-    (tie.spec Inv-loop μ-loop derived-of-requires loop-holds quick-stretch-requires shared-slice-read-effect-of effect-of-requires
-    enum-known-next derived-of-requires-2 add-i loop-less loop-again enum-known-c put-after-requires add-count add-i-2 loop-less-2
-    loop-again-2 enum-known-next-2 put-after-requires-2 add-cuts derived-of-requires-3 add-i-3 loop-less-3 loop-again-3 enum-known-n
-    add-place same-length returns loop-less-4 loop-again-4 same-length-2 returns-2)
+    (tie.spec Inv-loop μ-loop loop-holds quick-run-requires shared-slice-read-step step-requires enum-known-next add-i loop-less loop-again
+    enum-known-c put-after-requires add-count add-i-2 loop-less-2 loop-again-2 enum-known-next-2 put-after-requires-2 add-cuts add-i-3
+    loop-less-3 loop-again-3 enum-known-n add-place same-length returns loop-less-4 loop-again-4 same-length-2 returns-2)

@@ -10,14 +10,14 @@ use lib.ListN.{length, getD}
 use Rattle.measure.specs.declared.Units.{Units}
 use Rattle.tape.specs.declared.quick.Stretch.{Stretch}
 use Rattle.tape.specs.Quick.{placed, stretchAt}
-use Rattle.tape.specs.Pass.{Further}
+use Rattle.tape.specs.Pass.{Stretched}
 use Rattle.tape.proofs.Quicks.{one-at-most, counted, still-derived}
 use Rattle.tape.proofs.Passes.{further-start, further-counted}
 use Rattle.tape.proofs.quick.count_stretch.Statement.{statement}
 use Rattle.tape.proofs.quick.count_stretch.Tie as tie
 
 abbrev Inv-loop : tie.InvT-loop
-Inv-loop s d tape from before r₀ r = ((out : List ℕ) (cuts : ℕ) → Further false tape out s before cuts from r out) × (r .count ≤ r .next)
+Inv-loop s d tape from before r₀ r = ((out : List ℕ) (cuts : ℕ) → Stretched false tape out s before cuts from r out) × (r .count ≤ r .next)
 
 abbrev μ-loop : tie.MeasureT-loop
 μ-loop s d tape from before r₀ r = length tape - r .next
@@ -29,7 +29,7 @@ loop-holds : tie.Need-loop-holds Inv-loop μ-loop
 loop-holds c =
     let start = c .before .before in
     let a = start .args in
-    subst (λ (r : Stretch). ((out : List ℕ) (cuts : ℕ) → Further false (a .tape .now) out (a .s) (a .before) cuts (a .from) r out) × (r .count ≤ r .next)) (sym (c .at-state .ensures))
+    subst (λ (r : Stretch). ((out : List ℕ) (cuts : ℕ) → Stretched false (a .tape .now) out (a .s) (a .before) cuts (a .from) r out) × (r .count ≤ r .next)) (sym (c .at-state .ensures))
     (λ out cuts. further-start false (a .tape .now) out (a .s) (a .before) cuts (a .from), start .pre .1)
 
 shared-slice-read-b : tie.Need-shared-slice-read-b Inv-loop μ-loop
@@ -74,9 +74,9 @@ loop-again c =
     let way = c .before .before .before .before .before .before in
     let k = c .before .before .before .before .c .given in
     let n = c .before .before .flashes-in in
-    let one = counted (placed (a .s) (r .carriage)) code (a .d) (still-derived (a .s) (r .carriage) (start .pre .0 .1)) takes (k .0 .0) (cc (way .escape .ensures, way .before .escape-by .ensures, k .1)) in (
+    let one = counted (placed (a .s) (r .carriage)) code (a .d) (still-derived (a .s) (r .carriage) (a .s .height) (start .pre .0 .1)) takes (k .0 .0) (cc (way .escape .ensures, way .before .escape-by .ensures, k .1)) in (
       λ out cuts.
-          subst (λ (m : ℕ). Further false (a .tape .now) out (a .s) (a .before) cuts (a .from) (record { next = r .next + 1; carriage = k .0 .0; count = r .count + m }) out) (sym (n .ensures))
+          subst (λ (m : ℕ). Stretched false (a .tape .now) out (a .s) (a .before) cuts (a .from) (record { next = r .next + 1; carriage = k .0 .0; count = r .count + m }) out) (sym (n .ensures))
           (further-counted (a .tape .now) out (a .s) (a .before) cuts (a .from) r (l .inv .0 out cuts) test (k .0 .0) one),
       omega (arith, n .ensures, one-at-most code, l .inv .1),
     )

@@ -1,17 +1,24 @@
 -- `tape::quick::turned` meets its contract.
 -- Assumes nothing.
-use borrow.Author.Tests.{eq-eqb, ne-eqb}
+use mathlib.Core.Path.{_≡_, refl}
+use mathlib.Core.Bool.{Bool, true, false, cond, not, _&&_, _||_}
+use lib.Dec.{eqb}
 use Rattle.tape.proofs.quick.turned.Statement.{statement}
 use Rattle.tape.proofs.quick.turned.Tie as tie
 
+-- set, cleared or left
+either : (on off mode : Bool) → (mode && not off || on) ≡ cond on true (cond off false mode)
+either true true true = refl
+either true true false = refl
+either true false true = refl
+either true false false = refl
+either false true true = refl
+either false true false = refl
+either false false true = refl
+either false false false = refl
+
 returns : tie.Need-returns
-returns c = simp (eq-eqb _ _ (c .if1 .taken))
-
-returns-2 : tie.Need-returns-2
-returns-2 c = simp (ne-eqb _ _ (c .before .if1 .left), eq-eqb _ _ (c .if2 .taken))
-
-returns-3 : tie.Need-returns-3
-returns-3 c = simp (ne-eqb _ _ (c .before .if1 .left), ne-eqb _ _ (c .if2 .left))
+returns c = let a = c .args in either (eqb (a .b) (a .on)) (eqb (a .b) (a .off)) (a .mode)
 
 pub turned-spec : {M : Type 1} → statement M
-turned-spec = tie.close (tie.spec returns returns-2 returns-3)
+turned-spec = tie.close (tie.spec returns)

@@ -10,22 +10,15 @@ use lib.ListN.{length, getD}
 use Rattle.tape.specs.declared.machine.State.{State}
 use Rattle.tape.specs.declared.quick.Stretch.{Stretch}
 use Rattle.tape.specs.Sound.{Sound}
-use Rattle.tape.specs.SoundLaws.{stays-sound}
 use Rattle.tape.specs.Quick.{placed, DerivedFrom, Quickly}
-use Rattle.tape.specs.Pass.{Further}
+use Rattle.tape.specs.Pass.{Stretched}
 use Rattle.tape.proofs.Quicks.{still-derived}
 use Rattle.tape.proofs.Passes.{further-start, further-moved, further-flashed}
 use Rattle.tape.proofs.quick.write_stretch.Statement.{statement}
 use Rattle.tape.proofs.quick.write_stretch.Tie as tie
 
-record Kept (tape first : List ℕ) (s : State) (before cuts from : ℕ) (r : Stretch) (out : List ℕ) : Type 0 where
-  pub further : Further true tape first s before cuts from r out
-  pub few : r .count ≤ r .next
-  pub sound : Sound (placed s (r .carriage))
-  pub same : length out ≡ length first
-
 abbrev Inv-loop : tie.InvT-loop
-Inv-loop s d tape from before cuts out₀ r₀ room out r = Kept tape out₀ s before cuts from r out
+Inv-loop s d tape from before cuts out₀ r₀ room out r = Stretched true tape out₀ s before cuts from r out
 
 abbrev μ-loop : tie.MeasureT-loop
 μ-loop s d tape from before cuts out₀ r₀ room out r = length tape - r .next
@@ -34,15 +27,14 @@ at-state-requires : tie.Need-at-state-requires Inv-loop μ-loop
 at-state-requires c κs = search needs
 
 -- no code yet
-begun : (c : tie.After-at-state Inv-loop μ-loop) → Kept (c .before .before .before .args .tape .now) (c .before .before .before .args .out .now) (c .before .before .before .args .s) (c .before .before .before .args .before) (c .before .before .before .args .cuts) (c .before .before .before .args .from) (c .at-state .result) (c .before .before .before .args .out .now)
+begun : (c : tie.After-at-state Inv-loop μ-loop) → Stretched true (c .before .before .before .args .tape .now) (c .before .before .before .args .out .now) (c .before .before .before .args .s) (c .before .before .before .args .before) (c .before .before .before .args .cuts) (c .before .before .before .args .from) (c .at-state .result) (c .before .before .before .args .out .now)
 begun c =
-    let start = c .before .before .before in
-    let a = start .args in
-    subst (λ (r : Stretch). Kept (a .tape .now) (a .out .now) (a .s) (a .before) (a .cuts) (a .from) r (a .out .now)) (sym (c .at-state .ensures))
-    (record { further = further-start true (a .tape .now) (a .out .now) (a .s) (a .before) (a .cuts) (a .from); few = start .pre .1; sound = start .pre .0 .0; same = refl })
+    let a = c .before .before .before .args in
+    subst (λ (r : Stretch). Stretched true (a .tape .now) (a .out .now) (a .s) (a .before) (a .cuts) (a .from) r (a .out .now)) (sym (c .at-state .ensures))
+    (further-start true (a .tape .now) (a .out .now) (a .s) (a .before) (a .cuts) (a .from))
 
 returns : tie.Need-returns Inv-loop μ-loop
-returns c = begun (c .before) .further
+returns c = begun (c .before)
 
 sub-room : tie.Need-sub-room Inv-loop μ-loop
 sub-room c = c .if1 .left
@@ -61,7 +53,7 @@ quick-step-requires c κs =
     let l = c .before .before .before .before .loop in
     let start = c .before .before .before .before .before .before .before .before .before in
     subst (λ (t : State). Sound t × DerivedFrom t (start .args .d)) (sym (c .before .with-carriage .ensures))
-    (l .inv .sound, still-derived (start .args .s) (l .r .carriage) (start .pre .0 .1))
+    (l .inv .sound (start .pre .0 .0), still-derived (start .args .s) (l .r .carriage) (start .args .s .height) (start .pre .0 .1))
 
 -- what the quick step says of the state with its carriage
 said : (c : tie.After-quick-step Inv-loop μ-loop) → Quickly (placed (c .before .before .before .before .before .before .before .before .before .before .args .s) (c .before .before .before .before .before .loop .r .carriage)) (getD (c .before .before .before .before .before .before .before .before .before .before .args .tape .now) (c .before .before .before .before .before .loop .r .next) 0) (c .quick-step .result)
@@ -74,7 +66,7 @@ same-length : tie.Need-same-length Inv-loop μ-loop
 same-length c = c .before .before .before .before .before .before .before .before .before .before .loop .inv .same
 
 returns-2 : tie.Need-returns-2 Inv-loop μ-loop
-returns-2 c = c .before .before .before .before .before .before .before .before .before .before .loop .inv .further
+returns-2 c = c .before .before .before .before .before .before .before .before .before .before .loop .inv
 
 mul-put-character : tie.Need-mul-put-character Inv-loop μ-loop
 mul-put-character c = omega (arith, c .before .before .if3 .left, c .before .before .before .before .before .before .before .before .before .before .before .before .before .before .before .before .before .good)
@@ -86,7 +78,7 @@ put-character-requires : tie.Need-put-character-requires Inv-loop μ-loop
 put-character-requires c κs = omega (arith, c .before .before .if3 .left, c .before .before .before .before .before .before .before .before .before .before .before .before .loop .inv .same)
 
 add-r : tie.Need-add-r Inv-loop μ-loop
-add-r c = omega (arith, c .before .before .before .before .before .before .before .before .before .before .before .before .before .before .before .before .loop .inv .few, c .before .before .before .before .before .before .before .before .before .before .before .before .before .before .if2 .taken, c .before .before .before .before .before .before .before .before .before .before .before .before .before .before .before .before .before .before .before .before .before .good)
+add-r c = omega (arith, c .before .before .before .before .before .before .before .before .before .before .before .before .before .before .before .before .loop .inv .few (c .before .before .before .before .before .before .before .before .before .before .before .before .before .before .before .before .before .before .before .before .before .pre .1), c .before .before .before .before .before .before .before .before .before .before .before .before .before .before .if2 .taken, c .before .before .before .before .before .before .before .before .before .before .before .before .before .before .before .before .before .before .before .before .before .good)
 
 add-r-2 : tie.Need-add-r-2 Inv-loop μ-loop
 add-r-2 c = omega (arith, c .before .before .before .before .before .before .before .before .before .before .before .before .before .before .before .if2 .taken, c .before .before .before .before .before .before .before .before .before .before .before .before .before .before .before .before .before .before .before .before .before .before .good)
@@ -102,12 +94,7 @@ loop-again c =
     let k = c .before .before .before .before .before .before .before .before .before .before .c .given in
     let p = c .before .before .before .before .put-character in
     let e = subst (Quickly (placed (a .s) (r .carriage)) (getD (a .tape .now) (r .next) 0)) (k .1) (said (c .before .before .before .before .before .before .before .before .before .before .before .before)) in
-    record {
-      further = further-flashed true (a .tape .now) (a .out .now) (a .s) (a .before) (a .cuts) (a .from) r (l .out) (l .inv .further) (c .before .before .before .before .before .before .before .before .before .before .before .before .before .before .before .if2 .taken) (k .0 .0) e (p .last .1 .0) (p .kept .1 .0) (p .ensures .buffer-is);
-      few = omega (arith, l .inv .few);
-      sound = l .inv .sound;
-      same = p .kept .1 .0 ∙ l .inv .same;
-    }
+    further-flashed true (a .tape .now) (a .out .now) (a .s) (a .before) (a .cuts) (a .from) (placed (a .s) (r .carriage)) (r .count) (r .next) (l .out) (l .inv) (c .before .before .before .before .before .before .before .before .before .before .before .before .before .before .before .if2 .taken) (k .0 .0) e (p .last .1 .0) (p .kept .1 .0) (p .ensures .buffer-is)
 
 enum-known-c-2 : tie.Need-enum-known-c-2 Inv-loop μ-loop
 enum-known-c-2 c = search needs
@@ -126,12 +113,7 @@ loop-again-2 c =
     let k = c .before .before .c2 .given in
     let code = getD (a .tape .now) (r .next) 0 in
     let e = subst (Quickly (placed (a .s) (r .carriage)) code) (k .1) (said (c .before .before .before .before)) in
-    record {
-      further = further-moved true (a .tape .now) (a .out .now) (a .s) (a .before) (a .cuts) (a .from) r (l .out) (l .inv .further) (c .before .before .before .before .before .before .before .if2 .taken) (k .0 .0) e;
-      few = omega (arith, l .inv .few);
-      sound = stays-sound (placed (a .s) (r .carriage)) (l .inv .sound) code e;
-      same = l .inv .same;
-    }
+    further-moved true (a .tape .now) (a .out .now) (a .s) (a .before) (a .cuts) (a .from) (placed (a .s) (r .carriage)) (r .count) (r .next) (l .out) (l .inv) (c .before .before .before .before .before .before .before .if2 .taken) (placed (a .s) (k .0 .0)) e
 
 enum-told : tie.Need-enum-told Inv-loop μ-loop
 enum-told c = search needs
@@ -140,13 +122,13 @@ same-length-2 : tie.Need-same-length-2 Inv-loop μ-loop
 same-length-2 c = c .before .before .before .before .before .before .before .loop .inv .same
 
 returns-3 : tie.Need-returns-3 Inv-loop μ-loop
-returns-3 c = c .before .before .before .before .before .before .before .loop .inv .further
+returns-3 c = c .before .before .before .before .before .before .before .loop .inv
 
 same-length-3 : tie.Need-same-length-3 Inv-loop μ-loop
 same-length-3 c = c .before .before .loop .inv .same
 
 returns-4 : tie.Need-returns-4 Inv-loop μ-loop
-returns-4 c = c .before .before .loop .inv .further
+returns-4 c = c .before .before .loop .inv
 
 pub write-stretch-spec : {M : Type 1} → statement M
 write-stretch-spec =
