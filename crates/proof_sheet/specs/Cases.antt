@@ -21,8 +21,8 @@ use Rattle.dvi.specs.Command.{Y4}
 use Rattle.dvi.specs.Writer.{newPen, penAt, fontCommand, fontChange, shortest, move, commandsOf, bopBytes, firstPress, itemBytes, pressAfter, itemsBytes, pressAll, pagesBytes, largest, uses, usedFonts, nameOf, definition, definitionBytes, trailerBytes, postambleBytes, dviFile}
 use Rattle.galley_file.specs.Low.{firstHigh, lowResult}
 use Rattle.dvi_writer.specs.Result.{dviResult}
-use Rattle.tape.specs.Code.{codeOf}
-use Rattle.tape.specs.Machine.{flashOf, escapeOf, leadOf, orderOf, codeEffect, effectOf}
+use Rattle.typesetter.specs.Code.{codeOf}
+use Rattle.typesetter.specs.Machine.{flashOf, escapeOf, leadOf, orderOf, codeEffect, effectOf}
 use Rattle.tape.specs.Tape.{run, readResult, tapeResult}
 
 -- a row of the sheet: what is given, and what comes of it

@@ -1,5 +1,3 @@
-mod Codes
-mod Steps
 mod Quicks
 mod Turns
 mod Passes

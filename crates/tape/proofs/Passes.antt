@@ -19,17 +19,18 @@ use Rattle.galley_file.specs.Item.{itemField, itemSize, tally, charactersOf, cu
 use Rattle.galley_file.specs.ItemLaws.{length-itemField, count-item, all-counted, characters-append, cuts-append}
 use Rattle.galley_file.specs.Galley.{fields}
 use Rattle.galley_file.specs.GalleyLaws.{length-fields, fields-append, fields-one}
-use Rattle.tape.specs.declared.machine.State.{State}
+use Rattle.typesetter.specs.declared.machine.State.{State}
 use Rattle.tape.specs.declared.quick.Stretch.{Stretch}
-use Rattle.tape.specs.declared.machine.Effect.{Effect}
-use Rattle.tape.specs.declared.machine.Effect.the-variants.{Moved, Flashed, Refused}
+use Rattle.typesetter.specs.declared.machine.Effect.{Effect}
+use Rattle.typesetter.specs.declared.machine.Effect.the-variants.{Moved, Flashed, Refused}
 use Rattle.tape.specs.declared.Ending.the-variants.{Reached, Fault}
-use Rattle.tape.specs.Machine.{effectOf}
+use Rattle.typesetter.specs.Machine.{effectOf}
 use Rattle.tape.specs.Tape.{maxTape, Run, run}
 use Rattle.tape.specs.RunLaws.{Sets, flashed, parted, soFar, run-length, run-moved, run-set, run-refused, run-room}
-use Rattle.tape.specs.Sound.{Sound}
-use Rattle.tape.specs.SoundLaws.{stays-sound, parted-sound}
-use Rattle.tape.specs.Quick.{placed, flashesIn}
+use Rattle.typesetter.specs.Sound.{Sound}
+use Rattle.typesetter.specs.SoundLaws.{stays-sound, parted-sound}
+use Rattle.typesetter.specs.StepLaws.{placed}
+use Rattle.tape.specs.Quick.{flashesIn}
 use Rattle.tape.specs.Pass.{putAt, Going, Further, Stretched, Passed}
 use Rattle.tape.proofs.Quicks.{Counted, moves, sets}
 

@@ -18,16 +18,17 @@ use Rattle.measure.specs.PlaceLaws.{carriage-in}
 use Rattle.measure.specs.Target.{xOf}
 use Rattle.galley_file.specs.declared.character.Character.{Character}
 use Rattle.galley_file.specs.Font.{isDouble}
-use Rattle.tape.specs.declared.code.Machine.{Machine}
-use Rattle.tape.specs.declared.code.Order.the-variants.{Flash, Lead, Escape}
-use Rattle.tape.specs.declared.code.Code.the-variants.{Ignored, Ordered}
-use Rattle.tape.specs.declared.machine.State.{State}
-use Rattle.tape.specs.declared.machine.Effect.the-variants.{Moved, Flashed}
+use Rattle.typesetter.specs.declared.code.Machine.{Machine}
+use Rattle.typesetter.specs.declared.code.Order.the-variants.{Flash, Lead, Escape}
+use Rattle.typesetter.specs.declared.code.Code.the-variants.{Ignored, Ordered}
+use Rattle.typesetter.specs.declared.machine.State.{State}
+use Rattle.typesetter.specs.declared.machine.Effect.the-variants.{Moved, Flashed}
 use Rattle.tape.specs.declared.quick.Derived.{Derived}
-use Rattle.tape.specs.Code.{codeOf}
-use Rattle.tape.specs.Machine.{pastHalf, codeIn, withHeight, orderOf, effectOf}
-use Rattle.tape.specs.Quick.{placed, Running, halfSize, Flashing, DerivedFrom, Takes, escapeBy, flashesIn, Leads}
-use Rattle.tape.proofs.Steps.{step-ignored, order-taken, flash-set, lead-to, escape-at}
+use Rattle.typesetter.specs.Code.{codeOf}
+use Rattle.typesetter.specs.Machine.{pastHalf, codeIn, withHeight, orderOf, effectOf}
+use Rattle.typesetter.specs.StepLaws.{placed}
+use Rattle.tape.specs.Quick.{Running, halfSize, Flashing, DerivedFrom, Takes, escapeBy, flashesIn, Leads}
+use Rattle.typesetter.specs.StepLaws.{step-ignored, order-taken, flash-set, lead-to, escape-at}
 
 pub half-taken : (u : Bool) (v : ℕ) → v ≤ halfSize u → (v < 64) × (pastHalf u v ≡ false)
 half-taken true v h = (omega arith, le-ltb _ _ h)

@@ -18,11 +18,11 @@ use Rattle.galley_file.specs.declared.item.Item.{Item}
 use Rattle.galley_file.specs.Item.{charactersOf, cutsOf}
 use Rattle.galley_file.specs.Galley.{fields, galley}
 use Rattle.galley_file.specs.GalleyLaws.{length-fields, length-galley}
-use Rattle.tape.specs.declared.code.Machine.{Machine}
-use Rattle.tape.specs.declared.machine.State.{State}
+use Rattle.typesetter.specs.declared.code.Machine.{Machine}
+use Rattle.typesetter.specs.declared.machine.State.{State}
 use Rattle.tape.specs.declared.Ending.{Ending}
 use Rattle.tape.specs.declared.Ending.the-variants.{Reached, Fault}
-use Rattle.tape.specs.Machine.{start}
+use Rattle.typesetter.specs.Machine.{start}
 use Rattle.tape.specs.Tape.{maxTape, run, closing, readResult, machineOf, onMachine, tapeResult}
 
 pub long-tape : (tape : List ℕ) (machine room : ℕ) → maxTape < length tape → tapeResult tape machine room ≡ refusal tapeTooLong 0

@@ -4,15 +4,15 @@ use mathlib.Core.Path.{_≡_, refl, sym, ap, _∙_, subst}
 use Prim.Native.Nat.{ℕ, zero, suc, _+_, _-_, _≤_}
 use native.Mathlib.Omega.{arith}
 use lib.Dec.{lit≤}
-use Rattle.tape.specs.declared.code.Machine.{Machine}
-use Rattle.tape.specs.declared.code.Machine.the-variants.{Eight}
-use Rattle.tape.specs.declared.machine.Modes.{Modes}
-use Rattle.tape.specs.declared.machine.State.{State}
-use Rattle.tape.specs.declared.machine.Effect.the-variants.{Moved}
-use Rattle.tape.specs.Code.{codeOf}
-use Rattle.tape.specs.Machine.{orderOf, effectOf}
+use Rattle.typesetter.specs.declared.code.Machine.{Machine}
+use Rattle.typesetter.specs.declared.code.Machine.the-variants.{Eight}
+use Rattle.typesetter.specs.declared.machine.Modes.{Modes}
+use Rattle.typesetter.specs.declared.machine.State.{State}
+use Rattle.typesetter.specs.declared.machine.Effect.the-variants.{Moved}
+use Rattle.typesetter.specs.Code.{codeOf}
+use Rattle.typesetter.specs.Machine.{orderOf, effectOf}
 use Rattle.tape.specs.Quick.{Running, Turn, modesAfter, sizeAfter, settled}
-use Rattle.tape.proofs.Steps.{order-taken}
+use Rattle.typesetter.specs.StepLaws.{order-taken}
 
 module _ (s : State) (r : Running s) where
   turn-at : (k : ℕ) → k ≤ 29 → (k ≡ 8 → ⊥) → (k ≡ 10 → ⊥) → (k ≡ 12 → ⊥) → (13 ≤ k → k ≤ 14 → s .machine ≡ Eight) → effectOf s (65 + k) ≡ Moved (settled s (modesAfter (s .modes) (65 + k)) (sizeAfter (s .size) (65 + k)))

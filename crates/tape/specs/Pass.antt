@@ -9,14 +9,14 @@ use Rattle.galley_file.specs.declared.form.Form.the-variants.{New}
 use Rattle.galley_file.specs.declared.item.Item.{Item}
 use Rattle.galley_file.specs.Item.{itemField, charactersOf, cutsOf}
 use Rattle.galley_file.specs.Galley.{fields}
-use Rattle.tape.specs.declared.machine.State.{State}
+use Rattle.typesetter.specs.declared.machine.State.{State}
 use Rattle.tape.specs.declared.quick.Stretch.{Stretch}
 use Rattle.tape.specs.declared.Ending.the-variants.{Reached}
 use Rattle.tape.specs.declared.Reading.{Reading}
 use Rattle.tape.specs.Tape.{maxTape, Run, run}
 use Rattle.tape.specs.RunLaws.{soFar}
-use Rattle.tape.specs.Sound.{Sound}
-use Rattle.tape.specs.Quick.{placed}
+use Rattle.typesetter.specs.Sound.{Sound}
+use Rattle.typesetter.specs.StepLaws.{placed}
 
 -- an item's field after n characters and k bytes of cuts
 abbrev pub putAt : Bool → ℕ → ℕ → Item → List ℕ → List ℕ

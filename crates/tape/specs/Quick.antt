@@ -3,20 +3,20 @@ use mathlib.Core.Path.{_≡_}
 use mathlib.Core.Bool.{Bool, true, false, cond}
 use Prim.Native.Nat.{ℕ, _-_, _*_, _/_, _%_, _≤_, _<_}
 use lib.Dec.{eqb, ltb}
-use Rattle.measure.specs.declared.Units.{Units}
 use Rattle.measure.specs.declared.Height.{Height}
 use Rattle.measure.specs.declared.Height.the-variants as height
 use Rattle.galley_file.specs.Font.{fontNumber}
-use Rattle.tape.specs.declared.code.Machine.{Machine}
-use Rattle.tape.specs.declared.code.Machine.the-variants.{Eight}
-use Rattle.tape.specs.declared.machine.Modes.{Modes}
-use Rattle.tape.specs.declared.machine.State.{State}
-use Rattle.tape.specs.declared.machine.Effect.the-variants.{Moved, Flashed}
+use Rattle.typesetter.specs.declared.code.Machine.{Machine}
+use Rattle.typesetter.specs.declared.code.Machine.the-variants.{Eight}
+use Rattle.typesetter.specs.declared.machine.Modes.{Modes}
+use Rattle.typesetter.specs.declared.machine.State.{State}
+use Rattle.typesetter.specs.declared.machine.Effect.the-variants.{Moved, Flashed}
 use Rattle.tape.specs.declared.quick.Derived.{Derived}
 use Rattle.tape.specs.declared.quick.Stretch.{Stretch}
 use Rattle.tape.specs.declared.quick.Quick.{Quick}
 use Rattle.tape.specs.declared.quick.Quick.the-variants as quick
-use Rattle.tape.specs.Machine.{fontIn, withHeight, effectOf}
+use Rattle.typesetter.specs.Machine.{fontIn, withHeight, effectOf}
+use Rattle.typesetter.specs.StepLaws.{placed}
 
 -- initialized, not stopped or cut, and past the left switch
 pub record Running (s : State) : Type 0 where
@@ -54,10 +54,6 @@ escapeBy b = (b / 128) * (127 - b % 128)
 
 abbrev pub flashesIn : ℕ → ℕ
 flashesIn b = cond (eqb b 0) 0 (1 - b / 128)
-
--- a state with its carriage elsewhere
-abbrev pub placed : State → Units → State
-placed s c = record { machine = s .machine; initialized = s .initialized; parked = s .parked; stopped = s .stopped; cut = s .cut; modes = s .modes; size = s .size; carriage = c; height = s .height }
 
 -- what `quick_step` says of a code; of Slow it says nothing
 abbrev pub Quickly : State → ℕ → Quick → Type 0

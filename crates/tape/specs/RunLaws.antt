@@ -1,7 +1,8 @@
--- The laws of a run: on bytes cut in two, on the next byte, and how many items it sets.
+-- The laws of a run: on bytes cut in two, on the next byte, how many items it sets, and that they are valid.
 --     run-append       a tape cut in two: the second piece is run from the state that the first reaches, at its place on the tape
 --     run-moved, run-set, run-refused       the byte after a prefix
 --     run-length       at most one item a byte
+--     run-valid        from a sound state, valid characters
 -- Assumes nothing.
 use mathlib.Core.Path.{_≡_, refl, sym, ap, subst, _∙_}
 use mathlib.Core.List.{List, [], _∷_, _++_, append-nil}
@@ -11,15 +12,19 @@ use native.Mathlib.Numerals.{add-one}
 use native.Mathlib.Omega.{arith}
 use lib.ListN.{length, getD, take, drop, take-append-drop, length-append}
 use lib.Seq.{take-suc, drop-cons, length-take-le}
+use Rattle.measure.specs.Place.{heightEnd}
 use Rattle.galley_file.specs.declared.character.Character.{Character}
 use Rattle.galley_file.specs.declared.item.Item.{Item}
 use Rattle.galley_file.specs.declared.item.Item.the-variants.{Placed, Cut}
-use Rattle.tape.specs.declared.machine.State.{State}
-use Rattle.tape.specs.declared.machine.Effect.{Effect}
-use Rattle.tape.specs.declared.machine.Effect.the-variants.{Moved, Flashed, Parted, Refused}
+use Rattle.galley_file.specs.Galley.{AllValid, nil, more}
+use Rattle.typesetter.specs.declared.machine.State.{State}
+use Rattle.typesetter.specs.declared.machine.Effect.{Effect}
+use Rattle.typesetter.specs.declared.machine.Effect.the-variants.{Moved, Flashed, Parted, Refused}
 use Rattle.tape.specs.declared.Ending.{Ending}
 use Rattle.tape.specs.declared.Ending.the-variants.{Reached, Fault}
-use Rattle.tape.specs.Machine.{effectOf}
+use Rattle.typesetter.specs.Machine.{effectOf}
+use Rattle.typesetter.specs.Sound.{Sound}
+use Rattle.typesetter.specs.SoundLaws.{stays-sound, parted-sound, flashed-valid}
 use Rattle.tape.specs.Tape.{Run, after, run}
 
 -- a run after items that were set, by how these ended
@@ -115,3 +120,16 @@ module _ (s₀ : State) (at : ℕ) (tape : List ℕ) (i : ℕ) where
           → (more : List Item) × (run s₀ at tape .items ≡ soFar ++ (x ∷ more))
       run-room {x = x} {t = t} e q =
           (run t (suc (at + i)) (drop (suc i) tape) .items, ap (λ (r : Run). r .items) (run-rest (omega arith)) ∙ ap (λ (l : List Item). soFar ++ l) (rest-set e q))
+
+-- ---- what a run from a sound state sets
+
+pub run-valid : (s : State) (at : ℕ) (bs : List ℕ) → Sound s → AllValid heightEnd (run s at bs .items)
+unfolding run
+run-valid s at [] r = nil
+run-valid s at (b ∷ bs) r = go (λ t q. run-valid t (suc at) bs q) (effectOf s b) refl
+  where
+    go : ((t : State) → Sound t → AllValid heightEnd (run t (suc at) bs .items)) → (e : Effect) → effectOf s b ≡ e → AllValid heightEnd (run s at (b ∷ bs) .items)
+    go later (Moved t) q = rw (q, run) (later t (stays-sound s r b q))
+    go later (Flashed c) q = rw (q, run) (more (flashed-valid s r b q) (later s r))
+    go later (Parted t) q = rw (q, run) (more refl (later t (parted-sound s r b q)))
+    go later (Refused n) q = rw (q, run) nil

@@ -15,14 +15,14 @@ use Rattle.galley_file.specs.declared.form.Form.the-variants.{New}
 use Rattle.galley_file.specs.declared.item.Item.{Item}
 use Rattle.galley_file.specs.declared.item.Item.the-variants.{Placed, Cut}
 use Rattle.galley_file.specs.Galley.{galley}
-use Rattle.tape.specs.declared.code.Machine.{Machine}
-use Rattle.tape.specs.declared.code.Machine.the-variants.{Four, Eight}
-use Rattle.tape.specs.declared.machine.State.{State}
-use Rattle.tape.specs.declared.machine.Effect.{Effect}
-use Rattle.tape.specs.declared.machine.Effect.the-variants.{Moved, Flashed, Parted, Refused}
+use Rattle.typesetter.specs.declared.code.Machine.{Machine}
+use Rattle.typesetter.specs.declared.code.Machine.the-variants.{Four, Eight}
+use Rattle.typesetter.specs.declared.machine.State.{State}
+use Rattle.typesetter.specs.declared.machine.Effect.{Effect}
+use Rattle.typesetter.specs.declared.machine.Effect.the-variants.{Moved, Flashed, Parted, Refused}
 use Rattle.tape.specs.declared.Ending.{Ending}
 use Rattle.tape.specs.declared.Ending.the-variants.{Reached, Fault}
-use Rattle.tape.specs.Machine.{start, effectOf}
+use Rattle.typesetter.specs.Machine.{start, effectOf}
 
 abbrev pub maxTape : ℕ
 maxTape = 1048576

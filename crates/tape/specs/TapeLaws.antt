@@ -19,14 +19,14 @@ use Rattle.measure.specs.Place.{heightEnd}
 use Rattle.galley_file.specs.Galley.{maxItems, AllValid, galley, whole, readGalley}
 use Rattle.galley_file.specs.GalleyLaws.{galley-fits, accepts, accepts-check}
 use Rattle.galley_file.specs.Outcome.{checkOutcome}
-use Rattle.tape.specs.declared.code.Machine.{Machine}
+use Rattle.typesetter.specs.declared.code.Machine.{Machine}
 use Rattle.tape.specs.declared.Ending.{Ending}
 use Rattle.tape.specs.declared.Ending.the-variants.{Reached, Fault}
-use Rattle.tape.specs.declared.machine.State.{State}
-use Rattle.tape.specs.Machine.{start}
+use Rattle.typesetter.specs.declared.machine.State.{State}
+use Rattle.typesetter.specs.Machine.{start}
 use Rattle.tape.specs.Tape.{maxTape, run, closing, readResult, machineOf, onMachine, tapeResult}
-use Rattle.tape.specs.RunLaws.{run-length}
-use Rattle.tape.specs.SoundLaws.{start-sound, run-valid}
+use Rattle.tape.specs.RunLaws.{run-length, run-valid}
+use Rattle.typesetter.specs.SoundLaws.{start-sound}
 
 -- the characters that a tape flashes on a machine, and its cuts
 abbrev pub itemsOn : Machine → List ℕ → List Item

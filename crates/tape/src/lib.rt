@@ -1,19 +1,18 @@
 // C/A/T phototypesetter tapes (source 000, document 01), read into galleys.
-mod code;
-mod machine;
 mod quick;
 
-use code::Machine;
+use typesetter::code::Machine;
 ghost use Rattle.galley_file.specs.declared.form.Form.the-variants.{New};
 use galley_file::form;
 use galley_file::form::Form;
 use galley_file::item;
 use galley_file::item::Item;
-use machine::Effect;
-use machine::State;
 use octets::answer;
 use octets::answer::Answer;
 use octets::field;
+use typesetter::machine;
+use typesetter::machine::Effect;
+use typesetter::machine::State;
 ghost use mathlib.Core.Path.{_≡_};
 ghost use mathlib.Core.Bool.{true};
 ghost use Prim.Native.Nat.{_+_, _*_, _≤_};
@@ -21,7 +20,7 @@ ghost use lib.ListN.{length};
 ghost use Rattle.octets.specs.Answer.{outcomeOf, outcome, after};
 ghost use Rattle.galley_file.specs.Item.{itemSize};
 ghost use Rattle.galley_file.specs.Galley.{fields};
-ghost use Rattle.tape.specs.Sound.{Sound};
+ghost use Rattle.typesetter.specs.Sound.{Sound};
 ghost use Rattle.tape.specs.Tape.{maxTape, run, readResult, tapeResult};
 ghost use Rattle.tape.specs.Pass.{putAt, Passed};
 

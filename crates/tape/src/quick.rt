@@ -1,9 +1,4 @@
 // The commonest codes without the whole step: 00 and the flashes and escapes that are taken, in stretches; leads; and the codes that turn a mode or set a size.
-use crate::code;
-use crate::code::Machine;
-use crate::machine;
-use crate::machine::Modes;
-use crate::machine::State;
 use galley_file::character;
 use galley_file::character::Character;
 use galley_file::font;
@@ -12,12 +7,18 @@ use galley_file::form::Form;
 use measure::Carriage;
 use measure::Height;
 use measure::Units;
+use typesetter::code;
+use typesetter::code::Machine;
+use typesetter::machine;
+use typesetter::machine::Modes;
+use typesetter::machine::State;
 ghost use mathlib.Core.Path.{_≡_};
 ghost use mathlib.Core.Bool.{true, false};
 ghost use mathlib.Core.List.{List};
 ghost use Prim.Native.Nat.{ℕ, _≤_};
-ghost use Rattle.tape.specs.Sound.{Sound};
-ghost use Rattle.tape.specs.Quick.{Running, halfSize, DerivedFrom, Takes, escapeBy, flashesIn, Turn, turnedBy, modesAfter, sizeAfter, Leads, placed, stretchAt, Quickly};
+ghost use Rattle.typesetter.specs.Sound.{Sound};
+ghost use Rattle.typesetter.specs.StepLaws.{placed};
+ghost use Rattle.tape.specs.Quick.{Running, halfSize, DerivedFrom, Takes, escapeBy, flashesIn, Turn, turnedBy, modesAfter, sizeAfter, Leads, stretchAt, Quickly};
 ghost use Rattle.tape.specs.Pass.{Further, Stretched};
 
 // What is derived from a state and outlives flashes and escapes: the last escape and the last flash that are taken, or 0, and the font number.

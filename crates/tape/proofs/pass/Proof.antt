@@ -12,10 +12,10 @@ use mir.Val.{Fits}
 use Rattle.galley_file.specs.declared.form.Form.the-variants.{New}
 use Rattle.galley_file.specs.declared.item.Item.{Item}
 use Rattle.galley_file.specs.Item.{itemSize, tally}
-use Rattle.tape.specs.declared.machine.State.{State}
-use Rattle.tape.specs.declared.machine.Effect.{Effect}
-use Rattle.tape.specs.declared.machine.Effect.the-variants.{Moved, Flashed, Parted}
-use Rattle.tape.specs.Machine.{effectOf}
+use Rattle.typesetter.specs.declared.machine.State.{State}
+use Rattle.typesetter.specs.declared.machine.Effect.{Effect}
+use Rattle.typesetter.specs.declared.machine.Effect.the-variants.{Moved, Flashed, Parted}
+use Rattle.typesetter.specs.Machine.{effectOf}
 use Rattle.tape.specs.RunLaws.{Sets, flashed, parted}
 use Rattle.tape.specs.Pass.{putAt, Going}
 use Rattle.tape.proofs.Passes.{going-start, going-bound, going-moved, going-room, going-set, going-refused, going-done}

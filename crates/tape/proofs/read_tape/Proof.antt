@@ -8,9 +8,9 @@ use borrow.Author.Needs.{needs}
 use borrow.Author.Tests.{eq-eqb, ne-eqb}
 use lib.ListN.{length}
 use Rattle.octets.specs.Answer.{Result, Outcome, outcome, after}
-use Rattle.tape.specs.declared.code.Machine.the-variants.{Four, Eight}
+use Rattle.typesetter.specs.declared.code.Machine.the-variants.{Four, Eight}
 use Rattle.tape.specs.Tape.{machineOf}
-use Rattle.tape.specs.SoundLaws.{start-sound}
+use Rattle.typesetter.specs.SoundLaws.{start-sound}
 use Rattle.tape.proofs.Results.{long-tape, other-machine, on-machine}
 use Rattle.tape.proofs.read_tape.Statement.{statement}
 use Rattle.tape.proofs.read_tape.Tie as tie

@@ -9,7 +9,8 @@ use borrow.Author.Needs.{needs}
 use lib.ListN.{length, getD}
 use Rattle.measure.specs.declared.Units.{Units}
 use Rattle.tape.specs.declared.quick.Stretch.{Stretch}
-use Rattle.tape.specs.Quick.{placed, stretchAt}
+use Rattle.typesetter.specs.StepLaws.{placed}
+use Rattle.tape.specs.Quick.{stretchAt}
 use Rattle.tape.specs.Pass.{Stretched}
 use Rattle.tape.proofs.Quicks.{one-at-most, counted, still-derived}
 use Rattle.tape.proofs.Passes.{further-start, further-counted}

@@ -8,10 +8,11 @@ use borrow.Author.Needs.{needs}
 use lib.ListN.{length, getD}
 use mir.Syntax.{w64}
 use mir.Val.{Fits}
-use Rattle.tape.specs.declared.machine.State.{State}
-use Rattle.tape.specs.declared.machine.Effect.the-variants.{Moved}
-use Rattle.tape.specs.Machine.{effectOf}
-use Rattle.tape.specs.Quick.{placed, DerivedFrom, Leads}
+use Rattle.typesetter.specs.declared.machine.State.{State}
+use Rattle.typesetter.specs.declared.machine.Effect.the-variants.{Moved}
+use Rattle.typesetter.specs.Machine.{effectOf}
+use Rattle.typesetter.specs.StepLaws.{placed}
+use Rattle.tape.specs.Quick.{DerivedFrom, Leads}
 use Rattle.tape.specs.Pass.{Further}
 use Rattle.tape.proofs.Turns.{turn-taken}
 use Rattle.tape.proofs.Quicks.{still-derived}

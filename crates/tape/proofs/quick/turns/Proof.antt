@@ -8,7 +8,7 @@ use lib.Dec.{eqb}
 use borrow.Author.Needs.{needs}
 use borrow.Author.Tests.{not-true, eqb-false}
 use Rattle.octets.specs.FieldLaws.{both}
-use Rattle.tape.specs.declared.code.Machine.the-variants.{Eight}
+use Rattle.typesetter.specs.declared.code.Machine.the-variants.{Eight}
 use Rattle.tape.specs.Quick.{Turn}
 use Rattle.tape.proofs.quick.turns.Statement.{statement}
 use Rattle.tape.proofs.quick.turns.Tie as tie

@@ -7,10 +7,11 @@ use Prim.Native.Nat.{ℕ, _+_, _-_, _*_, _≤_, _<_}
 use native.Mathlib.Omega.{arith}
 use borrow.Author.Needs.{needs}
 use lib.ListN.{length, getD}
-use Rattle.tape.specs.declared.machine.State.{State}
+use Rattle.typesetter.specs.declared.machine.State.{State}
 use Rattle.tape.specs.declared.quick.Stretch.{Stretch}
-use Rattle.tape.specs.Sound.{Sound}
-use Rattle.tape.specs.Quick.{placed, DerivedFrom, Quickly}
+use Rattle.typesetter.specs.Sound.{Sound}
+use Rattle.typesetter.specs.StepLaws.{placed}
+use Rattle.tape.specs.Quick.{DerivedFrom, Quickly}
 use Rattle.tape.specs.Pass.{Stretched}
 use Rattle.tape.proofs.Quicks.{still-derived}
 use Rattle.tape.proofs.Passes.{further-start, further-moved, further-flashed}

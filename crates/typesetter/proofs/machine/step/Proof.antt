@@ -1,0 +1,89 @@
+-- `typesetter::machine::step` meets its contract: each arm is given the class of the code.
+-- Assumes nothing.
+use borrow.Author.Needs.{needs}
+use mathlib.Core.Path.{sym, ap, _∙_}
+use Rattle.typesetter.specs.declared.machine.Effect.the-variants.{Moved}
+use Rattle.typesetter.specs.StepLaws.{step-ignored, step-illegal, initialize-stopped, initialize-taken, order-early, order-cut, order-stopped, order-taken}
+use Rattle.typesetter.proofs.machine.step.Statement.{statement}
+use Rattle.typesetter.proofs.machine.step.Tie as tie
+
+classify-requires : tie.Need-classify-requires
+classify-requires c κs = search needs
+
+enum-told : tie.Need-enum-told
+enum-told c = search needs
+
+enum-told-2 : tie.Need-enum-told-2
+enum-told-2 c = search needs
+
+enum-told-3 : tie.Need-enum-told-3
+enum-told-3 c = search needs
+
+initialized-requires : tie.Need-initialized-requires
+initialized-requires c κs = search needs
+
+enum-known-o : tie.Need-enum-known-o
+enum-known-o c = search needs
+
+obey-requires : tie.Need-obey-requires
+obey-requires c κs = search needs
+
+returns : tie.Need-returns
+returns c =
+    let a = c .before .before .before .args in
+    step-ignored (a .s) (a .b) (sym (c .before .before .classify .ensures) ∙ c .enum-told .given .1)
+
+returns-2 : tie.Need-returns-2
+returns-2 c =
+    let a = c .before .before .before .args in
+    step-illegal (a .s) (a .b) (sym (c .before .before .classify .ensures) ∙ c .enum-told2 .given .1)
+
+returns-3 : tie.Need-returns-3
+returns-3 c =
+    let a = c .before .before .before .before .args in
+    initialize-stopped (a .s) (a .b) (sym (c .before .before .before .classify .ensures) ∙ c .before .enum-told3 .given .1) (c .if1 .taken)
+
+returns-4 : tie.Need-returns-4
+returns-4 c =
+    let a = c .before .before .before .before .before .args in
+    ap Moved (c .initialized .ensures) ∙ initialize-taken (a .s) (a .b) (sym (c .before .before .before .before .classify .ensures) ∙ c .before .before .enum-told3 .given .1) (c .before .if1 .left)
+
+returns-5 : tie.Need-returns-5
+returns-5 c =
+    let a = c .before .before .before .before .before .before .args in
+    order-cut (a .s) (a .b) (sym (c .before .before .before .before .before .classify .ensures) ∙ c .before .before .before .o .given .1) (c .before .if2 .taken) (c .if3 .taken)
+
+returns-6 : tie.Need-returns-6
+returns-6 c =
+    let a = c .before .before .before .before .before .before .before .args in
+    order-stopped (a .s) (a .b) (sym (c .before .before .before .before .before .before .classify .ensures) ∙ c .before .before .before .before .o .given .1) (c .before .before .if2 .taken) (c .before .if3 .left) (c .if4 .taken)
+
+returns-7 : tie.Need-returns-7
+returns-7 c =
+    let a = c .before .before .before .before .before .before .before .before .args in
+    c .obey .ensures ∙ order-taken (a .s) (a .b) (sym (c .before .before .before .before .before .before .before .classify .ensures) ∙ c .before .before .before .before .before .o .given .1) (c .before .before .before .if2 .taken) (c .before .before .if3 .left) (c .before .if4 .left)
+
+returns-8 : tie.Need-returns-8
+returns-8 c =
+    let a = c .before .before .before .before .before .args in
+    order-early (a .s) (a .b) (sym (c .before .before .before .before .classify .ensures) ∙ c .before .before .o .given .1) (c .if2 .left)
+
+pub step-spec : {M : Type 1} → statement M
+step-spec =
+    tie.close
+    (tie.spec
+    classify-requires
+    enum-told
+    enum-told-2
+    enum-told-3
+    initialized-requires
+    enum-known-o
+    obey-requires
+    returns
+    returns-2
+    returns-3
+    returns-4
+    returns-5
+    returns-6
+    returns-7
+    returns-8)

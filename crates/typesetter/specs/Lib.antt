@@ -1,0 +1,6 @@
+-- The C/A/T (document 01, "Tape codes"): the codes, the machine, and what every step keeps.
+pub mod Code
+pub mod Machine
+pub mod StepLaws
+pub mod Sound
+pub mod SoundLaws

@@ -1,0 +1,86 @@
+-- The machine's rules, by what led to them: the laws that the proofs of the whole step and of the quick step cite.
+-- Assumes nothing.
+use mathlib.Core.Path.{_≡_, refl, ap, sym, _∙_}
+use mathlib.Core.Bool.{Bool, true, false, cond}
+use Prim.Native.Nat.{ℕ}
+use lib.Dec.{leb}
+use lib.IntN.{_+ℤ_}
+use Rattle.octets.specs.Answer.{illegalCode, notInitialized, afterCut, afterStop}
+use Rattle.measure.specs.declared.Units.{Units}
+use Rattle.measure.specs.declared.Carriage.{Carriage}
+use Rattle.measure.specs.declared.Carriage.the-variants as carriage
+use Rattle.measure.specs.declared.Height.{Height}
+use Rattle.measure.specs.Place.{directedBy, carriageAt, heightAt}
+use Rattle.measure.specs.Target.{xOf}
+use Rattle.galley_file.specs.Font.{fontNumber, isDouble}
+use Rattle.typesetter.specs.declared.code.Order.{Order}
+use Rattle.typesetter.specs.declared.code.Code.the-variants.{Ignored, Illegal, Initialize, Ordered}
+use Rattle.typesetter.specs.declared.machine.State.{State}
+use Rattle.typesetter.specs.declared.machine.Effect.the-variants.{Moved, Flashed, Refused}
+use Rattle.typesetter.specs.Code.{codeOf}
+use Rattle.typesetter.specs.Machine.{noSizeYet, initializedOf, fontIn, pastHalf, codeIn, withCarriage, toCarriage, toHeight, flashOf, escapeOf, leadOf, orderOf, codeEffect, effectOf}
+
+-- a state with its carriage elsewhere
+abbrev pub placed : State → Units → State
+placed s c = record { machine = s .machine; initialized = s .initialized; parked = s .parked; stopped = s .stopped; cut = s .cut; modes = s .modes; size = s .size; carriage = c; height = s .height }
+
+-- a flash that no rule refuses
+pub flash-set : (s : State) (v : ℕ) → s .parked ≡ false → leb noSizeYet (s .size) ≡ false → pastHalf (s .modes .«upper_half») v ≡ false
+    → (x : Units) (n k : ℕ) → x .0 ≡ xOf (s .carriage .0) (isDouble (s .size)) → n ≡ fontNumber (fontIn (s .machine) (s .modes)) (s .size) → k ≡ codeIn (s .modes .«upper_half») v
+    → Flashed (record { x = x; height = s .height; font = n; code = k }) ≡ flashOf s v
+unfolding flashOf
+flash-set s v p z a x n k ex en ek =
+    rw (p, z, a) (λ i. Flashed (record { x = record { 0 = ex i }; height = s .height; font = en i; code = ek i }))
+
+else : {A : Type 0} (t : Bool) (x y : A) → t ≡ false → y ≡ cond t x y
+else t x y e = sym (ap (λ (u : Bool). cond u x y) e)
+
+-- a motion, by where it ends
+module _ (s : State) (n : ℕ) where
+  pub lead-to : {r : Height} → heightAt (s .height .0 +ℤ directedBy (s .modes .«lead_back») n) ≡ r → toHeight s r ≡ leadOf s n
+  unfolding leadOf
+  lead-to e = ap (toHeight s) (sym e)
+
+  module _ (free : s .parked ≡ false) where
+    pub escape-to : {r : Carriage} → carriageAt (s .carriage .0 +ℤ directedBy (s .modes .«escape_back») n) ≡ r → toCarriage s r ≡ escapeOf s n
+    unfolding escapeOf
+    escape-to e = ap (toCarriage s) (sym e) ∙ else (s .parked) _ _ free
+
+    pub escape-at : (c : Units) → carriageAt (s .carriage .0 +ℤ directedBy (s .modes .«escape_back») n) ≡ carriage.At c → Moved (placed s c) ≡ escapeOf s n
+    escape-at c e =
+        (λ i. Moved (record { machine = s .machine; initialized = s .initialized; parked = free i; stopped = s .stopped; cut = s .cut; modes = s .modes; size = s .size; carriage = c; height = s .height }))
+        ∙ escape-to e
+
+-- a step by the class of its code
+module _ (s : State) (b : ℕ) where
+  pub step-ignored : codeOf (s .machine) b ≡ Ignored → Moved s ≡ effectOf s b
+  unfolding effectOf codeEffect
+  step-ignored e = rw e
+
+  pub step-illegal : codeOf (s .machine) b ≡ Illegal → Refused illegalCode ≡ effectOf s b
+  unfolding effectOf codeEffect
+  step-illegal e = rw e
+
+  pub initialize-stopped : codeOf (s .machine) b ≡ Initialize → s .stopped ≡ true → Refused afterStop ≡ effectOf s b
+  unfolding effectOf codeEffect
+  initialize-stopped e t = rw (e, t)
+
+  pub initialize-taken : codeOf (s .machine) b ≡ Initialize → s .stopped ≡ false → Moved (initializedOf s) ≡ effectOf s b
+  unfolding effectOf codeEffect
+  initialize-taken e t = rw (e, t)
+
+  pub order-early : {o : Order} → codeOf (s .machine) b ≡ Ordered o → s .initialized ≡ false → Refused notInitialized ≡ effectOf s b
+  unfolding effectOf codeEffect
+  order-early e i = rw (e, i)
+
+  pub order-cut : {o : Order} → codeOf (s .machine) b ≡ Ordered o → s .initialized ≡ true → s .cut ≡ true → Refused afterCut ≡ effectOf s b
+  unfolding effectOf codeEffect
+  order-cut e i k = rw (e, i, k)
+
+  pub order-stopped : {o : Order} → codeOf (s .machine) b ≡ Ordered o → s .initialized ≡ true → s .cut ≡ false → s .stopped ≡ true → Refused afterStop ≡ effectOf s b
+  unfolding effectOf codeEffect
+  order-stopped e i k t = rw (e, i, k, t)
+
+  pub order-taken : {o : Order} → codeOf (s .machine) b ≡ Ordered o → s .initialized ≡ true → s .cut ≡ false → s .stopped ≡ false → orderOf s o ≡ effectOf s b
+  unfolding effectOf codeEffect
+  order-taken e i k t = rw (e, i, k, t)

@@ -1,0 +1,311 @@
+// The C/A/T: its state, and what one code does to it (document 01, "Tape codes").
+use crate::code;
+use crate::code::Code;
+use crate::code::Machine;
+use crate::code::Order;
+use galley_file::character::Character;
+use galley_file::font;
+use measure::Carriage;
+use measure::Height;
+use measure::Quanta;
+use measure::Units;
+use octets::answer;
+ghost use mathlib.Core.Path.{_≡_};
+ghost use mathlib.Core.Bool.{false};
+ghost use Prim.Native.Nat.{_≤_, _<_};
+ghost use Rattle.galley_file.specs.Font.{fontNumber};
+ghost use Rattle.typesetter.specs.Machine.{start, firstModes, initializedOf, pairOf, fontIn, pastHalf, codeIn, flashOf, escapeOf, leadOf, orderOf, effectOf};
+ghost use Rattle.typesetter.specs.Sound.{Sound};
+
+// What initialize resets.
+pub struct Modes {
+    pub escape_back: bool,
+    pub lead_back: bool,
+    pub upper_half: bool,
+    pub upper_rail: bool,
+    pub upper_mag: bool,
+    pub tilt_down: bool,
+}
+
+pub struct State {
+    pub machine: Machine,
+    pub initialized: bool,
+    pub parked: bool,
+    pub stopped: bool,
+    // A cut came last: initialize has to follow.
+    pub cut: bool,
+    pub modes: Modes,
+    // The size index, or NO_SIZE_YET.
+    pub size: u8,
+    pub carriage: Units,
+    pub height: Quanta,
+}
+
+// What one code does: it leaves another state, sets a character, ends the page, or is refused.
+pub enum Effect {
+    Moved(State),
+    Flashed(Character),
+    Parted(State),
+    Refused(u8),
+}
+
+pub const NO_SIZE_YET: u8 = font::SIZES;
+
+// The escape that leaves the left switch.
+const FIRST_ESCAPE: u8 = 16;
+
+// The flashes of the lower and of the upper half.
+pub const LOWER_HALF: u8 = 63;
+
+pub const UPPER_HALF: u8 = 45;
+
+fn first_modes() -> Modes
+    ensures { λ r. ⌜ r ≡ firstModes ⌝ }
+{
+    Modes {
+        escape_back: false,
+        lead_back: false,
+        upper_half: false,
+        upper_rail: false,
+        upper_mag: false,
+        tilt_down: true,
+    }
+}
+
+// The state before the first code.
+pub fn at_start(machine: Machine) -> State
+    ensures { λ r. ⌜ r ≡ start machine ⌝ }
+{
+    let modes = first_modes();
+    State {
+        machine: machine,
+        initialized: false,
+        parked: false,
+        stopped: false,
+        cut: false,
+        modes: modes,
+        size: NO_SIZE_YET,
+        carriage: Units(0),
+        height: Quanta(0),
+    }
+}
+
+// Initialize: the modes anew and the carriage parked; size and height stay.
+fn initialized(s: State) -> State
+    ensures { λ r. ⌜ r ≡ initializedOf s ⌝ }
+{
+    let modes = first_modes();
+    let height = s.height;
+    let machine = s.machine;
+    State {
+        machine: machine,
+        initialized: true,
+        parked: true,
+        stopped: s.stopped,
+        cut: false,
+        modes: modes,
+        size: s.size,
+        carriage: Units(0),
+        height: height,
+    }
+}
+
+// The pair of rail and mag in force, 0 to 3.
+fn pair_in(m: Modes) -> u8
+    ensures { λ r. ⌜ (r ≡ pairOf (m .«upper_rail») (m .«upper_mag»)) × (r ≤ 3) ⌝ }
+{
+    if m.upper_mag {
+        if m.upper_rail { 3 } else { 2 }
+    } else {
+        if m.upper_rail { 1 } else { 0 }
+    }
+}
+
+// The font in force.
+fn font_in(machine: Machine, m: Modes) -> u8
+    ensures { λ r. ⌜ (r ≡ fontIn machine m) × ((1 ≤ r) × (r ≤ 8)) ⌝ }
+{
+    let pair = pair_in(m);
+    match machine {
+        Machine::Four => pair + 1,
+        Machine::Eight => {
+            if m.tilt_down {
+                2 * pair + 2
+            } else {
+                2 * pair + 1
+            }
+        }
+    }
+}
+
+// The font number in force.
+pub fn number_in(machine: Machine, m: Modes, size: u8) -> u8
+    requires { ⌜ size < 15 ⌝ }
+    ensures { λ r. ⌜ r ≡ fontNumber (fontIn machine m) size ⌝ }
+{
+    font::font_number(font_in(machine, m), size)
+}
+
+// Whether a flash of v is past the end of the half.
+fn past_half(upper: bool, v: u8) -> bool
+    ensures { λ r. ⌜ r ≡ pastHalf upper v ⌝ }
+{
+    if upper { UPPER_HALF < v } else { false }
+}
+
+// The character that a flash of v sets.
+pub fn code_in(upper: bool, v: u8) -> u8
+    requires { ⌜ pastHalf upper v ≡ false ⌝ }
+    ensures { λ r. ⌜ r ≡ codeIn upper v ⌝ }
+{
+    if upper { LOWER_HALF + v } else { v }
+}
+
+fn flash(s: State, v: u8) -> Effect
+    requires { ⌜ Sound s ⌝ }
+    ensures { λ r. ⌜ r ≡ flashOf s v ⌝ }
+{
+    let size = s.size;
+    let upper = s.modes.upper_half;
+    if s.parked {
+        return Effect::Refused(answer::PARKED);
+    }
+    if NO_SIZE_YET <= size {
+        return Effect::Refused(answer::NO_SIZE);
+    }
+    if past_half(upper, v) {
+        return Effect::Refused(answer::ABOVE_HALF);
+    }
+    let x = s.carriage.x(font::is_double(size));
+    let height = s.height;
+    let machine = s.machine;
+    let number = number_in(machine, s.modes, size);
+    let code = code_in(upper, v);
+    Effect::Flashed(Character {
+        x: x,
+        height: height,
+        font: number,
+        code: code,
+    })
+}
+
+fn escape(s: State, by: u8) -> Effect
+    ensures { λ r. ⌜ r ≡ escapeOf s by ⌝ }
+{
+    let mut next = s;
+    if s.parked {
+        if s.modes.escape_back {
+            return Effect::Refused(answer::PARKED);
+        }
+        if by != FIRST_ESCAPE {
+            return Effect::Refused(answer::PARKED);
+        }
+        let origin = Units(0);
+        next.parked = false;
+        next.carriage = origin;
+        return Effect::Moved(next);
+    }
+    match s.carriage.escape(by, s.modes.escape_back) {
+        Carriage::Outside => Effect::Refused(answer::OUT_OF_RANGE),
+        Carriage::At(c) => {
+            next.carriage = c;
+            Effect::Moved(next)
+        }
+    }
+}
+
+fn lead(s: State, by: u8) -> Effect
+    ensures { λ r. ⌜ r ≡ leadOf s by ⌝ }
+{
+    match s.height.lead(by, s.modes.lead_back) {
+        Height::Outside => Effect::Refused(answer::OUT_OF_RANGE),
+        Height::At(h) => {
+            let mut next = s;
+            next.height = h;
+            Effect::Moved(next)
+        }
+    }
+}
+
+// A code other than 00 and initialize, on an initialized machine that has not stopped.
+fn obey(s: State, o: Order) -> Effect
+    requires { ⌜ Sound s ⌝ }
+    ensures { λ r. ⌜ r ≡ orderOf s o ⌝ }
+{
+    let mut next = s;
+    match o {
+        Order::Flash(v) => flash(s, v),
+        Order::Rail(up) => {
+            next.modes.upper_rail = up;
+            Effect::Moved(next)
+        }
+        Order::Mag(up) => {
+            next.modes.upper_mag = up;
+            Effect::Moved(next)
+        }
+        Order::Half(up) => {
+            next.modes.upper_half = up;
+            Effect::Moved(next)
+        }
+        Order::EscapeWay(back) => {
+            next.modes.escape_back = back;
+            Effect::Moved(next)
+        }
+        Order::LeadWay(back) => {
+            next.modes.lead_back = back;
+            Effect::Moved(next)
+        }
+        Order::Tilt(down) => {
+            next.modes.tilt_down = down;
+            Effect::Moved(next)
+        }
+        Order::Size(index) => {
+            next.size = index;
+            Effect::Moved(next)
+        }
+        Order::Stop => {
+            next.stopped = true;
+            Effect::Moved(next)
+        }
+        Order::Cut => {
+            let top = Quanta(0);
+            next.cut = true;
+            next.height = top;
+            Effect::Parted(next)
+        }
+        Order::Lead(by) => lead(s, by),
+        Order::Escape(by) => escape(s, by),
+    }
+}
+
+// One code.
+pub fn step(s: State, b: u8) -> Effect
+    requires { ⌜ Sound s ⌝ }
+    ensures { λ r. ⌜ r ≡ effectOf s b ⌝ }
+{
+    let machine = s.machine;
+    match code::classify(machine, b) {
+        Code::Ignored => Effect::Moved(s),
+        Code::Illegal => Effect::Refused(answer::ILLEGAL_CODE),
+        Code::Initialize => {
+            if s.stopped {
+                Effect::Refused(answer::AFTER_STOP)
+            } else {
+                Effect::Moved(initialized(s))
+            }
+        }
+        Code::Ordered(o) => {
+            if s.initialized {
+                if s.cut {
+                    Effect::Refused(answer::AFTER_CUT)
+                } else if s.stopped {
+                    Effect::Refused(answer::AFTER_STOP)
+                } else {
+                    obey(s, o)
+                }
+            } else {
+                Effect::Refused(answer::NOT_INITIALIZED)
+            }
+        }
+    }
+}
