@@ -50,6 +50,16 @@ fn put_after(writing: bool, out: &mut [u8], count: usize, cuts: usize, i: Item)
     }
 }
 
+fn found(count: usize, cuts: usize, ending: Ending) -> Reading
+    ensures { λ r. ⌜ r ≡ record { count = count; cuts = cuts; ending = ending } ⌝ }
+{
+    Reading {
+        count: count,
+        cuts: cuts,
+        ending: ending,
+    }
+}
+
 // One pass over the bytes of a tape from the place `at`, on a machine in the state `first`. It writes the items' fields, if writing.
 fn pass(first: State, at: usize, tape: &[u8], out: &mut [u8], writing: bool) -> Reading
     requires { ⌜ (Sound first) × (at + length (now tape) ≤ maxTape) ⌝ }
@@ -84,20 +94,12 @@ fn pass(first: State, at: usize, tape: &[u8], out: &mut [u8], writing: bool) -> 
                     i += 1;
                 }
                 Effect::Refused(n) => {
-                    return Reading {
-                        count: count,
-                        cuts: cuts,
-                        ending: Ending::Fault(n, at + i),
-                    };
+                    return found(count, cuts, Ending::Fault(n, at + i));
                 }
             }
         }
     }
-    Reading {
-        count: count,
-        cuts: cuts,
-        ending: Ending::Reached(s),
-    }
+    found(count, cuts, Ending::Reached(s))
 }
 
 // Reads a tape within the limit, on a machine in the state `first`.

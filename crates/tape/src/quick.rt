@@ -350,6 +350,16 @@ fn led(s: State, b: u8) -> Height
     }
 }
 
+fn halted(next: usize, state: State, count: usize) -> Halt
+    ensures { λ r. ⌜ r ≡ record { next = next; state = state; count = count } ⌝ }
+{
+    Halt {
+        next: next,
+        state: state,
+        count: count,
+    }
+}
+
 // Runs from `from` on, after `before` characters and so many bytes of cuts, up to a code that needs the whole step; writes the characters' fields, if writing.
 pub fn quick_run(
     writing: bool,
@@ -389,19 +399,11 @@ pub fn quick_run(
                         i += 1;
                     }
                     Height::Outside => {
-                        return Halt {
-                            next: i,
-                            state: s,
-                            count: count,
-                        };
+                        return halted(i, s, count);
                     }
                 }
             }
         }
     }
-    Halt {
-        next: i,
-        state: s,
-        count: count,
-    }
+    halted(i, s, count)
 }

@@ -1,6 +1,6 @@
 -- `tape::pass` meets its contract. The invariant is `Going`; its laws are in `Passes`, the quick ways keep it by their contract.
 -- Assumes nothing.
-use mathlib.Core.Path.{_≡_, refl, sym, _∙_}
+use mathlib.Core.Path.{_≡_, refl, sym, subst, _∙_}
 use mathlib.Core.Bool.{true}
 use mathlib.Core.List.{List}
 use Prim.Native.Nat.{ℕ, _+_, _-_, _*_, _≤_, _<_}
@@ -15,9 +15,11 @@ use Rattle.galley_file.specs.Item.{itemSize, tally}
 use Rattle.typesetter.specs.declared.machine.State.{State}
 use Rattle.typesetter.specs.declared.machine.Effect.{Effect}
 use Rattle.typesetter.specs.declared.machine.Effect.the-variants.{Moved, Flashed, Parted}
+use Rattle.tape.specs.declared.Reading.{Reading}
 use Rattle.typesetter.specs.Machine.{effectOf}
 use Rattle.tape.specs.RunLaws.{Sets, flashed, parted}
-use Rattle.tape.specs.Pass.{putAt, Going}
+use Rattle.tape.specs.Tape.{run}
+use Rattle.tape.specs.Pass.{putAt, Going, Passed}
 use Rattle.tape.proofs.Passes.{going-start, going-bound, going-moved, going-room, going-set, going-refused, going-done}
 use Rattle.tape.proofs.pass.Statement.{statement}
 use Rattle.tape.proofs.pass.Tie as tie
@@ -175,16 +177,20 @@ enum-known-n c = search needs
 add-place : tie.Need-add-t31 Inv-loop μ-loop
 add-place c = let t = c .before .before .before .before .before .before in omega (arith, c .before .before .before .before .before .if1 .taken, start t .pre .0 .1, start t .good)
 
+found-requires : tie.Need-found-requires Inv-loop μ-loop
+found-requires c κs = search needs
+
 same-length : tie.Need-same-length Inv-loop μ-loop
-same-length c = going (c .before .before .before .before .before .before) .same
+same-length c = going (c .before .before .before .before .before .before .before) .same
 
 returns : tie.Need-returns Inv-loop μ-loop
 returns c =
-    let t = c .before .before .before .before .before .before in
+    let t = c .before .before .before .before .before .before .before in
     let s = start t in
     let a = s .args in
-    going-refused (a .first) (a .at) (a .tape .now) (a .out .now) (a .writing) (out t) (now t) (count t) (cuts t) (i t) (going t) (c .before .before .before .before .before .if1 .taken) (c .before .n .given .0 .0) (s .pre .0 .1)
-    (sym (c .before .before .before .step .ensures) ∙ c .before .n .given .1)
+    subst (λ (r : Reading). Passed (run (a .first) (a .at) (a .tape .now)) (a .writing) (a .out .now) r (out t)) (sym (c .found .ensures))
+    (going-refused (a .first) (a .at) (a .tape .now) (a .out .now) (a .writing) (out t) (now t) (count t) (cuts t) (i t) (going t) (c .before .before .before .before .before .before .if1 .taken) (c .before .before .n .given .0 .0) (s .pre .0 .1)
+    (sym (c .before .before .before .before .step .ensures) ∙ c .before .before .n .given .1))
 
 loop-less-4 : tie.Need-loop-less-4 Inv-loop μ-loop
 loop-less-4 c = omega (arith, c .if1 .left, c .before .before .before .before .before .before .loop-test .taken)
@@ -192,19 +198,24 @@ loop-less-4 c = omega (arith, c .if1 .left, c .before .before .before .before .b
 loop-again-4 : tie.Need-loop-again-4 Inv-loop μ-loop
 loop-again-4 c = going (c .before)
 
+found-requires-2 : tie.Need-found-requires-2 Inv-loop μ-loop
+found-requires-2 c κs = search needs
+
 same-length-2 : tie.Need-same-length-2 Inv-loop μ-loop
-same-length-2 c = c .before .loop .inv .same
+same-length-2 c = c .before .before .loop .inv .same
 
 returns-2 : tie.Need-returns-2 Inv-loop μ-loop
 returns-2 c =
-    let l = c .before .loop in
-    let s = c .before .before .before .before in
+    let l = c .before .before .loop in
+    let s = c .before .before .before .before .before in
     let a = s .args in
-    going-done (a .first) (a .at) (a .tape .now) (a .out .now) (a .writing) (l .out) (l .s) (l .count) (l .cuts) (l .i) (l .inv) (c .loop-test .left) (s .pre .0 .1)
+    subst (λ (r : Reading). Passed (run (a .first) (a .at) (a .tape .now)) (a .writing) (a .out .now) r (l .out)) (sym (c .found2 .ensures))
+    (going-done (a .first) (a .at) (a .tape .now) (a .out .now) (a .writing) (l .out) (l .s) (l .count) (l .cuts) (l .i) (l .inv) (c .before .loop-test .left) (s .pre .0 .1))
 
 pub pass-spec : {M : Type 1} → statement M
 pass-spec =
     tie.close
     (tie.spec Inv-loop μ-loop loop-holds quick-run-requires shared-slice-read-step step-requires enum-known-next add-i loop-less loop-again
     enum-known-c put-after-requires add-count add-i-2 loop-less-2 loop-again-2 enum-known-next-2 put-after-requires-2 add-cuts add-i-3
-    loop-less-3 loop-again-3 enum-known-n add-place same-length returns loop-less-4 loop-again-4 same-length-2 returns-2)
+    loop-less-3 loop-again-3 enum-known-n add-place found-requires same-length returns loop-less-4 loop-again-4 found-requires-2 same-length-2
+    returns-2)

@@ -10,6 +10,7 @@ use mir.Syntax.{w64}
 use mir.Val.{Fits}
 use Rattle.typesetter.specs.declared.machine.State.{State}
 use Rattle.typesetter.specs.declared.machine.Effect.the-variants.{Moved}
+use Rattle.tape.specs.declared.quick.Halt.{Halt}
 use Rattle.typesetter.specs.Machine.{effectOf}
 use Rattle.typesetter.specs.StepLaws.{placed}
 use Rattle.tape.specs.Quick.{DerivedFrom, Leads}
@@ -62,6 +63,14 @@ module _ (c : tie.After-place Inv-loop μ-loop) where
     moved : (t : State) → effectOf now (getD (start .args .tape .now) i 0) ≡ Moved t
         → let a = start .args in Further (a .writing) (a .tape .now) (a .out .now) (a .first) (a .before) (a .cuts) (a .from) t count (i + 1) out
     moved = let a = start .args in further-moved (a .writing) (a .tape .now) (a .out .now) (a .first) (a .before) (a .cuts) (a .from) now count i out further h
+
+-- what is kept, said of the answer
+halts : (s : tie.Start Inv-loop μ-loop) {t : State} {n j : ℕ} {later : List ℕ} {h : Halt} → h ≡ record { next = j; state = t; count = n }
+    → let a = s .args in Further (a .writing) (a .tape .now) (a .out .now) (a .first) (a .before) (a .cuts) (a .from) t n j later
+    → Further (a .writing) (a .tape .now) (a .out .now) (a .first) (a .before) (a .cuts) (a .from) (h .state) (h .count) (h .next) later
+halts s {later = later} e f =
+    let a = s .args in
+    subst (λ (h : Halt). Further (a .writing) (a .tape .now) (a .out .now) (a .first) (a .before) (a .cuts) (a .from) (h .state) (h .count) (h .next) later) (sym e) f
 
 derived-of-requires : tie.Need-derived-of-requires Inv-loop μ-loop
 derived-of-requires c κs = search needs
@@ -127,11 +136,14 @@ loop-again-2 c =
 enum-told : tie.Need-enum-told Inv-loop μ-loop
 enum-told c = search needs
 
+halted-requires : tie.Need-halted-requires Inv-loop μ-loop
+halted-requires c κs = search needs
+
 same-length : tie.Need-same-length Inv-loop μ-loop
-same-length c = further (c .before .before .before .before .before .before .before) .same
+same-length c = further (c .before .before .before .before .before .before .before .before) .same
 
 returns : tie.Need-returns Inv-loop μ-loop
-returns c = further (c .before .before .before .before .before .before .before)
+returns c = halts (start (c .before .before .before .before .before .before .before .before)) (c .halted .ensures) (further (c .before .before .before .before .before .before .before .before))
 
 loop-less-3 : tie.Need-loop-less-3 Inv-loop μ-loop
 loop-less-3 c = omega (arith, c .if1 .left, c .before .before .before .before .before .before .loop-test .taken)
@@ -139,15 +151,18 @@ loop-less-3 c = omega (arith, c .if1 .left, c .before .before .before .before .b
 loop-again-3 : tie.Need-loop-again-3 Inv-loop μ-loop
 loop-again-3 c = (further (c .before), derived (c .before))
 
+halted-requires-2 : tie.Need-halted-requires-2 Inv-loop μ-loop
+halted-requires-2 c κs = search needs
+
 same-length-2 : tie.Need-same-length-2 Inv-loop μ-loop
-same-length-2 c = c .before .loop .inv .0 .same
+same-length-2 c = c .before .before .loop .inv .0 .same
 
 returns-2 : tie.Need-returns-2 Inv-loop μ-loop
-returns-2 c = c .before .loop .inv .0
+returns-2 c = halts (c .before .before .before .before .before .before) (c .halted2 .ensures) (c .before .before .loop .inv .0)
 
 pub quick-run-spec : {M : Type 1} → statement M
 quick-run-spec =
     tie.close
     (tie.spec Inv-loop μ-loop derived-of-requires loop-holds quick-stretch-requires shared-slice-read-b takes-turn-requires modes-after-requires
     size-after-requires derived-of-requires-2 add-i loop-less loop-again led-requires enum-known-h add-i-2 loop-less-2 loop-again-2 enum-told
-    same-length returns loop-less-3 loop-again-3 same-length-2 returns-2)
+    halted-requires same-length returns loop-less-3 loop-again-3 halted-requires-2 same-length-2 returns-2)
