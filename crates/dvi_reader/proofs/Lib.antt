@@ -1,6 +1,3 @@
-mod Stacks
-mod Commands
-mod Pages
 mod Postambles
 mod Steps
 mod Puts

@@ -18,14 +18,14 @@ use Rattle.dvi.specs.File.{Shown, refusedAt, shows, refuse, goOn, finish, shows
 use Rattle.dvi.specs.FileLaws.{Low, Sound, step-sound, showsFirst-nil, showsFirst-append, stepHere, run-next, run-refuse, run-finish, run-end}
 use Rattle.dvi.specs.Sheet.{markField, markFields, sheet}
 use Rattle.dvi.specs.SheetLaws.{length-markField, fieldSize-most, markFields-append, markFields-more, length-sheet}
-use Rattle.dvi_reader.specs.Stack.{stackSize}
+use Rattle.dvi_page.specs.Stack.{stackSize}
+use Rattle.dvi_page.specs.StackLaws.{stack-length}
 use Rattle.dvi_reader.specs.Step.{stateOf, depthOf}
 use Rattle.dvi_reader.specs.Put.{Put}
 use Rattle.dvi_reader.specs.Pass.{readingOf, accepts, marksOf, Roomy, Passed}
 use Rattle.dvi_reader.specs.declared.Reading.the-variants.{Needs, Fault}
 use Rattle.dvi_reader.specs.declared.step.State.{State}
 use Rattle.dvi_reader.specs.declared.step.State.the-variants.{Between, Inside}
-use Rattle.dvi_reader.proofs.Stacks.{stack-length}
 
 -- ---- the state between two commands
 

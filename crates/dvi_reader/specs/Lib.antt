@@ -1,8 +1,4 @@
 -- The reader's types as those of the format, and what its private contracts cite.
-pub mod Reach
-pub mod Stack
-pub mod Command
-pub mod Page
 pub mod Postamble
 pub mod Step
 pub mod Put

@@ -3,7 +3,7 @@ use Prim.Native.Nat.{ℕ}
 use mathlib.Core.List.{List, [], _∷_}
 use lib.IntN.{ℤ}
 use Rattle.dvi.specs.File as S
-use Rattle.dvi_reader.specs.Page.{pageOf, markOf}
+use Rattle.dvi_page.specs.Page.{pageOf, markOf}
 use Rattle.dvi_reader.specs.declared.step.State.{State}
 use Rattle.dvi_reader.specs.declared.step.State.the-variants.{Between, Inside}
 use Rattle.dvi_reader.specs.declared.step.Stepped.{Stepped}

@@ -1,12 +1,9 @@
 // DVI files of 1980 (002), read into sheets with a lent table of widths.
-mod command;
-mod page;
 mod postamble;
-mod reach;
 mod sheet;
-mod stack;
 mod step;
 
+use dvi_page::page;
 use octets::answer;
 use octets::answer::Answer;
 use octets::field;

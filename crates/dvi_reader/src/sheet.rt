@@ -1,5 +1,5 @@
 // The sheet's fields.
-use crate::page::Mark;
+use dvi_page::page::Mark;
 use octets::field;
 use octets::number;
 ghost use mathlib.Core.Path.{_≡_};
@@ -12,7 +12,7 @@ ghost use Rattle.octets.specs.Write.{Wrote};
 ghost use Rattle.dvi.specs.Page.{pageMark, charMark, ruleMark};
 ghost use Rattle.dvi.specs.Sheet.{maxDvi, markField};
 ghost use Rattle.dvi.specs.SheetLaws.{fieldSize};
-ghost use Rattle.dvi_reader.specs.Page.{markOf};
+ghost use Rattle.dvi_page.specs.Page.{markOf};
 ghost use Rattle.dvi_reader.specs.Put.{Put};
 
 const PAGE_TAG: u8 = 5;

@@ -1,11 +1,11 @@
 // One command of a DVI file.
-use crate::command;
-use crate::command::Decoded;
-use crate::page;
-use crate::page::Effect;
-use crate::page::Mark;
-use crate::page::Page;
 use crate::postamble;
+use dvi_page::command;
+use dvi_page::command::Decoded;
+use dvi_page::page;
+use dvi_page::page::Effect;
+use dvi_page::page::Mark;
+use dvi_page::page::Page;
 use octets::answer;
 use octets::number;
 ghost use mathlib.Core.Path.{_≡_};
@@ -16,8 +16,8 @@ ghost use lib.ListN.{length, getD, drop};
 ghost use Rattle.dvi.specs.Command.{PST as Pst};
 ghost use Rattle.dvi.specs.Page.{maxStack};
 ghost use Rattle.dvi.specs.File as S;
-ghost use Rattle.dvi_reader.specs.Stack.{stackSize};
-ghost use Rattle.dvi_reader.specs.Page.{pageOf, effectOf};
+ghost use Rattle.dvi_page.specs.Stack.{stackSize};
+ghost use Rattle.dvi_page.specs.Page.{pageOf, effectOf};
 ghost use Rattle.dvi_reader.specs.Step.{stateOf, depthOf, stepOf};
 
 pub const BOP: u8 = 129;

@@ -14,7 +14,7 @@ use Rattle.dvi.specs.File.{goOn}
 use Rattle.dvi.specs.FileLaws.{stepHere}
 use Rattle.dvi.specs.Sheet.{markField, markFields}
 use Rattle.dvi.specs.SheetLaws.{fieldSize, length-markField, markFields-more}
-use Rattle.dvi_reader.specs.Page.{markOf}
+use Rattle.dvi_page.specs.Page.{markOf}
 use Rattle.dvi_reader.specs.Step.{stateOf, stepOf}
 use Rattle.dvi_reader.specs.declared.step.State.{State}
 use Rattle.dvi_reader.specs.declared.step.Stepped.{Stepped}

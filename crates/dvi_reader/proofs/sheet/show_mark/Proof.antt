@@ -8,8 +8,8 @@ use Rattle.integers.specs.Parts.{plain}
 use Rattle.dvi.specs.Page.{pageMark, charMark, ruleMark}
 use Rattle.dvi.specs.Sheet.{markField}
 use Rattle.dvi.specs.SheetLaws.{fieldSize}
-use Rattle.dvi_reader.specs.Page.{markOf}
-use Rattle.dvi_reader.specs.declared.page.Mark.{Mark}
+use Rattle.dvi_page.specs.Page.{markOf}
+use Rattle.dvi_page.specs.declared.page.Mark.{Mark}
 use Rattle.dvi_reader.proofs.Puts.{put-named}
 use Rattle.dvi_reader.proofs.sheet.show_mark.Statement.{statement}
 use Rattle.dvi_reader.proofs.sheet.show_mark.Tie as tie

@@ -6,8 +6,8 @@ use borrow.Author.Needs.{needs}
 use lib.IntN.{ℤ}
 use Rattle.integers.specs.Parts.{plain}
 use Rattle.dvi.specs.File.{between, inside, goOn, afterEffect}
-use Rattle.dvi_reader.specs.Page.{pageOf, markOf, effectOf}
-use Rattle.dvi_reader.specs.declared.page.Effect.{Effect}
+use Rattle.dvi_page.specs.Page.{pageOf, markOf, effectOf}
+use Rattle.dvi_page.specs.declared.page.Effect.{Effect}
 use Rattle.dvi_reader.proofs.step.after_effect.Statement.{statement}
 use Rattle.dvi_reader.proofs.step.after_effect.Tie as tie
 

@@ -5,8 +5,8 @@ use borrow.Author.Needs.{needs}
 use lib.IntN.{ℤ}
 use Rattle.integers.specs.Parts.{plain}
 use Rattle.dvi.specs.File.{afterEffect, inPage, step}
-use Rattle.dvi_reader.specs.Command.{decodedOf}
-use Rattle.dvi_reader.specs.Page.{pageOf, effectOf}
+use Rattle.dvi_page.specs.Command.{decodedOf}
+use Rattle.dvi_page.specs.Page.{pageOf, effectOf}
 use Rattle.dvi_reader.proofs.step.in_page.Statement.{statement}
 use Rattle.dvi_reader.proofs.step.in_page.Tie as tie
 

@@ -9,7 +9,7 @@ use mir.Syntax.{w32}
 use Rattle.integers.specs.Parts.{plain}
 use Rattle.dvi.specs.Page.{maxStack}
 use Rattle.dvi.specs.File.{between, inside, step}
-use Rattle.dvi_reader.specs.Page.{pageOf}
+use Rattle.dvi_page.specs.Page.{pageOf}
 use Rattle.dvi_reader.specs.Step.{stateOf, depthOf}
 use Rattle.dvi_reader.specs.declared.step.State.{State}
 use Rattle.dvi_reader.proofs.step.step.Statement.{statement}

@@ -1,0 +1,31 @@
+-- `dvi_page::page::push` meets its contract: the entry lies above the others.
+-- Assumes nothing.
+use native.Mathlib.Omega.{arith}
+use borrow.Author.Needs.{needs}
+use Rattle.dvi_page.specs.Page.{pageOf}
+use Rattle.dvi_page.specs.StackLaws.{stack-length}
+use Rattle.dvi_page.proofs.Pages.{push-full, push-room}
+use Rattle.dvi_page.proofs.page.push.Statement.{statement}
+use Rattle.dvi_page.proofs.page.push.Tie as tie
+
+returns : tie.Need-returns
+returns c =
+    let a = c .before .args in
+    push-full (pageOf (a .p) (a .entries .now)) (omega (arith, stack-length (a .entries .now) (a .p .depth)))
+
+put-entry-requires : tie.Need-put-entry-requires
+put-entry-requires c κs = search needs
+
+add-q : tie.Need-add-q
+add-q c = search needs
+
+same-length : tie.Need-same-length
+same-length c = search needs
+
+returns-2 : tie.Need-returns-2
+returns-2 c =
+    let a = c .before .before .before .before .before .args in
+    push-room (pageOf (a .p) (a .entries .now)) (omega (arith, stack-length (a .entries .now) (a .p .depth))) (c .before .put-entry .ensures)
+
+pub push-spec : {M : Type 1} → statement M
+push-spec = tie.close (tie.spec returns put-entry-requires add-q same-length returns-2)

@@ -1,0 +1,16 @@
+-- `dvi_page::page::set_font` meets its contract.
+-- Assumes nothing.
+use mathlib.Core.Path.{ap}
+use lib.IntN.{ℤ}
+use Rattle.integers.specs.Parts.{plain}
+use Rattle.dvi.specs.Page.{moved, withFont, effect}
+use Rattle.dvi_page.specs.Page.{pageOf}
+use Rattle.dvi_page.proofs.page.set_font.Statement.{statement}
+use Rattle.dvi_page.proofs.page.set_font.Tie as tie
+
+returns : tie.Need-returns
+unfolding effect withFont
+returns c ws l = let s = c .before in ap (λ (f : ℤ). moved (withFont (pageOf (s .args .p) l) f)) (plain (s .fits .f))
+
+pub set-font-spec : {M : Type 1} → statement M
+set-font-spec = tie.close (tie.spec returns)
