@@ -31,10 +31,12 @@ add-loop : tie.Need-add-loop Inv-loop μ-loop
 add-loop c = omega (arith, converted-inside _ _ _ _ _ _ _ (c .loop .inv), short (c .before .before .before))
 
 item-at-requires : tie.Need-item-at-requires Inv-loop μ-loop
-item-at-requires c κs = converted-whole _ _ _ _ _ _ _ (c .before .loop .inv) (c .loop-test .taken)
+item-at-requires c κs = converted-whole _ _ _ _ _ _ _ (c .before .loop .inv) (omega (arith, c .loop-test .taken))
 
 put-item-requires : tie.Need-put-item-requires Inv-loop μ-loop
-put-item-requires c κs = converted-room _ _ _ _ _ _ _ (c .before .before .before .loop .inv) (c .before .before .loop-test .taken) _ (c .before .item-at .ensures) (c .before .before .before .before .before .before .pre .1)
+put-item-requires c κs =
+    omega
+    (arith, converted-room _ _ _ _ _ _ _ (c .before .before .before .loop .inv) (omega (arith, c .before .before .loop-test .taken)) _ (c .before .item-at .ensures) (c .before .before .before .before .before .before .pre .1))
 
 item-size-requires : tie.Need-item-size-requires Inv-loop μ-loop
 item-size-requires c κs = search needs
@@ -42,7 +44,7 @@ item-size-requires c κs = search needs
 -- the next place is in the galley
 inside : (c : tie.After-item-size Inv-loop μ-loop) → c .before .before .before .before .before .before .before .loop .at + c .item-size .result + 7 ≤ length (c .before .before .before .before .before .before .before .before .before .before .args .g .now)
 inside c =
-    omega (arith, converted-size _ _ _ _ _ _ _ (c .before .before .before .before .before .before .before .loop .inv) (c .before .before .before .before .before .before .loop-test .taken) _ (c .before .before .before .before .before .item-at .ensures), c .item-size .ensures)
+    omega (arith, converted-size _ _ _ _ _ _ _ (c .before .before .before .before .before .before .before .loop .inv) (omega (arith, c .before .before .before .before .before .before .loop-test .taken)) _ (c .before .before .before .before .before .item-at .ensures), c .item-size .ensures)
 
 add-at : tie.Need-add-at Inv-loop μ-loop
 add-at c = omega (arith, inside c, short (c .before .before .before .before .before .before .before .before .before .before))
@@ -53,7 +55,7 @@ loop-less c = omega (arith, inside c, c .item-size .ensures, size-least (c .befo
 loop-again : tie.Need-loop-again Inv-loop μ-loop
 loop-again c =
     rw (c .item-size .ensures)
-    (converted-next _ _ _ _ _ _ _ (c .before .before .before .before .before .before .before .loop .inv) (c .before .before .before .before .before .before .loop-test .taken) _ (c .before .before .before .before .before .item-at .ensures) _ _ (search needs) (c .before .before .before .put-item .ensures))
+    (converted-next _ _ _ _ _ _ _ (c .before .before .before .before .before .before .before .loop .inv) (omega (arith, c .before .before .before .before .before .before .loop-test .taken)) _ (c .before .before .before .before .before .item-at .ensures) _ _ (search needs) (c .before .before .before .put-item .ensures))
 
 same-length : tie.Need-same-length Inv-loop μ-loop
 same-length c = c .before .loop .inv .same
