@@ -9,8 +9,8 @@ use borrow.Author.Tests.{le-ltb}
 use lib.Dec.{ltb}
 use lib.ListN.{length, length-append}
 use lib.Seq.{sets}
-use Rattle.octets.specs.Answer.{Outcome, accepted, refused, refusal, written, outcome, after, ifRoom, galleyTooLong, noConvertedRoom}
-use Rattle.octets.specs.AnswerLaws.{room-refused, room-short, room-enough}
+use Rattle.octets.specs.Answer.{Outcome, accepted, refused, refusal, written, ifRoom, Gives, galleyTooLong, noConvertedRoom}
+use Rattle.octets.specs.AnswerLaws.{room-refused, room-short, room-enough, gives}
 use Rattle.octets.specs.Field.{endField}
 use Rattle.octets.specs.Write.{Wrote, wrote-none, then, named, sets-start}
 use Rattle.galley_file.specs.declared.form.Form.{Form}
@@ -120,11 +120,8 @@ module _ (from to : Form) (g : List ℕ) where
       enough h = room-enough noConvertedRoom (length out) (galley to (itemsOf from g)) (omega arith)
 
       pub with-room : need ≤ length out → (o : List ℕ) → o ≡ sets out 0 (galley to (itemsOf from g))
-          → (accepted need ≡ outcome (formResult from to g (length out))) × (o ≡ after out (formResult from to g (length out)))
-      with-room h o p = (
-        ap accepted q ∙ sym (ap outcome (enough h)),
-        p ∙ sets-start out (galley to (itemsOf from g)) (omega arith) ∙ sym (ap (after out) (enough h)),
-      )
+          → Gives (accepted need) (formResult from to g) out o
+      with-room h o p = gives (enough h) (ap accepted q) (p ∙ sets-start out (galley to (itemsOf from g)) (omega arith))
 
 -- ---- the two operations
 

@@ -8,7 +8,7 @@ use octets::field;
 ghost use mathlib.Core.Path.{_≡_};
 ghost use Prim.Native.Nat.{_≤_};
 ghost use lib.ListN.{length};
-ghost use Rattle.octets.specs.Answer.{accepted, outcomeOf, outcome, after};
+ghost use Rattle.octets.specs.Answer.{accepted, outcomeOf, Gives};
 ghost use Rattle.octets.specs.Write.{Wrote};
 ghost use Rattle.galley_file.specs.Galley.{fields, itemsOf};
 ghost use Rattle.galley_file.specs.Outcome.{checkOutcome};
@@ -32,7 +32,7 @@ fn put_items(from: Form, to: Form, g: &[u8], count: usize, out: &mut [u8]) -> us
 // Writes a checked galley of the one form in the other, if there is room: only characters change their length.
 fn convert(from: Form, to: Form, g: &[u8], count: usize, out: &mut [u8]) -> Answer
     requires { ⌜ accepted count ≡ checkOutcome from (now g) ⌝ }
-    ensures { λ r. ⌜ (outcomeOf r ≡ outcome (formResult from to (now (g .entry)) (length (now (out .entry))))) × (now (out .exit) ≡ after (now (out .entry)) (formResult from to (now (g .entry)) (length (now (out .entry))))) ⌝ }
+    ensures { λ r. ⌜ Gives (outcomeOf r) (formResult from to (now (g .entry))) (now (out .entry)) (now (out .exit)) ⌝ }
 {
     let rest = g.len() - form::character_size(from) * count;
     let needed = rest + form::character_size(to) * count;
@@ -46,7 +46,7 @@ fn convert(from: Form, to: Form, g: &[u8], count: usize, out: &mut [u8]) -> Answ
 
 // Makes an old galley new.
 pub fn galley_to_new(old: &[u8], new: &mut [u8]) -> Answer
-    ensures { λ r. ⌜ (outcomeOf r ≡ outcome (newResult (now (old .entry)) (length (now (new .entry))))) × (now (new .exit) ≡ after (now (new .entry)) (newResult (now (old .entry)) (length (now (new .entry))))) ⌝ }
+    ensures { λ r. ⌜ Gives (outcomeOf r) (newResult (now (old .entry))) (now (new .entry)) (now (new .exit)) ⌝ }
 {
     let checked = galley_file::check_form(Form::Old, old);
     match checked {
@@ -57,7 +57,7 @@ pub fn galley_to_new(old: &[u8], new: &mut [u8]) -> Answer
 
 // Makes a new galley old.
 pub fn galley_to_old(new: &[u8], old: &mut [u8]) -> Answer
-    ensures { λ r. ⌜ (outcomeOf r ≡ outcome (oldResult (now (new .entry)) (length (now (old .entry))))) × (now (old .exit) ≡ after (now (old .entry)) (oldResult (now (new .entry)) (length (now (old .entry))))) ⌝ }
+    ensures { λ r. ⌜ Gives (outcomeOf r) (oldResult (now (new .entry))) (now (old .entry)) (now (old .exit)) ⌝ }
 {
     let checked = galley_file::check_low(new);
     match checked {

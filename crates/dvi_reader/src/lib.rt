@@ -13,7 +13,7 @@ ghost use mathlib.Core.Path.{_≡_};
 ghost use mathlib.Core.Bool.{true};
 ghost use Prim.Native.Nat.{_+_, _≤_};
 ghost use lib.ListN.{length};
-ghost use Rattle.octets.specs.Answer.{outcomeOf, outcome, after};
+ghost use Rattle.octets.specs.Answer.{outcomeOf, Gives};
 ghost use Rattle.octets.specs.Field.{endField};
 ghost use Rattle.dvi.specs.File.{readDvi};
 ghost use Rattle.dvi.specs.Sheet.{maxDvi, sheetResult};
@@ -77,7 +77,7 @@ fn pass(dvi: &[u8], widths: &[i32], out: &mut [u8], writing: bool) -> Reading
 
 // Reads a DVI file into the lent sheet buffer.
 pub fn read_dvi(dvi: &[u8], widths: &[i32], sheet: &mut [u8]) -> Answer
-    ensures { λ r. ⌜ (outcomeOf r ≡ outcome (sheetResult (now (dvi .entry)) (now (widths .entry)) (length (now (sheet .entry))))) × (now (sheet .exit) ≡ after (now (sheet .entry)) (sheetResult (now (dvi .entry)) (now (widths .entry)) (length (now (sheet .entry))))) ⌝ }
+    ensures { λ r. ⌜ Gives (outcomeOf r) (sheetResult (now (dvi .entry)) (now (widths .entry))) (now (sheet .entry)) (now (sheet .exit)) ⌝ }
 {
     if MAX_DVI < dvi.len() {
         return Answer::Refused(answer::DVI_TOO_LONG, 0);

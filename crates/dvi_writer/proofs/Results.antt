@@ -8,8 +8,8 @@ use native.Mathlib.Omega.{arith}
 use lib.Count.{ones}
 use lib.ListN.{length, length-append}
 use lib.Seq.{sets}
-use Rattle.octets.specs.Answer.{accepted, refused, refusal, written, outcome, after, ifRoom, noDviRoom}
-use Rattle.octets.specs.AnswerLaws.{room-short, room-enough}
+use Rattle.octets.specs.Answer.{accepted, refused, refusal, written, ifRoom, Gives, noDviRoom}
+use Rattle.octets.specs.AnswerLaws.{room-short, room-enough, gives}
 use Rattle.octets.specs.Write.{Wrote, then, named, sets-start}
 use Rattle.galley_file.specs.declared.form.Form.the-variants.{New}
 use Rattle.galley_file.specs.declared.item.Item.{Item}
@@ -68,8 +68,5 @@ module _ (g out : List ℕ) (count : ℕ) (a : accepted count ≡ lowOutcome g) 
   enough h = made ∙ room-enough noDviRoom (length out) (dviFile (itemsOf New g)) (omega arith)
 
   pub with-room : need ≤ length out → (o : List ℕ) → o ≡ sets out 0 (dviFile (itemsOf New g))
-      → (accepted need ≡ outcome (dviResult g (length out))) × (o ≡ after out (dviResult g (length out)))
-  with-room h o q = (
-    ap accepted e ∙ sym (ap outcome (enough h)),
-    q ∙ sets-start out (dviFile (itemsOf New g)) (omega arith) ∙ sym (ap (after out) (enough h)),
-  )
+      → Gives (accepted need) (dviResult g) out o
+  with-room h o q = gives (enough h) (ap accepted e) (q ∙ sets-start out (dviFile (itemsOf New g)) (omega arith))

@@ -13,7 +13,7 @@ ghost use mathlib.Core.Path.{_≡_};
 ghost use Prim.Native.Nat.{_≤_};
 ghost use lib.ListN.{length};
 ghost use lib.Seq.{sets};
-ghost use Rattle.octets.specs.Answer.{accepted, outcomeOf, outcome, after};
+ghost use Rattle.octets.specs.Answer.{accepted, outcomeOf, Gives};
 ghost use Rattle.galley_file.specs.declared.form.Form.the-variants.{New};
 ghost use Rattle.galley_file.specs.Galley.{itemsOf};
 ghost use Rattle.galley_file.specs.Low.{lowOutcome};
@@ -36,7 +36,7 @@ fn put_file(g: &[u8], count: usize, e: Extents, out: &mut [u8])
 // Writes the file of a checked galley, if there is room.
 fn write_checked(g: &[u8], count: usize, out: &mut [u8]) -> Answer
     requires { ⌜ accepted count ≡ lowOutcome (now g) ⌝ }
-    ensures { λ r. ⌜ (outcomeOf r ≡ outcome (dviResult (now (g .entry)) (length (now (out .entry))))) × (now (out .exit) ≡ after (now (out .entry)) (dviResult (now (g .entry)) (length (now (out .entry))))) ⌝ }
+    ensures { λ r. ⌜ Gives (outcomeOf r) (dviResult (now (g .entry))) (now (out .entry)) (now (out .exit)) ⌝ }
 {
     let e = extents::extents_of(g, count);
     let needed = FRAME + e.length + postamble::DEFINITION * fonts::count(e.fonts);
@@ -49,7 +49,7 @@ fn write_checked(g: &[u8], count: usize, out: &mut [u8]) -> Answer
 
 // Writes the DVI file of a galley into the lent buffer.
 pub fn write_dvi(galley: &[u8], dvi: &mut [u8]) -> Answer
-    ensures { λ r. ⌜ (outcomeOf r ≡ outcome (dviResult (now (galley .entry)) (length (now (dvi .entry))))) × (now (dvi .exit) ≡ after (now (dvi .entry)) (dviResult (now (galley .entry)) (length (now (dvi .entry))))) ⌝ }
+    ensures { λ r. ⌜ Gives (outcomeOf r) (dviResult (now (galley .entry))) (now (dvi .entry)) (now (dvi .exit)) ⌝ }
 {
     let checked = galley_file::check_low(galley);
     match checked {

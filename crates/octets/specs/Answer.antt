@@ -4,7 +4,9 @@
 --     outcome     the outcome of a result
 --     after       the lent buffer after a result
 --     ifRoom      a result for a buffer of so many bytes: room comes last
+--     Gives       what an operation that fills a buffer promises: outcome and buffer are its result's
 use Prim.Native.Nat.{ℕ}
+use mathlib.Core.Path.{_≡_}
 use mathlib.Core.Bool.{cond}
 use mathlib.Core.List.{List, [], _∷_, _++_}
 use lib.Dec.{ltb}
@@ -123,6 +125,10 @@ abbrev pub lengthOf : Outcome → ℕ
 lengthOf (accepted n) = n
 lengthOf (refused number place) = 0
 
+-- number, place and length
+abbrev pub numbersOf : Outcome → List ℕ
+numbersOf o = numberOf o ∷ placeOf o ∷ lengthOf o ∷ []
+
 -- the outcome that each case of an answer stands for
 abbrev pub outcomeOf : Answer → Outcome
 outcomeOf (Accepted n) = accepted n
@@ -147,3 +153,15 @@ after buffer (written bs) = bs ++ drop (length bs) buffer
 unfoldable pub ifRoom : ℕ → ℕ → Result → Result
 ifRoom number room (refusal n place) = refusal n place
 ifRoom number room (written bs) = cond (ltb room (length bs)) (refusal number (length bs)) (written bs)
+
+-- ---- what a call gives
+
+-- the room is the length of the lent buffer; the outcome given, and the buffer after the call, are the result's
+pub record Gives (given : Outcome) (result : ℕ → Result) (buffer later : List ℕ) : Type 0 where
+  pub outcome-is : given ≡ outcome (result (length buffer))
+  pub buffer-is : later ≡ after buffer (result (length buffer))
+
+-- the same where number, place and length are given in an array
+pub record GivesNumbers (given : List ℕ) (result : ℕ → Result) (buffer later : List ℕ) : Type 0 where
+  pub numbers-are : given ≡ numbersOf (outcome (result (length buffer)))
+  pub buffer-is : later ≡ after buffer (result (length buffer))

@@ -1,6 +1,6 @@
--- Room comes last: the laws of `ifRoom`.
+-- Room comes last: the laws of `ifRoom`. What a call gives, once its result is known.
 -- Assumes nothing.
-use mathlib.Core.Path.{_≡_, refl}
+use mathlib.Core.Path.{_≡_, refl, sym, ap, _∙_}
 use mathlib.Core.Bool.{Bool, true, false, cond}
 use mathlib.Core.List.{List}
 use Prim.Native.Nat.{ℕ, _≤_, _<_}
@@ -8,7 +8,7 @@ use native.Mathlib.Omega.{arith}
 use borrow.Author.Tests.{lt-ltb, le-ltb, ltb-true, ltb-false}
 use lib.Dec.{ltb}
 use lib.ListN.{length}
-use Rattle.octets.specs.Answer.{accepted, refused, Result, refusal, written, outcome, ifRoom}
+use Rattle.octets.specs.Answer.{Outcome, accepted, refused, Result, refusal, written, numbersOf, outcome, after, ifRoom, Gives, GivesNumbers}
 
 module _ (number room : ℕ) where
   pub room-refused : (n place : ℕ) → ifRoom number room (refusal n place) ≡ refusal n place
@@ -49,3 +49,15 @@ accepted-room number room n (written bs) e = go (ltb room (length bs)) refl e
     go : (t : Bool) → ltb room (length bs) ≡ t → accepted n ≡ outcome (cond t (refusal number (length bs)) (written bs)) → n ≤ room
     go true q h = let z : _≡_ {A = ℕ} 0 1 = cc in absurd (omega arith)
     go false q h = let l : n ≡ length bs = cc in omega (arith, ltb-false room (length bs) q)
+
+-- ---- what a call gives
+
+pub gives : {result : ℕ → Result} {r : Result} {given : Outcome} {buffer later : List ℕ} → result (length buffer) ≡ r → given ≡ outcome r → later ≡ after buffer r → Gives given result buffer later
+gives {buffer = buffer} q o b = record { outcome-is = o ∙ sym (ap outcome q); buffer-is = b ∙ sym (ap (after buffer) q) }
+
+-- what is given for one result is given for an equal one
+pub gives-same : {result other : ℕ → Result} {given : Outcome} {buffer later : List ℕ} → result (length buffer) ≡ other (length buffer) → Gives given other buffer later → Gives given result buffer later
+gives-same q g = gives q (g .outcome-is) (g .buffer-is)
+
+pub gives-numbers : {result : ℕ → Result} {given : Outcome} {numbers buffer later : List ℕ} → numbers ≡ numbersOf given → Gives given result buffer later → GivesNumbers numbers result buffer later
+gives-numbers q g = record { numbers-are = q ∙ ap numbersOf (g .outcome-is); buffer-is = g .buffer-is }

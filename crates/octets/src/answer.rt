@@ -1,9 +1,21 @@
 // What an operation answers, and the numbers of its refusals (document 01, "Numbers given back").
+ghost use mathlib.Core.Path.{_≡_};
+ghost use Rattle.octets.specs.Answer.{outcomeOf, numbersOf};
 
 // The length of what was accepted, or the number and the place of a refusal.
 pub enum Answer {
     Accepted(usize),
     Refused(u8, usize),
+}
+
+// Number, place and length.
+pub fn numbers(a: Answer) -> [usize; 3]
+    ensures { λ r. ⌜ r ≡ numbersOf (outcomeOf a) ⌝ }
+{
+    match a {
+        Answer::Accepted(length) => [0, 0, length],
+        Answer::Refused(number, place) => [number as usize, place, 0],
+    }
 }
 
 pub const TAPE_TOO_LONG: u8 = 1;

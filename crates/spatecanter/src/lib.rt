@@ -1,27 +1,17 @@
 // The operations for C and Rust callers: each answer goes into an array that the caller lends.
 ghost use Rattle.galley_file.specs.declared.form.Form.the-variants.{New};
 use galley_file::Found;
-use octets::answer::Answer;
+use octets::answer;
 ghost use mathlib.Core.Path.{_≡_};
 ghost use lib.ListN.{length};
-ghost use Rattle.octets.specs.Answer.{outcomeOf, outcome, after};
+ghost use Rattle.octets.specs.Answer.{numbersOf, GivesNumbers};
 ghost use Rattle.galley_file.specs.Outcome.{checkOutcome, foundOf, outcomeOfFound, readBackOutcome};
 ghost use Rattle.tape.specs.Tape.{tapeResult};
 ghost use Rattle.conversion.specs.Conversion.{newResult, oldResult};
 ghost use Rattle.dvi.specs.Sheet.{sheetResult};
 ghost use Rattle.dvi_writer.specs.Result.{dviResult};
 ghost use Rattle.reprint.specs.Reprint.{reprintResult, reprintOutcome, dviAfter, sheetAfter, ReprintedWhenever};
-ghost use Rattle.spatecanter.specs.Numbers.{numbersOf, foundNumbers};
-
-// Number, place and length.
-fn numbers(a: Answer) -> [usize; 3]
-    ensures { λ r. ⌜ r ≡ numbersOf (outcomeOf a) ⌝ }
-{
-    match a {
-        Answer::Accepted(length) => [0, 0, length],
-        Answer::Refused(number, place) => [number as usize, place, 0],
-    }
-}
+ghost use Rattle.spatecanter.specs.Numbers.{foundNumbers};
 
 // Number, place and length of reading back.
 fn found_numbers(f: Found) -> [usize; 3]
@@ -51,10 +41,10 @@ pub extern "C" fn sp_read_tape(
     galley: &mut [u8],
     answer: &mut [usize; 3],
 )
-    ensures { λ _. ⌜ (now (answer .exit) ≡ numbersOf (outcome (tapeResult (now (tape .entry)) machine (length (now (galley .entry)))))) × (now (galley .exit) ≡ after (now (galley .entry)) (tapeResult (now (tape .entry)) machine (length (now (galley .entry))))) ⌝ }
+    ensures { λ _. ⌜ GivesNumbers (now (answer .exit)) (tapeResult (now (tape .entry)) machine) (now (galley .entry)) (now (galley .exit)) ⌝ }
 {
     let a = tape::read_tape(tape, machine, galley);
-    *answer = numbers(a);
+    *answer = answer::numbers(a);
 }
 
 // Checks a galley.
@@ -63,7 +53,7 @@ pub extern "C" fn sp_check_galley(galley: &[u8], answer: &mut [usize; 3])
     ensures { λ _. ⌜ now (answer .exit) ≡ numbersOf (checkOutcome New (now (galley .entry))) ⌝ }
 {
     let a = galley_file::check_galley(galley);
-    *answer = numbers(a);
+    *answer = answer::numbers(a);
 }
 
 // Reads character n of a galley back.
@@ -84,37 +74,37 @@ pub extern "C" fn sp_read_back(
 // Makes an old galley new.
 #[no_mangle]
 pub extern "C" fn sp_galley_to_new(old: &[u8], new: &mut [u8], answer: &mut [usize; 3])
-    ensures { λ _. ⌜ (now (answer .exit) ≡ numbersOf (outcome (newResult (now (old .entry)) (length (now (new .entry)))))) × (now (new .exit) ≡ after (now (new .entry)) (newResult (now (old .entry)) (length (now (new .entry))))) ⌝ }
+    ensures { λ _. ⌜ GivesNumbers (now (answer .exit)) (newResult (now (old .entry))) (now (new .entry)) (now (new .exit)) ⌝ }
 {
     let a = conversion::galley_to_new(old, new);
-    *answer = numbers(a);
+    *answer = answer::numbers(a);
 }
 
 // Makes a new galley old.
 #[no_mangle]
 pub extern "C" fn sp_galley_to_old(new: &[u8], old: &mut [u8], answer: &mut [usize; 3])
-    ensures { λ _. ⌜ (now (answer .exit) ≡ numbersOf (outcome (oldResult (now (new .entry)) (length (now (old .entry)))))) × (now (old .exit) ≡ after (now (old .entry)) (oldResult (now (new .entry)) (length (now (old .entry))))) ⌝ }
+    ensures { λ _. ⌜ GivesNumbers (now (answer .exit)) (oldResult (now (new .entry))) (now (old .entry)) (now (old .exit)) ⌝ }
 {
     let a = conversion::galley_to_old(new, old);
-    *answer = numbers(a);
+    *answer = answer::numbers(a);
 }
 
 // Writes a galley's DVI file.
 #[no_mangle]
 pub extern "C" fn sp_write_dvi(galley: &[u8], dvi: &mut [u8], answer: &mut [usize; 3])
-    ensures { λ _. ⌜ (now (answer .exit) ≡ numbersOf (outcome (dviResult (now (galley .entry)) (length (now (dvi .entry)))))) × (now (dvi .exit) ≡ after (now (dvi .entry)) (dviResult (now (galley .entry)) (length (now (dvi .entry))))) ⌝ }
+    ensures { λ _. ⌜ GivesNumbers (now (answer .exit)) (dviResult (now (galley .entry))) (now (dvi .entry)) (now (dvi .exit)) ⌝ }
 {
     let a = dvi_writer::write_dvi(galley, dvi);
-    *answer = numbers(a);
+    *answer = answer::numbers(a);
 }
 
 // Reads a DVI file into a sheet.
 #[no_mangle]
 pub extern "C" fn sp_read_dvi(dvi: &[u8], widths: &[i32], sheet: &mut [u8], answer: &mut [usize; 3])
-    ensures { λ _. ⌜ (now (answer .exit) ≡ numbersOf (outcome (sheetResult (now (dvi .entry)) (now (widths .entry)) (length (now (sheet .entry)))))) × (now (sheet .exit) ≡ after (now (sheet .entry)) (sheetResult (now (dvi .entry)) (now (widths .entry)) (length (now (sheet .entry))))) ⌝ }
+    ensures { λ _. ⌜ GivesNumbers (now (answer .exit)) (sheetResult (now (dvi .entry)) (now (widths .entry))) (now (sheet .entry)) (now (sheet .exit)) ⌝ }
 {
     let a = dvi_reader::read_dvi(dvi, widths, sheet);
-    *answer = numbers(a);
+    *answer = answer::numbers(a);
 }
 
 // Writes a galley's DVI file and its sheet, or neither.
@@ -129,5 +119,5 @@ pub extern "C" fn sp_reprint(
     ensures { λ _. ⌜ (now (answer .exit) ≡ numbersOf (reprintOutcome (reprintResult (now (galley .entry)) (now (widths .entry)) (length (now (dvi .entry))) (length (now (sheet .entry)))))) × ((now (dvi .exit) ≡ dviAfter (now (dvi .entry)) (reprintResult (now (galley .entry)) (now (widths .entry)) (length (now (dvi .entry))) (length (now (sheet .entry))))) × ((now (sheet .exit) ≡ sheetAfter (now (sheet .entry)) (reprintResult (now (galley .entry)) (now (widths .entry)) (length (now (dvi .entry))) (length (now (sheet .entry))))) × ReprintedWhenever (now (galley .entry)) (now (widths .entry)) (now (dvi .entry)) (now (sheet .entry)) (reprintOutcome (reprintResult (now (galley .entry)) (now (widths .entry)) (length (now (dvi .entry))) (length (now (sheet .entry))))) (now (dvi .exit)) (now (sheet .exit)))) ⌝ }
 {
     let a = reprint::reprint(galley, widths, dvi, sheet);
-    *answer = numbers(a);
+    *answer = answer::numbers(a);
 }

@@ -17,7 +17,7 @@ ghost use mathlib.Core.Path.{_≡_};
 ghost use mathlib.Core.Bool.{true};
 ghost use Prim.Native.Nat.{_+_, _*_, _≤_};
 ghost use lib.ListN.{length};
-ghost use Rattle.octets.specs.Answer.{outcomeOf, outcome, after};
+ghost use Rattle.octets.specs.Answer.{outcomeOf, Gives};
 ghost use Rattle.galley_file.specs.Item.{itemSize};
 ghost use Rattle.galley_file.specs.Galley.{fields};
 ghost use Rattle.typesetter.specs.Sound.{Sound};
@@ -105,7 +105,7 @@ fn pass(first: State, at: usize, tape: &[u8], out: &mut [u8], writing: bool) -> 
 // Reads a tape within the limit, on a machine in the state `first`.
 fn read_from(first: State, tape: &[u8], galley: &mut [u8]) -> Answer
     requires { ⌜ (Sound first) × (length (now tape) ≤ maxTape) ⌝ }
-    ensures { λ r. ⌜ (outcomeOf r ≡ outcome (readResult first (now (tape .entry)) (length (now (galley .entry))))) × (now (galley .exit) ≡ after (now (galley .entry)) (readResult first (now (tape .entry)) (length (now (galley .entry))))) ⌝ }
+    ensures { λ r. ⌜ Gives (outcomeOf r) (readResult first (now (tape .entry))) (now (galley .entry)) (now (galley .exit)) ⌝ }
 {
     let r = pass(first, 0, tape, galley, false);
     let count = r.count;
@@ -133,7 +133,7 @@ fn read_from(first: State, tape: &[u8], galley: &mut [u8]) -> Answer
 
 // Reads a tape of the machine with so many fonts, 4 or 8, into the lent galley buffer.
 pub fn read_tape(tape: &[u8], machine: u32, galley: &mut [u8]) -> Answer
-    ensures { λ r. ⌜ (outcomeOf r ≡ outcome (tapeResult (now (tape .entry)) machine (length (now (galley .entry))))) × (now (galley .exit) ≡ after (now (galley .entry)) (tapeResult (now (tape .entry)) machine (length (now (galley .entry))))) ⌝ }
+    ensures { λ r. ⌜ Gives (outcomeOf r) (tapeResult (now (tape .entry)) machine) (now (galley .entry)) (now (galley .exit)) ⌝ }
 {
     if MAX_TAPE < tape.len() {
         return Answer::Refused(answer::TAPE_TOO_LONG, 0);

@@ -1,12 +1,12 @@
 -- `conversion::convert` meets its contract: the galley's length gives that of the other form, and the room decides.
 -- Assumes nothing.
-use mathlib.Core.Path.{_≡_, sym, ap, _∙_}
+use mathlib.Core.Path.{_≡_, refl, ap}
 use Prim.Native.Nat.{ℕ, _+_, _-_, _*_, _≤_}
 use native.Mathlib.Omega.{arith}
 use borrow.Author.Needs.{needs}
 use lib.ListN.{length}
 use Rattle.octets.specs.Octets.{bytes}
-use Rattle.octets.specs.Answer.{outcome, after}
+use Rattle.octets.specs.AnswerLaws.{gives}
 use Rattle.octets.specs.Write.{length-wrote}
 use Rattle.galley_file.specs.Form.{characterSize}
 use Rattle.galley_file.specs.FormLaws.{size-times}
@@ -50,7 +50,7 @@ returns c =
     let s = c .before .before .before .before .before in
     let a = s .args in
     let q = no-room (a .from) (a .to) (a .g .now) (a .count) (s .pre) (a .out .now) _ (needed (c .before)) (c .if1 .taken) in
-    (sym (ap outcome q), sym (ap (after (a .out .now)) q))
+    gives q refl refl
 
 put-items-requires : tie.Need-put-items-requires
 put-items-requires c κs =

@@ -1,9 +1,10 @@
 -- `conversion::galley_to_new` meets its contract: what the check refuses is refused, and a checked galley is converted.
 -- Assumes nothing.
-use mathlib.Core.Path.{_≡_, sym, ap, _∙_}
+use mathlib.Core.Path.{_≡_, refl, sym, ap, _∙_}
 use borrow.Author.Needs.{needs}
 use lib.ListN.{length}
-use Rattle.octets.specs.Answer.{accepted, outcomeOf, outcome, after}
+use Rattle.octets.specs.Answer.{accepted, outcomeOf}
+use Rattle.octets.specs.AnswerLaws.{gives, gives-same}
 use Rattle.galley_file.specs.declared.form.Form.the-variants.{Old}
 use Rattle.galley_file.specs.Outcome.{checkOutcome}
 use Rattle.conversion.proofs.Forms.{new-refused, new-accepted}
@@ -30,7 +31,7 @@ returns : tie.Need-returns
 returns c =
     let a = c .before .before .before .before .before .before .args in
     let q = new-refused (a .old .now) (length (a .new .now)) _ _ (sym (ap outcomeOf (c .before .checked .given .1)) ∙ c .before .before .before .check-form .ensures) in
-    (sym (ap outcome q), sym (ap (after (a .new .now)) q))
+    gives q refl refl
 
 same-length : tie.Need-same-length
 same-length c = search needs
@@ -39,8 +40,7 @@ returns-2 : tie.Need-returns-2
 returns-2 c =
     let a = c .before .before .before .before .before .before .before .before .before .before .args in
     let q = new-accepted (a .old .now) (length (a .new .now)) _ (counted (c .before .before .before .before .before)) in
-    let w = c .before .before .convert .ensures in
-    (w .0 ∙ sym (ap outcome q), w .1 ∙ sym (ap (after (a .new .now)) q))
+    gives-same q (c .before .before .convert .ensures)
 
 pub galley-to-new-spec : {M : Type 1} → statement M
 galley-to-new-spec =

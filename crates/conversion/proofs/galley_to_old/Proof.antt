@@ -1,9 +1,10 @@
 -- `conversion::galley_to_old` meets its contract: what the check refuses is refused, and a checked galley is converted.
 -- Assumes nothing.
-use mathlib.Core.Path.{_≡_, sym, ap, _∙_}
+use mathlib.Core.Path.{_≡_, refl, sym, ap, _∙_}
 use borrow.Author.Needs.{needs}
 use lib.ListN.{length}
-use Rattle.octets.specs.Answer.{accepted, outcomeOf, outcome, after}
+use Rattle.octets.specs.Answer.{accepted, outcomeOf}
+use Rattle.octets.specs.AnswerLaws.{gives, gives-same}
 use Rattle.galley_file.specs.Low.{lowOutcome}
 use Rattle.galley_file.specs.LowLaws.{low-checked}
 use Rattle.conversion.proofs.Forms.{old-refused, old-accepted}
@@ -30,7 +31,7 @@ returns : tie.Need-returns
 returns c =
     let a = c .before .before .before .before .before .before .args in
     let q = old-refused (a .new .now) (length (a .old .now)) _ _ (sym (ap outcomeOf (c .before .checked .given .1)) ∙ c .before .before .before .check-low .ensures) in
-    (sym (ap outcome q), sym (ap (after (a .old .now)) q))
+    gives q refl refl
 
 same-length : tie.Need-same-length
 same-length c = search needs
@@ -39,8 +40,7 @@ returns-2 : tie.Need-returns-2
 returns-2 c =
     let a = c .before .before .before .before .before .before .before .before .before .before .args in
     let q = old-accepted (a .new .now) (length (a .old .now)) _ (counted (c .before .before .before .before .before)) in
-    let w = c .before .before .convert .ensures in
-    (w .0 ∙ sym (ap outcome q), w .1 ∙ sym (ap (after (a .old .now)) q))
+    gives-same q (c .before .before .convert .ensures)
 
 pub galley-to-old-spec : {M : Type 1} → statement M
 galley-to-old-spec =

@@ -1,11 +1,11 @@
 -- `dvi_writer::write_checked` meets its contract: the extents give the length of the file, and the room decides.
 -- Assumes nothing.
-use mathlib.Core.Path.{_≡_, sym, ap}
+use mathlib.Core.Path.{_≡_, refl}
 use Prim.Native.Nat.{_+_, _*_, _≤_}
 use native.Mathlib.Omega.{arith}
 use borrow.Author.Needs.{needs}
 use lib.ListN.{length}
-use Rattle.octets.specs.Answer.{outcome, after}
+use Rattle.octets.specs.AnswerLaws.{gives}
 use Rattle.dvi.specs.Writer.{firstPress, dviFile}
 use Rattle.dvi.specs.WriterLaws.{itemsBytes-most}
 use Rattle.galley_file.specs.declared.form.Form.the-variants.{New}
@@ -43,7 +43,7 @@ returns c =
     let s = c .before .before .before .before .before .before in
     let a = s .args in
     let q = no-room (a .g .now) (a .out .now) _ (s .pre) _ (needed-is (c .before)) (c .if1 .taken) in
-    (sym (ap outcome q), sym (ap (after (a .out .now)) q))
+    gives q refl refl
 
 put-file-requires : tie.Need-put-file-requires
 put-file-requires c κs = (c .before .before .before .before .before .before .before .pre, (c .before .before .before .before .extents-of .ensures, omega (arith, needed-is (c .before .before), c .before .if1 .left)))

@@ -1,9 +1,10 @@
 -- `dvi_writer::write_dvi` meets its contract: what the check refuses is refused, and a checked galley is written.
 -- Assumes nothing.
-use mathlib.Core.Path.{_≡_, sym, ap, _∙_}
+use mathlib.Core.Path.{_≡_, refl, sym, ap, _∙_}
 use borrow.Author.Needs.{needs}
 use lib.ListN.{length}
-use Rattle.octets.specs.Answer.{accepted, outcomeOf, outcome, after}
+use Rattle.octets.specs.Answer.{accepted, outcomeOf}
+use Rattle.octets.specs.AnswerLaws.{gives}
 use Rattle.galley_file.specs.Low.{lowOutcome}
 use Rattle.dvi_writer.proofs.Results.{check-refused}
 use Rattle.dvi_writer.proofs.write_dvi.Statement.{statement}
@@ -29,7 +30,7 @@ returns : tie.Need-returns
 returns c =
     let a = c .before .before .before .before .before .before .args in
     let q = check-refused (a .galley .now) (length (a .dvi .now)) _ _ (sym (ap outcomeOf (c .before .checked .given .1)) ∙ c .before .before .before .check-low .ensures) in
-    (sym (ap outcome q), sym (ap (after (a .dvi .now)) q))
+    gives q refl refl
 
 same-length : tie.Need-same-length
 same-length c = search needs

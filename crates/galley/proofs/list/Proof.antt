@@ -28,7 +28,7 @@ fits : (c : tie.After-known-told2) → c .before .answer2 .given .0 .0 ≤ lengt
 fits c =
     let r = c .before .before .before .before .before .read-tape in
     let a = c .before .before .before .before .before .before .before .before .before .args in
-    let h = tape-room (a .tape .now) 8 (length (a .galley .now)) (c .before .answer2 .given .0 .0) (sym (ap outcomeOf (c .before .answer2 .given .1)) ∙ r .ensures .0) in
+    let h = tape-room (a .tape .now) 8 (length (a .galley .now)) (c .before .answer2 .given .0 .0) (sym (ap outcomeOf (c .before .answer2 .given .1)) ∙ r .ensures .outcome-is) in
     omega (arith, h, r .kept .1 .1 .0)
 
 slice-reshare-prefix-write-galley : tie.Need-slice-reshare-prefix-write-galley

@@ -28,7 +28,7 @@ returns c =
     let g = a .galley .now in
     let k : Bytes g = λ i. c .before .before .before .before .before .before .shared-slice-known .given i .fits in
     let e = sym (s .pre) in
-    let q = sym (ap outcomeOf (c .before .written .given .1)) ∙ c .before .before .before .before .write-dvi .ensures .0 in
+    let q = sym (ap outcomeOf (c .before .written .given .1)) ∙ c .before .before .before .before .write-dvi .ensures .outcome-is in
     refused-file g (a .count) k e 1 _ _ q .1 .0 ∙ ap length (same-file g (a .count) k e)
 
 returns-2 : tie.Need-returns-2
@@ -38,7 +38,7 @@ returns-2 c =
     let g = a .galley .now in
     let k : Bytes g = λ i. c .before .before .before .before .before .before .shared-slice-known .given i .fits in
     let e = sym (s .pre) in
-    let q = sym (ap outcomeOf (c .before .written2 .given .1)) ∙ c .before .before .before .before .write-dvi .ensures .0 in
+    let q = sym (ap outcomeOf (c .before .written2 .given .1)) ∙ c .before .before .before .before .write-dvi .ensures .outcome-is in
     accepted-file g (a .count) k e 1 _ q ∙ ap length (same-file g (a .count) k e)
 
 pub file-length-spec : {M : Type 1} → statement M

@@ -68,7 +68,7 @@ enum-known-written-2 c = search needs
 
 -- the writer has accepted the galley, with this length
 accepted-by : (c : tie.After-known-told2) → let a = c .before .before .before .before .before .before .before .before .before .before .before .before .before .args in accepted (c .before .written2 .given .0 .0) ≡ outcome (dviResult (a .galley .now) (length (a .dvi .now)))
-accepted-by c = sym (ap outcomeOf (c .before .written2 .given .1)) ∙ c .before .before .before .before .before .write-dvi .ensures .0
+accepted-by c = sym (ap outcomeOf (c .before .written2 .given .1)) ∙ c .before .before .before .before .before .write-dvi .ensures .outcome-is
 
 part-fits : (c : tie.After-known-told2) → c .before .written2 .given .0 .0 ≤ length (c .before .before .before .before .before .write-dvi .last .1 .0)
 part-fits c =
@@ -83,7 +83,7 @@ part-fits c =
 
 -- the writer has refused it
 refused-by : (c : tie.After-known-told) → let a = c .before .before .before .before .before .before .before .before .before .before .before .before .before .args in refused (c .before .written .given .0 .0) (c .before .written .given .0 .1 .0) ≡ outcome (dviResult (a .galley .now) (length (a .dvi .now)))
-refused-by c = sym (ap outcomeOf (c .before .written .given .1)) ∙ c .before .before .before .before .before .write-dvi .ensures .0
+refused-by c = sym (ap outcomeOf (c .before .written .given .1)) ∙ c .before .before .before .before .before .write-dvi .ensures .outcome-is
 
 slice-reshare-prefix-read-dvi : tie.Need-slice-reshare-prefix-read-dvi
 slice-reshare-prefix-read-dvi c = omega (arith, part-fits c)
@@ -106,7 +106,7 @@ returns-4 c =
     let e = sym (s .pre) in
     let r = c .before .before .before .before .before .write-dvi in
     let q = short-file g (a .count) k e (a .widths .now) (c .before .before .before .before .before .before .before .before .before .if1 .left) (length (a .dvi .now)) (length (a .sheet .now)) (refused-file g (a .count) k e (length (a .dvi .now)) _ _ (refused-by c) .1 .1) in
-    refused-writing g (a .count) k e (a .dvi .now) (a .sheet .now) _ _ (refused-by c) (r .ensures .1) q
+    refused-writing g (a .count) k e (a .dvi .now) (a .sheet .now) _ _ (refused-by c) (r .ensures .buffer-is) q
 
 same-length-2 : tie.Need-same-length-2
 same-length-2 c = search needs
@@ -126,7 +126,7 @@ returns-5 c =
     let d = c .before .before .read-dvi in
     let n = c .before .before .before .before .before .before .before .before .before .before .before .before .before .sheet-length .ensures ∙ sheet-needed g (a .count) k e in
     completes g (a .count) k e (a .dvi .now) _ q (a .widths .now) (c .before .before .before .before .before .before .before .before .before .before .before .before .before .before .if1 .left) (a .sheet .now) (omega (arith, c .before .before .before .before .before .before .before .before .before .before .before .before .if2 .left, n)) (outcomeOf (d .result)) _ _ _
-    (written-part g (a .count) k e (a .dvi .now) _ q _ (r .ensures .1)) (r .ensures .1) (d .ensures .0) (d .ensures .1)
+    (written-part g (a .count) k e (a .dvi .now) _ q _ (r .ensures .buffer-is)) (r .ensures .buffer-is) (d .ensures .outcome-is) (d .ensures .buffer-is)
 
 pub reprint-checked-spec : {M : Type 1} → statement M
 reprint-checked-spec =

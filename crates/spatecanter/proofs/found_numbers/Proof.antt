@@ -4,7 +4,7 @@ use mathlib.Core.Path.{sym, ap}
 use borrow.Author.Needs.{needs}
 use Rattle.galley_file.specs.declared.Found.{Found}
 use Rattle.galley_file.specs.Outcome.{foundOf, outcomeOfFound}
-use Rattle.spatecanter.specs.Numbers.{numbersOf}
+use Rattle.octets.specs.Answer.{numbersOf}
 use Rattle.spatecanter.proofs.found_numbers.Statement.{statement}
 use Rattle.spatecanter.proofs.found_numbers.Tie as tie
 

@@ -2,7 +2,7 @@
 -- Assumes nothing.
 use mathlib.Core.Path.{ap, _∙_}
 use borrow.Author.Needs.{needs}
-use Rattle.spatecanter.specs.Numbers.{numbersOf}
+use Rattle.octets.specs.Answer.{numbersOf}
 use Rattle.spatecanter.proofs.sp_check_galley.Statement.{statement}
 use Rattle.spatecanter.proofs.sp_check_galley.Tie as tie
 

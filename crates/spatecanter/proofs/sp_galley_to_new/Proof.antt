@@ -1,8 +1,7 @@
 -- `spatecanter::sp_galley_to_new` meets its contract: it hands over the numbers of the answer.
 -- Assumes nothing.
-use mathlib.Core.Path.{ap, _∙_}
 use borrow.Author.Needs.{needs}
-use Rattle.spatecanter.specs.Numbers.{numbersOf}
+use Rattle.octets.specs.AnswerLaws.{gives-numbers}
 use Rattle.spatecanter.proofs.sp_galley_to_new.Statement.{statement}
 use Rattle.spatecanter.proofs.sp_galley_to_new.Tie as tie
 
@@ -16,7 +15,7 @@ same-length : tie.Need-same-length
 same-length c = search needs
 
 returns : tie.Need-returns
-returns c = let r = c .before .before .before .galley-to-new .ensures in (c .numbers .ensures ∙ ap numbersOf (r .0), r .1)
+returns c = gives-numbers (c .numbers .ensures) (c .before .before .before .galley-to-new .ensures)
 
 pub sp-galley-to-new-spec : {M : Type 1} → statement M
 sp-galley-to-new-spec = tie.close (tie.spec galley-to-new-requires numbers-requires same-length returns)

@@ -1,8 +1,7 @@
 -- `spatecanter::sp_galley_to_old` meets its contract: it hands over the numbers of the answer.
 -- Assumes nothing.
-use mathlib.Core.Path.{ap, _∙_}
 use borrow.Author.Needs.{needs}
-use Rattle.spatecanter.specs.Numbers.{numbersOf}
+use Rattle.octets.specs.AnswerLaws.{gives-numbers}
 use Rattle.spatecanter.proofs.sp_galley_to_old.Statement.{statement}
 use Rattle.spatecanter.proofs.sp_galley_to_old.Tie as tie
 
@@ -16,7 +15,7 @@ same-length : tie.Need-same-length
 same-length c = search needs
 
 returns : tie.Need-returns
-returns c = let r = c .before .before .before .galley-to-old .ensures in (c .numbers .ensures ∙ ap numbersOf (r .0), r .1)
+returns c = gives-numbers (c .numbers .ensures) (c .before .before .before .galley-to-old .ensures)
 
 pub sp-galley-to-old-spec : {M : Type 1} → statement M
 sp-galley-to-old-spec = tie.close (tie.spec galley-to-old-requires numbers-requires same-length returns)

@@ -3,7 +3,8 @@
 use mathlib.Core.Path.{ap, _∙_}
 use borrow.Author.Needs.{needs}
 use Rattle.galley_file.specs.Outcome.{FoundOutcome, outcomeOfFound}
-use Rattle.spatecanter.specs.Numbers.{numbersOf, foundNumbers}
+use Rattle.octets.specs.Answer.{numbersOf}
+use Rattle.spatecanter.specs.Numbers.{foundNumbers}
 use Rattle.spatecanter.proofs.sp_read_back.Statement.{statement}
 use Rattle.spatecanter.proofs.sp_read_back.Tie as tie
 

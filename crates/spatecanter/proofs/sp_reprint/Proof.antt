@@ -4,7 +4,7 @@ use mathlib.Core.Path.{ap, subst, _∙_}
 use borrow.Author.Needs.{needs}
 use Rattle.octets.specs.Answer.{Outcome}
 use Rattle.reprint.specs.Reprint.{ReprintedWhenever}
-use Rattle.spatecanter.specs.Numbers.{numbersOf}
+use Rattle.octets.specs.Answer.{numbersOf}
 use Rattle.spatecanter.proofs.sp_reprint.Statement.{statement}
 use Rattle.spatecanter.proofs.sp_reprint.Tie as tie
 

@@ -8,10 +8,10 @@ use native.Mathlib.Omega.{arith}
 use borrow.Author.Needs.{needs}
 use lib.ListN.{length}
 use lib.Seq.{sets}
-use Rattle.octets.specs.Answer.{accepted, outcome, after}
+use Rattle.octets.specs.Answer.{accepted}
+use Rattle.octets.specs.AnswerLaws.{gives}
 use Rattle.galley_file.specs.declared.form.Form.the-variants.{New}
 use Rattle.galley_file.specs.Galley.{fields}
-use Rattle.octets.specs.Answer.{outcome, after}
 use Rattle.tape.specs.Tape.{run}
 use Rattle.tape.proofs.Results.{read-fault, read-cut, read-open, needed, read-short, read-whole, fields-counted, filled}
 use Rattle.tape.proofs.read_from.Statement.{statement}
@@ -45,7 +45,7 @@ returns c =
     let p = c .before .before .before .before .before .before .before .pass in
     let e = sym (p .ensures .ended) ∙ c .before .before .ending2 .given .1 in
     let q = read-cut (a .first) (a .tape .now) (length (a .galley .now)) _ e (c .if1 .taken) in
-    (sym (ap outcome q), p .ensures .buffer ∙ sym (ap (after (a .galley .now)) q))
+    gives q refl (p .ensures .buffer)
 
 add-needed : tie.Need-add-needed
 add-needed c = let p = c .before .before .before .before .before .before .before .before .pass .ensures in omega (arith, p .few, p .short)
@@ -62,7 +62,7 @@ returns-2 c =
     let n = bytes-counted (c .before .before .before .before .before .before .before .before .before) in
     let short : length (a .galley .now) < 11 * p .result .count + p .result .cuts + 7 = omega (arith, c .if3 .taken, ap length same) in
     let q = read-short (a .first) (a .tape .now) (length (a .galley .now)) _ e (c .before .before .if1 .left) (c .before .if2 .taken) _ n short in
-    (sym (ap outcome q), same ∙ sym (ap (after (a .galley .now)) q))
+    gives q refl same
 
 pass-requires-2 : tie.Need-pass-requires-2
 pass-requires-2 c κs =
@@ -91,11 +91,11 @@ returns-3 c =
     let room : 11 * p .result .count + p .result .cuts + 7 ≤ length (a .galley .now) = omega (arith, t .if3 .left, ap length same) in
     let q = read-whole (a .first) (a .tape .now) (length (a .galley .now)) _ e (c .before .before .before .before .before .before .before .before .before .before .if1 .left) (c .before .before .before .before .before .before .before .before .before .if2 .taken) _ n room in
     let is = run (a .first) 0 (a .tape .now) .items in
-    let w = m .ensures .buffer ∙ ap (λ (g : List ℕ). sets g 0 (fields New is)) same in (
-      ap accepted (sym (needed (a .first) (a .tape .now) (length (a .galley .now)) _ e (c .before .before .before .before .before .before .before .before .before .before .if1 .left) (c .before .before .before .before .before .before .before .before .before .if2 .taken) _ n)) ∙ sym (ap outcome q),
-      filled is (p .result .count) _ (a .galley .now) (m .last .1 .1 .1 .0) (c .before .before .put-end .last .0) (p .ensures .counted) n room w (c .before .before .put-end .ensures .buffer-is)
-          ∙ sym (ap (after (a .galley .now)) q),
-    )
+    let w = m .ensures .buffer ∙ ap (λ (g : List ℕ). sets g 0 (fields New is)) same in
+    gives
+    q
+    (ap accepted (sym (needed (a .first) (a .tape .now) (length (a .galley .now)) _ e (c .before .before .before .before .before .before .before .before .before .before .if1 .left) (c .before .before .before .before .before .before .before .before .before .if2 .taken) _ n)))
+    (filled is (p .result .count) _ (a .galley .now) (m .last .1 .1 .1 .0) (c .before .before .put-end .last .0) (p .ensures .counted) n room w (c .before .before .put-end .ensures .buffer-is))
 
 same-length-4 : tie.Need-same-length-4
 same-length-4 c = search needs
@@ -105,7 +105,7 @@ returns-4 c =
     let a = c .before .before .before .before .before .before .before .before .before .before .args in
     let p = c .before .before .before .before .before .before .pass in
     let q = read-fault (a .first) (a .tape .now) (length (a .galley .now)) (sym (p .ensures .ended) ∙ c .before .ending .given .1) in
-    (sym (ap outcome q), p .ensures .buffer ∙ sym (ap (after (a .galley .now)) q))
+    gives q refl (p .ensures .buffer)
 
 same-length-5 : tie.Need-same-length-5
 same-length-5 c = search needs
@@ -116,7 +116,7 @@ returns-5 c =
     let p = c .before .before .before .before .before .before .before .before .pass in
     let e = sym (p .ensures .ended) ∙ c .before .before .before .ending2 .given .1 in
     let q = read-open (a .first) (a .tape .now) (length (a .galley .now)) _ e (c .before .if1 .left) (c .if2 .left) in
-    (sym (ap outcome q), p .ensures .buffer ∙ sym (ap (after (a .galley .now)) q))
+    gives q refl (p .ensures .buffer)
 
 pub read-from-spec : {M : Type 1} → statement M
 read-from-spec =

@@ -1,23 +1,18 @@
 -- `tape::read_tape` meets its contract: 1 over the whole tape, then 50, and then the tape read from the start of its machine.
 -- Assumes nothing.
-use mathlib.Core.Path.{_≡_, refl, sym, ap, _∙_}
-use mathlib.Core.List.{List}
+use mathlib.Core.Path.{_≡_, refl}
 use mathlib.Core.Option.{none, some}
 use Prim.Native.Nat.{ℕ}
 use borrow.Author.Needs.{needs}
 use borrow.Author.Tests.{eq-eqb, ne-eqb}
 use lib.ListN.{length}
-use Rattle.octets.specs.Answer.{Result, Outcome, outcome, after}
+use Rattle.octets.specs.AnswerLaws.{gives, gives-same}
 use Rattle.typesetter.specs.declared.code.Machine.the-variants.{Four, Eight}
 use Rattle.tape.specs.Tape.{machineOf}
 use Rattle.typesetter.specs.SoundLaws.{start-sound}
 use Rattle.tape.proofs.Results.{long-tape, other-machine, on-machine}
 use Rattle.tape.proofs.read_tape.Statement.{statement}
 use Rattle.tape.proofs.read_tape.Tie as tie
-
--- what is so of one result is so of an equal one
-as-result : {r q : Result} (o : Outcome) (was now : List ℕ) → q ≡ r → (o ≡ outcome r) × (now ≡ after was r) → (o ≡ outcome q) × (now ≡ after was q)
-as-result o was now e p = (p .0 ∙ sym (ap outcome e), p .1 ∙ sym (ap (after was) e))
 
 four : (n : ℕ) → n ≡ 4 → machineOf n ≡ some Four
 four n e = rw (eq-eqb n 4 e)
@@ -31,7 +26,7 @@ neither n f e = rw (ne-eqb n 4 f, ne-eqb n 8 e)
 returns : tie.Need-returns
 returns c =
     let a = c .before .before .before .args in
-    as-result _ _ _ (long-tape (a .tape .now) (a .machine) (length (a .galley .now)) (c .if1 .taken)) (refl, refl)
+    gives (long-tape (a .tape .now) (a .machine) (length (a .galley .now)) (c .if1 .taken)) refl refl
 
 at-start-requires : tie.Need-at-start-requires
 at-start-requires c κs = search needs
@@ -46,7 +41,7 @@ returns-2 : tie.Need-returns-2
 returns-2 c =
     let t = c .before .before .before .before .before in
     let a = t .before .before .before .before .args in
-    as-result _ _ _ (on-machine (a .tape .now) (a .machine) (length (a .galley .now)) (t .before .if1 .left) (four (a .machine) (t .if2 .taken)) (c .before .before .before .before .at-start .ensures))
+    gives-same (on-machine (a .tape .now) (a .machine) (length (a .galley .now)) (t .before .if1 .left) (four (a .machine) (t .if2 .taken)) (c .before .before .before .before .at-start .ensures))
     (c .before .before .read-from .ensures)
 
 at-start-requires-2 : tie.Need-at-start-requires-2
@@ -62,13 +57,13 @@ returns-3 : tie.Need-returns-3
 returns-3 c =
     let t = c .before .before .before .before .before in
     let a = t .before .before .before .before .before .args in
-    as-result _ _ _ (on-machine (a .tape .now) (a .machine) (length (a .galley .now)) (t .before .before .if1 .left) (eight (a .machine) (t .before .if2 .left) (t .if3 .taken)) (c .before .before .before .before .at-start2 .ensures))
+    gives-same (on-machine (a .tape .now) (a .machine) (length (a .galley .now)) (t .before .before .if1 .left) (eight (a .machine) (t .before .if2 .left) (t .if3 .taken)) (c .before .before .before .before .at-start2 .ensures))
     (c .before .before .read-from2 .ensures)
 
 returns-4 : tie.Need-returns-4
 returns-4 c =
     let a = c .before .before .before .before .before .args in
-    as-result _ _ _ (other-machine (a .tape .now) (a .machine) (length (a .galley .now)) (c .before .before .if1 .left) (neither (a .machine) (c .before .if2 .left) (c .if3 .left))) (refl, refl)
+    gives (other-machine (a .tape .now) (a .machine) (length (a .galley .now)) (c .before .before .if1 .left) (neither (a .machine) (c .before .if2 .left) (c .if3 .left))) refl refl
 
 pub read-tape-spec : {M : Type 1} → statement M
 read-tape-spec =

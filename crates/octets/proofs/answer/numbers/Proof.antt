@@ -1,12 +1,11 @@
--- `spatecanter::numbers` meets its contract: each arm is given which answer it is.
+-- `octets::answer::numbers` meets its contract: each arm is given which answer it is.
 -- Assumes nothing.
 use mathlib.Core.Path.{sym, ap}
 use borrow.Author.Needs.{needs}
 use Rattle.octets.specs.declared.answer.Answer.{Answer}
-use Rattle.octets.specs.Answer.{outcomeOf}
-use Rattle.spatecanter.specs.Numbers.{numbersOf}
-use Rattle.spatecanter.proofs.numbers.Statement.{statement}
-use Rattle.spatecanter.proofs.numbers.Tie as tie
+use Rattle.octets.specs.Answer.{outcomeOf, numbersOf}
+use Rattle.octets.proofs.answer.numbers.Statement.{statement}
+use Rattle.octets.proofs.answer.numbers.Tie as tie
 
 enum-known-a : tie.Need-enum-known-a
 enum-known-a c = search needs
