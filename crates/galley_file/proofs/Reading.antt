@@ -4,7 +4,7 @@ use mathlib.Core.Path.{_≡_, refl, sym, ap, _∙_}
 use mathlib.Core.Bool.{Bool, true, false, cond}
 use mathlib.Core.List.{List, [], _∷_, _++_}
 use mathlib.Core.Option.{Option, none, some}
-use Prim.Native.Nat.{ℕ, zero, suc, _+_, _-_, _*_, _<_, _≤_}
+use Prim.Native.Nat.{ℕ, zero, suc, _+_, _-_, _*_, _/_, _%_, _<_, _≤_}
 use native.Mathlib.Omega.{arith}
 use borrow.Author.Tests.{eq-eqb, ne-eqb}
 use lib.ListN.{length, take, drop, length-drop, length-append}
@@ -15,13 +15,12 @@ use Rattle.galley_file.specs.declared.item.Item.{Item}
 use Rattle.galley_file.specs.declared.item.Item.the-variants.{Placed, Cut}
 use Rattle.galley_file.specs.declared.Span.{Span}
 use Rattle.galley_file.specs.declared.form.Form.{Form}
-use Rattle.galley_file.specs.declared.form.Form.the-variants.{Old, New}
 use Rattle.galley_file.specs.Form.{characterSize}
 use Rattle.galley_file.specs.Character.{characterAt, isCharacter}
 use Rattle.galley_file.specs.Item.{itemField, itemSize, isCut, nextItem, tally, charactersOf, cutsOf}
-use Rattle.galley_file.specs.ItemLaws.{length-itemField, next-is, count-item, all-counted, characters-append, cuts-append}
+use Rattle.galley_file.specs.ItemLaws.{length-itemField, next-is, count-item, all-counted}
 use Rattle.galley_file.specs.Galley.{Reading, whole, malformed, after, fields, readEnd, reading, leading}
-use Rattle.galley_file.specs.Span.{SpanOf, Block}
+use Rattle.galley_file.specs.Span.{SpanOf, runNumber}
 use Rattle.galley_file.specs.GalleyLaws.{reading-next, reading-end, length-fields}
 use Rattle.galley_file.specs.Outcome.{countOutcome}
 
@@ -105,91 +104,55 @@ leading-fits form =
 
 -- ---- what `leading_items` counts
 
+-- an item more
+number-more : (i : Item) (is : List Item) → runNumber (i ∷ is) ≡ runNumber is + (tally i + 2048 * (1 - tally i))
+unfolding runNumber charactersOf cutsOf
+number-more (Placed c) is = omega arith
+number-more Cut is = omega arith
+
 module _ (form : Form) (m : ℕ) (s : List ℕ) where
-  abbrev none-span : Span
-  none-span = record { characters = 0; cuts = 0 }
+  nothing : leading form m s ≡ [] → 0 ≡ runNumber (leading form m s)
+  unfolding runNumber charactersOf cutsOf
+  nothing e = rw e
 
-  nothing : leading form m s ≡ [] → SpanOf none-span (leading form m s)
-  unfolding charactersOf cutsOf
-  nothing e = rw e (record { characters-are = refl; cuts-are = refl })
+  pub number-none : m ≡ 0 → 0 ≡ runNumber (leading form m s)
+  number-none e = nothing (ap (λ (k : ℕ). leading form k s) e ∙ leading-none form s)
 
-  pub span-none : m ≡ 0 → SpanOf none-span (leading form m s)
-  span-none e = nothing (ap (λ (k : ℕ). leading form k s) e ∙ leading-none form s)
+  pub number-stop : isCharacter form s ≡ false → isCut s ≡ false → 0 ≡ runNumber (leading form m s)
+  number-stop e f = nothing (leading-stop form m s (next-no form s e f))
 
-  pub span-stop : isCharacter form s ≡ false → isCut s ≡ false → SpanOf none-span (leading form m s)
-  span-stop e f = nothing (leading-stop form m s (next-no form s e f))
+  -- the part after the field of an item, which a number is of
+  past : (i : Item) (r : ℕ) → (m ≡ 0 → ⊥) → nextItem form s ≡ some i → r ≡ runNumber (leading form (m - 1) (take (length s - itemSize form i) (drop (itemSize form i) s)))
+      → r + (tally i + 2048 * (1 - tally i)) ≡ runNumber (leading form m s)
+  past i r h e q =
+      let w : r ≡ runNumber (leading form (m - 1) (drop (itemSize form i) s)) = q ∙ ap (λ (l : List ℕ). runNumber (leading form (m - 1) l)) (part (itemSize form i) s) in
+      omega (arith, w, number-more i (leading form (m - 1) (drop (itemSize form i) s)), ap runNumber (leading-more form m s i h e))
 
-  pub span-character : (r : Span) → (m ≡ 0 → ⊥) → isCharacter form s ≡ true → SpanOf r (leading form (m - 1) (take (length s - characterSize form) (drop (characterSize form) s)))
-      → SpanOf (record { characters = r .characters + 1; cuts = r .cuts }) (leading form m s)
-  unfolding charactersOf cutsOf
-  span-character r h e q =
-      let p = part (characterSize form) s in
-      let w : SpanOf r (leading form (m - 1) (drop (characterSize form) s)) = rw (← p) q in
-      rw (leading-more form m s (Placed (characterAt form s 0)) h (next-character form s e))
-      (record { characters-are = omega (arith, w .characters-are); cuts-are = w .cuts-are })
+  pub number-character : (r : ℕ) → (m ≡ 0 → ⊥) → isCharacter form s ≡ true → r ≡ runNumber (leading form (m - 1) (take (length s - characterSize form) (drop (characterSize form) s)))
+      → r + 1 ≡ runNumber (leading form m s)
+  number-character r h e q = past (Placed (characterAt form s 0)) r h (next-character form s e) q
 
-  pub span-cut : (r : Span) → (m ≡ 0 → ⊥) → isCharacter form s ≡ false → isCut s ≡ true → SpanOf r (leading form (m - 1) (take (length s - 3) (drop 3 s)))
-      → SpanOf (record { characters = r .characters; cuts = r .cuts + 1 }) (leading form m s)
-  unfolding charactersOf cutsOf
-  span-cut r h e f q =
-      let p = part 3 s in
-      let w : SpanOf r (leading form (m - 1) (drop 3 s)) = rw (← p) q in
-      rw (leading-more form m s Cut h (next-cut form s e f)) (record { characters-are = w .characters-are; cuts-are = ap (λ (k : ℕ). k + 1) (w .cuts-are) })
+  pub number-cut : (r : ℕ) → (m ≡ 0 → ⊥) → isCharacter form s ≡ false → isCut s ≡ true → r ≡ runNumber (leading form (m - 1) (take (length s - 3) (drop 3 s)))
+      → r + 2048 ≡ runNumber (leading form m s)
+  number-cut r h e f q = past Cut r h (next-cut form s e f) q
+
+  -- the items are no more than the room
+  pub items-few : length (charactersOf (leading form m s)) + cutsOf (leading form m s) ≤ m
+  items-few = omega (arith, all-counted (leading form m s), leading-room form m s)
+
+  -- and so the number is no more than cuts alone would make it
+  pub number-most : (r : ℕ) → r ≡ runNumber (leading form m s) → r ≤ 2048 * m
+  unfolding runNumber
+  number-most r e = omega (arith, e, items-few)
+
+  -- it is taken apart
+  pub number-span : (r : ℕ) → m ≤ 1024 → r ≡ runNumber (leading form m s) → SpanOf (record { characters = r % 2048; cuts = r / 2048 }) (leading form m s)
+  unfolding runNumber
+  number-span r h e = record { characters-are = omega (arith, e, items-few); cuts-are = omega (arith, e, items-few) }
 
 -- no more than the room
 pub span-few : (form : Form) (m : ℕ) (s : List ℕ) (r : Span) → SpanOf r (leading form m s) → r .characters + r .cuts ≤ m
-span-few form m s r e = omega (arith, all-counted (leading form m s), e .characters-are, e .cuts-are, leading-room form m s)
-
--- ---- blocks of characters
-
--- after n items, what follows goes on
-leading-split : (form : Form) (n : ℕ) (s : List ℕ) (r : ℕ) → length (leading form n s) ≡ n → leading form (n + r) s ≡ leading form n s ++ leading form r (drop (length (fields form (leading form n s))) s)
-unfolding fields
-leading-split form =
-    leading-ind form (λ n s is. (r : ℕ) → length is ≡ n → leading form (n + r) s ≡ is ++ leading form r (drop (length (fields form is)) s))
-    (λ s r h. let z : 0 + r ≡ r = omega arith in rw z)
-    (λ n s e r h. absurd (omega arith))
-    (λ n is s i e split r h.
-    let x : suc n + r - 1 ≡ n + r = omega arith in
-    let y = size-more form i is in
-    leading-more form (suc n + r) s i (λ q. omega arith) e
-    ∙ rw (x, y, ← drop-drop (length (fields form is)) (itemSize form i) s) (ap (λ (l : List Item). i ∷ l) (split r (omega arith))))
-
-module _ (form : Form) (n : ℕ) (s : List ℕ) (b : Block form n s) where
-  block-items : length (leading form n s) ≡ n
-  block-items = omega (arith, all-counted (leading form n s), b .characters-are, b .cuts-are)
-
-  block-bytes : length (fields form (leading form n s)) ≡ characterSize form * n
-  block-bytes =
-      let z : characterSize form * n + 3 * 0 ≡ characterSize form * n = omega arith in
-      length-fields form (leading form n s) ∙ sym (λ i. characterSize form * b .characters-are i + 3 * b .cuts-are i) ∙ z
-
-  pub block-fits : characterSize form * n ≤ length s
-  block-fits = omega (arith, block-bytes, leading-fits form n s)
-
-  go-on : (r : ℕ) → leading form (n + r) s ≡ leading form n s ++ leading form r (drop (characterSize form * n) s)
-  go-on r = leading-split form n s r block-items ∙ ap (λ (k : ℕ). leading form n s ++ leading form r (drop k s)) block-bytes
-
-  -- the items of a block and those after it
-  pub block-span : (m : ℕ) (r : Span) → n ≤ m → SpanOf r (leading form (m - n) (take (length s - characterSize form * n) (drop (characterSize form * n) s))) → SpanOf (record { characters = n + r .characters; cuts = r .cuts }) (leading form m s)
-  block-span m r h q =
-      let p = part (characterSize form * n) s in
-      let w : SpanOf r (leading form (m - n) (drop (characterSize form * n) s)) = rw (← p) q in
-      let z : n + (m - n) ≡ m = omega arith in
-      let all : leading form m s ≡ leading form n s ++ leading form (m - n) (drop (characterSize form * n) s) = ap (λ (k : ℕ). leading form k s) (sym z) ∙ go-on (m - n) in
-      let rest = leading form (m - n) (drop (characterSize form * n) s) in
-      record {
-        characters-are = omega (arith, ap (λ (l : List Item). length (charactersOf l)) all, ap length (characters-append (leading form n s) rest), length-append (charactersOf (leading form n s)) (charactersOf rest), b .characters-are, w .characters-are);
-        cuts-are = omega (arith, ap cutsOf all, cuts-append (leading form n s) rest, b .cuts-are, w .cuts-are);
-      }
-
-  -- one more
-  pub block-next : isCharacter form (take (length s - characterSize form * n) (drop (characterSize form * n) s)) ≡ true → Block form (n + 1) s
-  block-next e =
-      let t = take (length s - characterSize form * n) (drop (characterSize form * n) s) in
-      let x : n + 1 - n ≡ 1 = omega arith in
-      block-span (n + 1) (record { characters = 1; cuts = 0 }) (omega arith)
-      (rw x (span-character form 1 t (record { characters = 0; cuts = 0 }) (λ q. omega arith) e (span-none form 0 (take (length t - characterSize form) (drop (characterSize form) t)) refl)))
+span-few form m s r e = omega (arith, items-few form m s, e .characters-are, e .cuts-are)
 
 -- ---- past a run
 

@@ -18,7 +18,7 @@ ghost use Rattle.octets.specs.Answer.{accepted, outcomeOf};
 ghost use Rattle.galley_file.specs.declared.form.Form.the-variants.{New};
 ghost use Rattle.galley_file.specs.Form.{maxGalley};
 ghost use Rattle.galley_file.specs.Galley.{reading, readEnd, leading};
-ghost use Rattle.galley_file.specs.Span.{SpanOf, Block};
+ghost use Rattle.galley_file.specs.Span.{SpanOf, runNumber};
 ghost use Rattle.galley_file.specs.Outcome.{countOutcome, checkOutcome, foundOf, readBackOutcome};
 ghost use Rattle.galley_file.specs.Low.{lowOutcome};
 
@@ -33,8 +33,8 @@ const RUN: usize = 1_024;
 
 const RUNS: usize = 1_024;
 
-// The characters of a block.
-const BLOCK: usize = 64;
+// A cut in the number of a run; a character is 1.
+const CUT: usize = 2_048;
 
 // The characters and the cuts of some fields.
 pub struct Span {
@@ -42,69 +42,33 @@ pub struct Span {
     pub cuts: usize,
 }
 
-// The items that s starts with, at most `room`. The part after a field goes to this function again.
-fn leading_items(f: Form, s: &[u8], room: usize) -> Span
-    ensures { λ r. ⌜ SpanOf r (leading f room (now (s .entry))) ⌝ }
+// The items that s starts with, at most `room`, as one number. The part after a field goes to this function again.
+fn leading_items(f: Form, s: &[u8], room: usize) -> usize
+    requires { ⌜ room ≤ 1024 ⌝ }
+    ensures { λ r. ⌜ r ≡ runNumber (leading f room (now (s .entry))) ⌝ }
 {
     if room == 0 {
-        return Span {
-            characters: 0,
-            cuts: 0,
-        };
+        return 0;
     }
     if character::is_character(f, s) {
         let size = form::character_size(f);
-        let rest = leading_items(f, &s[size..], room - 1);
-        return Span {
-            characters: rest.characters + 1,
-            cuts: rest.cuts,
-        };
+        return leading_items(f, &s[size..], room - 1) + 1;
     }
     if item::is_cut(s) {
-        let rest = leading_items(f, &s[item::CUT_FIELD..], room - 1);
-        return Span {
-            characters: rest.characters,
-            cuts: rest.cuts + 1,
-        };
+        return leading_items(f, &s[item::CUT_FIELD..], room - 1) + CUT;
     }
+    0
+}
+
+// The items of the run that s starts with.
+fn leading_run(f: Form, s: &[u8]) -> Span
+    ensures { λ r. ⌜ SpanOf r (leading f 1024 (now (s .entry))) ⌝ }
+{
+    let run = leading_items(f, s, RUN);
     Span {
-        characters: 0,
-        cuts: 0,
+        characters: run % CUT,
+        cuts: run / CUT,
     }
-}
-
-// Whether s starts with a block: BLOCK character fields.
-fn starts_block(f: Form, s: &[u8]) -> bool
-    ensures { λ r. ⌜ (r ≡ true → Block f 64 (now (s .entry))) ⌝ }
-{
-    let size = form::character_size(f);
-    let mut i = 0;
-    while i < BLOCK {
-        let start = size * i;
-        if !character::is_character(f, &s[start..]) {
-            return false;
-        }
-        i += 1;
-    }
-    true
-}
-
-// The same items, with one call for each block. The part after a block goes to this function again.
-fn leading_blocks(f: Form, s: &[u8], room: usize) -> Span
-    ensures { λ r. ⌜ SpanOf r (leading f room (now (s .entry))) ⌝ }
-{
-    if room < BLOCK {
-        return leading_items(f, s, room);
-    }
-    if starts_block(f, s) {
-        let start = form::character_size(f) * BLOCK;
-        let rest = leading_blocks(f, &s[start..], room - BLOCK);
-        return Span {
-            characters: BLOCK + rest.characters,
-            cuts: rest.cuts,
-        };
-    }
-    leading_items(f, s, room)
 }
 
 // Checks s, in which no item comes next, and which starts at `at` and follows `count` characters.
@@ -130,7 +94,7 @@ fn check_fields(f: Form, s: &[u8], at: usize, count: usize, runs: usize) -> Answ
     if runs == 0 {
         return check_end(s, at, count);
     }
-    let run = leading_blocks(f, s, RUN);
+    let run = leading_run(f, s);
     let start = form::character_size(f) * run.characters + item::CUT_FIELD * run.cuts;
     let rest = &s[start..];
     if run.characters + run.cuts == RUN {

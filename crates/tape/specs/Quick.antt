@@ -2,7 +2,7 @@
 use mathlib.Core.Path.{_≡_}
 use mathlib.Core.Bool.{Bool, true, false, cond}
 use Prim.Native.Nat.{ℕ, _-_, _*_, _/_, _%_, _≤_, _<_}
-use lib.Dec.{eqb, ltb}
+use lib.Dec.{eqb}
 use Rattle.measure.specs.declared.Height.{Height}
 use Rattle.measure.specs.declared.Height.the-variants as height
 use Rattle.galley_file.specs.Font.{fontNumber}
@@ -92,7 +92,7 @@ modesAfter m b =
     }
 
 abbrev pub sizeAfter : ℕ → ℕ → ℕ
-sizeAfter size b = cond (ltb b 0x50) size (b - 0x50)
+sizeAfter size b = cond (eqb (b / 16) 5) (b % 16) size
 
 -- a state with other modes and another size
 abbrev pub settled : State → Modes → ℕ → State

@@ -146,7 +146,7 @@ fn quick_step(s: State, d: Derived, b: u8) -> Quick
             code: code,
         });
     }
-    if b < 128 {
+    if b >> 7 == 0 {
         return Quick::Slow;
     }
     if d.last_escape < b {
@@ -333,7 +333,7 @@ fn modes_after(m: Modes, b: u8) -> Modes
 fn size_after(size: u8, b: u8) -> u8
     ensures { λ r. ⌜ r ≡ sizeAfter size b ⌝ }
 {
-    if b < 0x50 { size } else { b - 0x50 }
+    if b >> 4 == 5 { b & 15 } else { size }
 }
 
 // The height after b, where b is a lead that a running machine takes; Outside is every other code and every refusal.

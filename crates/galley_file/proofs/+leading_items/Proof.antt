@@ -7,10 +7,10 @@ use borrow.Author.Needs.{needs}
 use borrow.Fn.Kinds.{In}
 use borrow.Fn.PlainCycle.{Measures, is, falls, and}
 use Rattle.galley_file.specs.Galley.{leading}
-use Rattle.galley_file.specs.Span.{SpanOf}
+use Rattle.galley_file.specs.Span.{runNumber}
 use Rattle.galley_file.specs.CharacterLaws.{read-character}
 use Rattle.galley_file.specs.ItemLaws.{cut-long}
-use Rattle.galley_file.proofs.Reading.{span-none, span-stop, span-character, span-cut, span-few}
+use Rattle.galley_file.proofs.Reading.{number-none, number-stop, number-character, number-cut, number-most}
 use Rattle.galley_file.proofs.leading_items.Reads as own
 use Rattle.galley_file.proofs.leading_items.Kinds as kinds
 use Rattle.galley_file.proofs.+leading_items.Lts-leading_items as lts
@@ -35,7 +35,7 @@ abbrev uses : ℕ → lts.Claims
 uses t = (is-character.Asked, is-character.Learnt, character-size.Asked, character-size.Learnt, below t, own.Post, is-cut.Asked, is-cut.Learnt)
 
 returns : (t : ℕ) → lts.Need-returns (uses t) (at t) own.Post
-returns t c = span-none _ _ _ (c .if1 .taken)
+returns t c = number-none _ _ _ (c .if1 .taken)
 
 is-character-requires : (t : ℕ) → lts.Need-is-character-requires (uses t) (at t) own.Post
 is-character-requires t c κs = search needs
@@ -59,18 +59,18 @@ sub-room : (t : ℕ) → lts.Need-sub-leading-items-2 (uses t) (at t) own.Post
 sub-room t c = omega (arith, c .before .before .before .before .if1 .left)
 
 call-requires : (t : ℕ) → lts.Need-leading-items-requires (uses t) (at t) own.Post
-call-requires t c κs = (omega (arith, c .before .before .before .before .if1 .left), tt)
+call-requires t c κs = let k = c .before .before .before .before in (omega (arith, k .if1 .left), omega (arith, k .before .before .pre .1))
 
-add-characters : (t : ℕ) → lts.Need-add-t10 (uses t) (at t) own.Post
-add-characters t c = omega (arith, span-few _ _ _ _ (c .before .leading-items .ensures), c .before .before .before .before .before .before .if1 .left)
+add-characters : (t : ℕ) → lts.Need-add-result (uses t) (at t) own.Post
+add-characters t c = omega (arith, number-most _ _ _ _ (c .leading-items .ensures), c .before .before .before .before .before .if1 .left)
 
 returns-2 : (t : ℕ) → lts.Need-returns-2 (uses t) (at t) own.Post
 returns-2 t c =
-    let a = c .before .before .before .before .before .before .before .before .args in
+    let a = c .before .before .before .before .before .before .before .args in
     let s = a .s .now in
-    let l = c .before .leading-items in
-    let w = subst (λ (n : ℕ). SpanOf (l .result) (leading (a .f) (a .room - 1) (take (length s - n) (drop n s)))) (c .before .before .before .character-size .ensures .0) (l .ensures) in
-    span-character _ _ _ _ (c .before .before .before .before .before .before .if1 .left) (sym (c .before .before .before .before .before .is-character .ensures) ∙ c .before .before .before .before .if2 .taken) w
+    let l = c .leading-items in
+    let w = subst (λ (n : ℕ). l .result ≡ runNumber (leading (a .f) (a .room - 1) (take (length s - n) (drop n s)))) (c .before .before .character-size .ensures .0) (l .ensures) in
+    number-character _ _ _ _ (c .before .before .before .before .before .if1 .left) (sym (c .before .before .before .before .is-character .ensures) ∙ c .before .before .before .if2 .taken) w
 
 is-cut-requires : (t : ℕ) → lts.Need-is-cut-requires (uses t) (at t) own.Post
 is-cut-requires t c κs = search needs
@@ -88,18 +88,18 @@ sub-room-2 : (t : ℕ) → lts.Need-sub-leading-items-4 (uses t) (at t) own.Post
 sub-room-2 t c = omega arith
 
 call-requires-2 : (t : ℕ) → lts.Need-leading-items-requires-2 (uses t) (at t) own.Post
-call-requires-2 t c κs = (omega arith, tt)
+call-requires-2 t c κs = let k = c .before .before .before .before .before in (omega (arith, k .if1 .left), omega (arith, k .before .before .pre .1))
 
-add-cuts : (t : ℕ) → lts.Need-add-t16 (uses t) (at t) own.Post
-add-cuts t c = omega (arith, span-few _ _ _ _ (c .before .leading-items2 .ensures), c .before .before .before .before .before .before .before .if1 .left)
+add-cuts : (t : ℕ) → lts.Need-add-result-2 (uses t) (at t) own.Post
+add-cuts t c = omega (arith, number-most _ _ _ _ (c .leading-items2 .ensures), c .before .before .before .before .before .before .if1 .left)
 
 returns-3 : (t : ℕ) → lts.Need-returns-3 (uses t) (at t) own.Post
 returns-3 t c =
-    span-cut _ _ _ _ (c .before .before .before .before .before .before .before .if1 .left) (sym (c .before .before .before .before .before .before .is-character .ensures) ∙ c .before .before .before .before .before .if2 .left) (sym (c .before .before .before .before .is-cut .ensures) ∙ c .before .before .before .if3 .taken)
-    (c .before .leading-items2 .ensures)
+    number-cut _ _ _ _ (c .before .before .before .before .before .before .if1 .left) (sym (c .before .before .before .before .before .is-character .ensures) ∙ c .before .before .before .before .if2 .left) (sym (c .before .before .before .is-cut .ensures) ∙ c .before .before .if3 .taken)
+    (c .leading-items2 .ensures)
 
 returns-4 : (t : ℕ) → lts.Need-returns-4 (uses t) (at t) own.Post
-returns-4 t c = span-stop _ _ _ (sym (c .before .before .before .is-character .ensures) ∙ c .before .before .if2 .left) (sym (c .before .is-cut .ensures) ∙ c .if3 .left)
+returns-4 t c = number-stop _ _ _ (sym (c .before .before .before .is-character .ensures) ∙ c .before .before .if2 .left) (sym (c .before .is-cut .ensures) ∙ c .if3 .left)
 
 pub +leading-items-spec : {M : Type 1} → statement M
 +leading-items-spec =

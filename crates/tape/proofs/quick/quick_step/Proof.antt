@@ -1,6 +1,7 @@
 -- `tape::quick::quick_step` meets its contract: what it answers, `Quicks` shows to be the code's effect.
 -- Assumes nothing.
 use mathlib.Core.Path.{ap, _∙_}
+use Prim.Native.Nat.{_≤_}
 use native.Mathlib.Omega.{arith}
 use borrow.Author.Needs.{needs}
 use Rattle.measure.specs.Target.{xOf}
@@ -62,7 +63,7 @@ returns-5 c =
     let t = e .before .before in
     let s = t .before .before .before .before .before in
     let a = s .args in
-    let low = t .before .before .if3 .left in
+    let low : 128 ≤ a .b = omega (arith, t .before .before .if3 .left) in
     let high = t .if4 .left in
     quick-at (a .s) (a .b) (s .pre .1 .escaping (omega (arith, low, high))) low (omega (arith, high, s .pre .1 .escapes)) (k .c .given .0 .0)
     (cc (e .escape .ensures, e .before .escape-size .ensures, k .c .given .1))

@@ -1,17 +1,19 @@
--- `tape::quick::size_after` meets its contract.
+-- `tape::quick::size_after` meets its contract: the top four bits tell a size, the low four are its index.
 -- Assumes nothing.
-use mathlib.Core.Path.{sym, ap}
+use mathlib.Core.Path.{sym, ap, _∙_}
 use mathlib.Core.Bool.{Bool, cond}
-use Prim.Native.Nat.{_-_}
-use borrow.Author.Tests.{lt-ltb, le-ltb}
+use Prim.Native.Nat.{_/_, _%_}
+use native.Mathlib.Omega.{arith}
+use borrow.Author.Tests.{eq-eqb, ne-eqb}
+use lib.Bits.{and-mask}
 use Rattle.tape.proofs.quick.size_after.Statement.{statement}
 use Rattle.tape.proofs.quick.size_after.Tie as tie
 
 returns : tie.Need-returns
-returns c = let a = c .before .args in sym (ap (λ (t : Bool). cond t (a .size) (a .b - 0x50)) (lt-ltb _ _ (c .if1 .taken)))
+returns c = let a = c .before .args in and-mask (a .b) 4 ∙ sym (ap (λ (t : Bool). cond t (a .b % 16) (a .size)) (eq-eqb (a .b / 16) 5 (omega (arith, c .if1 .taken))))
 
 returns-2 : tie.Need-returns-2
-returns-2 c = let a = c .before .args in sym (ap (λ (t : Bool). cond t (a .size) (a .b - 0x50)) (le-ltb _ _ (c .if1 .left)))
+returns-2 c = let a = c .before .args in sym (ap (λ (t : Bool). cond t (a .b % 16) (a .size)) (ne-eqb (a .b / 16) 5 (λ e. c .if1 .left (omega (arith, e)))))
 
 pub size-after-spec : {M : Type 1} → statement M
 size-after-spec = tie.close (tie.spec returns returns-2)
