@@ -1,6 +1,6 @@
 //! The command `spatecanter`: files, exit status and texts.
 
-use crate::readings::hex;
+use crate::hex;
 use spatecanter::sample::{chart, pages, yearbook};
 use spatecanter::Machine;
 use std::fs;

@@ -1,119 +1,10 @@
 //! One call of an implementation against the plain reading: every answer, every byte.
 
-use crate::{plain, quick};
-use spatecanter::ffi;
+use crate::implementation::{Answer, Implementation, PLAIN};
+use crate::plain;
 use spatecanter::sample::Random;
 use std::collections::BTreeMap;
 use std::io::Write;
-
-/// Number, place, length.
-pub type Answer = [usize; 3];
-
-/// Fills the second slice from the first.
-type Fill = fn(&[u8], &mut [u8]) -> Answer;
-
-/// Fills the last two slices, a DVI file and its sheet.
-type FillBoth = fn(&[u8], &[i32], &mut [u8], &mut [u8]) -> Answer;
-
-/// The operations of one implementation.
-#[derive(Clone, Copy)]
-pub struct Implementation {
-    pub name: &'static str,
-    pub read_tape: fn(&[u8], u32, &mut [u8]) -> Answer,
-    pub check_galley: fn(&[u8]) -> Answer,
-    pub read_back: fn(&[u8], usize) -> (Answer, [i32; 4]),
-    pub write_dvi: Fill,
-    pub read_dvi: fn(&[u8], &[i32], &mut [u8]) -> Answer,
-    pub reprint: FillBoth,
-    pub to_new: Fill,
-    pub to_old: Fill,
-}
-
-pub const QUICK: Implementation = Implementation {
-    name: "quick version",
-    read_tape: quick::read_tape,
-    check_galley: quick::check_galley,
-    read_back: quick::read_back,
-    write_dvi: quick::write_dvi,
-    read_dvi: quick::read_dvi,
-    reprint: quick::reprint,
-    to_new: quick::to_new,
-    to_old: quick::to_old,
-};
-
-/// The library by its C interface, with a guard on both sides of every answer.
-pub const LIBRARY: Implementation = Implementation {
-    name: "library",
-    read_tape: |tape, machine, galley| {
-        answered(|answer| unsafe {
-            ffi::sp_read_tape(tape.as_ptr(), tape.len(), machine, galley.as_mut_ptr(), galley.len(), answer)
-        })
-    },
-    check_galley: |galley| {
-        answered(|answer| unsafe { ffi::sp_check_galley(galley.as_ptr(), galley.len(), answer) })
-    },
-    read_back: |galley, n| {
-        let mut lent = [0x5A5A_5A5A_i32; 6];
-        let character = lent[1..5].as_mut_ptr().cast();
-        let answer = answered(|answer| unsafe {
-            ffi::sp_read_back(galley.as_ptr(), galley.len(), n, answer, character)
-        });
-        let [before, x, height, font_number, code, after] = lent;
-        assert_eq!([before, after], [0x5A5A_5A5A; 2], "written beside the character");
-        (answer, [x, height, font_number, code])
-    },
-    write_dvi: |galley, dvi| {
-        answered(|answer| unsafe {
-            ffi::sp_write_dvi(galley.as_ptr(), galley.len(), dvi.as_mut_ptr(), dvi.len(), answer)
-        })
-    },
-    read_dvi: |dvi, widths, sheet| {
-        answered(|answer| unsafe {
-            ffi::sp_read_dvi(
-                dvi.as_ptr(),
-                dvi.len(),
-                widths.as_ptr(),
-                widths.len(),
-                sheet.as_mut_ptr(),
-                sheet.len(),
-                answer,
-            )
-        })
-    },
-    reprint: |galley, widths, dvi, sheet| {
-        answered(|answer| unsafe {
-            ffi::sp_reprint(
-                galley.as_ptr(),
-                galley.len(),
-                widths.as_ptr(),
-                widths.len(),
-                dvi.as_mut_ptr(),
-                dvi.len(),
-                sheet.as_mut_ptr(),
-                sheet.len(),
-                answer,
-            )
-        })
-    },
-    to_new: |old, new| {
-        answered(|answer| unsafe {
-            ffi::sp_galley_to_new(old.as_ptr(), old.len(), new.as_mut_ptr(), new.len(), answer)
-        })
-    },
-    to_old: |new, old| {
-        answered(|answer| unsafe {
-            ffi::sp_galley_to_old(new.as_ptr(), new.len(), old.as_mut_ptr(), old.len(), answer)
-        })
-    },
-};
-
-fn answered(call: impl FnOnce(*mut Answer)) -> Answer {
-    let mut lent = [usize::MAX - 1; 5];
-    call(lent[1..4].as_mut_ptr().cast());
-    let [before, number, place, length, after] = lent;
-    assert_eq!([before, after], [usize::MAX - 1; 2], "written beside the answer");
-    [number, place, length]
-}
 
 /// A slice in the midst of other bytes, at an odd address as often as not.
 struct Lent {
@@ -213,10 +104,7 @@ impl Comparison {
 
     pub fn check_galley(&mut self, galley: &[u8]) {
         let lent = Lent::holding(&mut self.random, galley);
-        let expected = match plain::check_galley(galley) {
-            Ok(count) => [0, 0, count],
-            Err((number, place)) => [number, place, 0],
-        };
+        let expected = (PLAIN.check_galley)(galley);
         let answer = (self.implementation.check_galley)(lent.slice());
         lent.still_holds(galley);
         self.agree("check_galley", galley, answer, expected);
@@ -226,12 +114,7 @@ impl Comparison {
         let lent = Lent::holding(&mut self.random, galley);
         let count = plain::check_galley(galley).unwrap_or(galley.len() / 11);
         let n = self.character_number(count);
-        let (expected, expected_character) = match plain::read_back(galley, n) {
-            Ok(plain::Character { x, height, font_number, code }) => {
-                ([0; 3], [x, height as i32, font_number, code])
-            }
-            Err((number, place)) => ([number, place, 0], [0; 4]),
-        };
+        let (expected, expected_character) = (PLAIN.read_back)(galley, n);
         let (answer, character) = (self.implementation.read_back)(lent.slice(), n);
         lent.still_holds(galley);
         assert_eq!(

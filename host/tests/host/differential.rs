@@ -1,7 +1,8 @@
 //! The library and the quick version against the plain reading, on the same cases.
 
 use crate::cases::{self, Form};
-use crate::compare::{Comparison, Implementation, LIBRARY, QUICK};
+use crate::compare::Comparison;
+use crate::implementation::{Implementation, LIBRARY, QUICK};
 use crate::plain;
 use spatecanter::sample::Random;
 

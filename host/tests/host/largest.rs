@@ -1,7 +1,8 @@
 //! The largest inputs, and one byte more of each, in a thread with a stack of 256 KB.
 
 use crate::cases;
-use crate::compare::{Comparison, Implementation, LIBRARY, QUICK};
+use crate::compare::Comparison;
+use crate::implementation::{Implementation, LIBRARY, QUICK};
 use crate::plain;
 use spatecanter::sample::{book, book_widths, chart, yearbook, Random};
 use spatecanter::{Machine, DVI_LIMIT, GALLEY_LIMIT, OLD_GALLEY_LIMIT, TAPE_LIMIT};

@@ -5,10 +5,15 @@ mod command;
 mod compare;
 mod differential;
 mod header;
+mod implementation;
 mod largest;
 mod plain;
-mod proof_sheet;
 #[path = "../../benches/quick/mod.rs"]
 mod quick;
-mod readings;
 mod samples;
+mod vectors;
+
+/// A row of hexadecimal bytes.
+fn hex(text: &str) -> Vec<u8> {
+    text.split_whitespace().map(|byte| u8::from_str_radix(byte, 16).unwrap()).collect()
+}

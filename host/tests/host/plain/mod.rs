@@ -12,7 +12,7 @@ pub use convert::{to_new, to_old};
 pub use dvi::read_dvi;
 pub use galley::{check_galley, read_back, Character};
 pub use tape::read_tape;
-pub use writer::{target, write_dvi};
+pub use writer::write_dvi;
 
 pub type Refused = (usize, usize);
 

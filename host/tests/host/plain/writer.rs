@@ -59,7 +59,7 @@ pub fn write_dvi(galley: &[u8]) -> Result<Vec<u8>, Refused> {
 
 /// The whole number nearest to 32,768x/3: of the three next to it the one with three times itself
 /// at most 1 away from 32,768x.
-pub fn target(x: i32) -> i32 {
+fn target(x: i32) -> i32 {
     let near = 32_768 * x / 3;
     for candidate in [near - 1, near, near + 1] {
         if (3 * candidate - 32_768 * x).abs() <= 1 {

@@ -1,0 +1,151 @@
+//! The operations of the plain reading, of the quick version and of the library, in one shape.
+
+use crate::{plain, quick};
+use spatecanter::ffi;
+
+/// Number, place, length.
+pub type Answer = [usize; 3];
+
+/// Fills the second slice from the first.
+type Fill = fn(&[u8], &mut [u8]) -> Answer;
+
+/// Fills the last two slices, a DVI file and its sheet.
+type FillBoth = fn(&[u8], &[i32], &mut [u8], &mut [u8]) -> Answer;
+
+/// The operations of one implementation.
+#[derive(Clone, Copy)]
+pub struct Implementation {
+    pub name: &'static str,
+    pub read_tape: fn(&[u8], u32, &mut [u8]) -> Answer,
+    pub check_galley: fn(&[u8]) -> Answer,
+    pub read_back: fn(&[u8], usize) -> (Answer, [i32; 4]),
+    pub write_dvi: Fill,
+    pub read_dvi: fn(&[u8], &[i32], &mut [u8]) -> Answer,
+    pub reprint: FillBoth,
+    pub to_new: Fill,
+    pub to_old: Fill,
+}
+
+/// The plain reading, with buffers.
+pub const PLAIN: Implementation = Implementation {
+    name: "plain reading",
+    read_tape: |tape, machine, galley| filled(plain::read_tape(tape, machine), galley, 12),
+    check_galley: |galley| match plain::check_galley(galley) {
+        Ok(count) => [0, 0, count],
+        Err((number, place)) => [number, place, 0],
+    },
+    read_back: |galley, n| match plain::read_back(galley, n) {
+        Ok(plain::Character { x, height, font_number, code }) => {
+            ([0; 3], [x, height as i32, font_number, code])
+        }
+        Err((number, place)) => ([number, place, 0], [0; 4]),
+    },
+    write_dvi: |galley, dvi| filled(plain::write_dvi(galley), dvi, 42),
+    read_dvi: |dvi, widths, sheet| filled(plain::read_dvi(dvi, widths), sheet, 30),
+    reprint: |galley, widths, dvi, sheet| match plain::reprint(galley, widths, dvi.len(), sheet.len()) {
+        Ok((dvi_bytes, sheet_bytes)) => {
+            dvi[..dvi_bytes.len()].copy_from_slice(&dvi_bytes);
+            filled(Ok(sheet_bytes), sheet, 30)
+        }
+        Err((number, place)) => [number, place, 0],
+    },
+    to_new: |old, new| filled(plain::to_new(old), new, 44),
+    to_old: |new, old| filled(plain::to_old(new), old, 44),
+};
+
+/// Puts bytes into a buffer; `no_room` is the refusal's number where they don't fit.
+fn filled(result: Result<Vec<u8>, plain::Refused>, buffer: &mut [u8], no_room: usize) -> Answer {
+    match plain::with_room(result, buffer.len(), no_room) {
+        Ok(bytes) => {
+            buffer[..bytes.len()].copy_from_slice(&bytes);
+            [0, 0, bytes.len()]
+        }
+        Err((number, place)) => [number, place, 0],
+    }
+}
+
+pub const QUICK: Implementation = Implementation {
+    name: "quick version",
+    read_tape: quick::read_tape,
+    check_galley: quick::check_galley,
+    read_back: quick::read_back,
+    write_dvi: quick::write_dvi,
+    read_dvi: quick::read_dvi,
+    reprint: quick::reprint,
+    to_new: quick::to_new,
+    to_old: quick::to_old,
+};
+
+/// The library by its C interface, with a guard on both sides of every answer.
+pub const LIBRARY: Implementation = Implementation {
+    name: "library",
+    read_tape: |tape, machine, galley| {
+        answered(|answer| unsafe {
+            ffi::sp_read_tape(tape.as_ptr(), tape.len(), machine, galley.as_mut_ptr(), galley.len(), answer)
+        })
+    },
+    check_galley: |galley| {
+        answered(|answer| unsafe { ffi::sp_check_galley(galley.as_ptr(), galley.len(), answer) })
+    },
+    read_back: |galley, n| {
+        let mut lent = [0x5A5A_5A5A_i32; 6];
+        let character = lent[1..5].as_mut_ptr().cast();
+        let answer = answered(|answer| unsafe {
+            ffi::sp_read_back(galley.as_ptr(), galley.len(), n, answer, character)
+        });
+        let [before, x, height, font_number, code, after] = lent;
+        assert_eq!([before, after], [0x5A5A_5A5A; 2], "written beside the character");
+        (answer, [x, height, font_number, code])
+    },
+    write_dvi: |galley, dvi| {
+        answered(|answer| unsafe {
+            ffi::sp_write_dvi(galley.as_ptr(), galley.len(), dvi.as_mut_ptr(), dvi.len(), answer)
+        })
+    },
+    read_dvi: |dvi, widths, sheet| {
+        answered(|answer| unsafe {
+            ffi::sp_read_dvi(
+                dvi.as_ptr(),
+                dvi.len(),
+                widths.as_ptr(),
+                widths.len(),
+                sheet.as_mut_ptr(),
+                sheet.len(),
+                answer,
+            )
+        })
+    },
+    reprint: |galley, widths, dvi, sheet| {
+        answered(|answer| unsafe {
+            ffi::sp_reprint(
+                galley.as_ptr(),
+                galley.len(),
+                widths.as_ptr(),
+                widths.len(),
+                dvi.as_mut_ptr(),
+                dvi.len(),
+                sheet.as_mut_ptr(),
+                sheet.len(),
+                answer,
+            )
+        })
+    },
+    to_new: |old, new| {
+        answered(|answer| unsafe {
+            ffi::sp_galley_to_new(old.as_ptr(), old.len(), new.as_mut_ptr(), new.len(), answer)
+        })
+    },
+    to_old: |new, old| {
+        answered(|answer| unsafe {
+            ffi::sp_galley_to_old(new.as_ptr(), new.len(), old.as_mut_ptr(), old.len(), answer)
+        })
+    },
+};
+
+fn answered(call: impl FnOnce(*mut Answer)) -> Answer {
+    let mut lent = [usize::MAX - 1; 5];
+    call(lent[1..4].as_mut_ptr().cast());
+    let [before, number, place, length, after] = lent;
+    assert_eq!([before, after], [usize::MAX - 1; 2], "written beside the answer");
+    [number, place, length]
+}

@@ -1,0 +1,97 @@
+//! The operations that directed cases name, with their inputs and buffers named as in include/spatecanter.h.
+
+use super::text::{bytes, number, numbers, Words};
+use crate::implementation::{Answer, Implementation};
+
+/// A call of any implementation, with the names of the buffers that are lent to it.
+pub struct Call {
+    pub buffers: &'static [&'static str],
+    pub run: Box<Run>,
+}
+
+type Run = dyn Fn(&Implementation, &mut [&mut [u8]]) -> Given;
+
+impl Call {
+    /// The call of an operation with these inputs, which it takes.
+    pub fn read(operation: &str, inputs: &mut Words) -> Result<Call, String> {
+        match operation {
+            "read_tape" => {
+                let (tape, machine) = (inputs.take("tape", bytes)?, inputs.take("machine", number)?);
+                Call::of(&["galley"], move |them, lent| (them.read_tape)(&tape, machine, lent[0]))
+            }
+            "check_galley" => {
+                let galley = inputs.take("galley", bytes)?;
+                Call::of(&[], move |them, _| (them.check_galley)(&galley))
+            }
+            "read_back" => {
+                let (galley, n) = (inputs.take("galley", bytes)?, inputs.take("n", number)?);
+                Call::of(&[], move |them, _| (them.read_back)(&galley, n))
+            }
+            "write_dvi" => {
+                let galley = inputs.take("galley", bytes)?;
+                Call::of(&["dvi"], move |them, lent| (them.write_dvi)(&galley, lent[0]))
+            }
+            "read_dvi" => {
+                let (dvi, widths) = (inputs.take("dvi", bytes)?, inputs.take("widths", numbers)?);
+                Call::of(&["sheet"], move |them, lent| (them.read_dvi)(&dvi, &widths, lent[0]))
+            }
+            "reprint" => {
+                let (galley, widths) = (inputs.take("galley", bytes)?, inputs.take("widths", numbers)?);
+                Call::of(&["dvi", "sheet"], move |them, lent| {
+                    let [dvi, sheet] = lent else { unreachable!() };
+                    (them.reprint)(&galley, &widths, dvi, sheet)
+                })
+            }
+            "galley_to_new" => {
+                let old_galley = inputs.take("old_galley", bytes)?;
+                Call::of(&["new_galley"], move |them, lent| (them.to_new)(&old_galley, lent[0]))
+            }
+            "galley_to_old" => {
+                let new_galley = inputs.take("new_galley", bytes)?;
+                Call::of(&["old_galley"], move |them, lent| (them.to_old)(&new_galley, lent[0]))
+            }
+            other => Err(format!("there is no operation `{other}`")),
+        }
+    }
+
+    fn of<T: Into<Given>>(
+        buffers: &'static [&'static str],
+        run: impl Fn(&Implementation, &mut [&mut [u8]]) -> T + 'static,
+    ) -> Result<Call, String> {
+        Ok(Call { buffers, run: Box::new(move |them, lent| run(them, lent).into()) })
+    }
+}
+
+/// What a call gives back beside what it writes: its answer, and reading back a character too.
+#[derive(PartialEq, Debug)]
+pub struct Given {
+    answer: Answer,
+    character: Option<[i32; 4]>,
+}
+
+impl Given {
+    /// What an operation should give; a character that is left out is four zeros.
+    pub fn read(operation: &str, answer: Answer, outputs: &mut Words) -> Result<Given, String> {
+        match operation {
+            "read_back" => Ok((answer, outputs.find("character", character)?.unwrap_or_default()).into()),
+            _ => Ok(answer.into()),
+        }
+    }
+}
+
+impl From<Answer> for Given {
+    fn from(answer: Answer) -> Given {
+        Given { answer, character: None }
+    }
+}
+
+impl From<(Answer, [i32; 4])> for Given {
+    fn from((answer, character): (Answer, [i32; 4])) -> Given {
+        Given { answer, character: Some(character) }
+    }
+}
+
+/// Four numbers: x, height, font number, character.
+fn character(text: &str) -> Result<[i32; 4], String> {
+    numbers(text)?.try_into().map_err(|_| "four numbers are wanted".into())
+}
