@@ -10,7 +10,7 @@ fn main() {
     println!("cargo:rerun-if-changed={}", library.display());
     if !library.is_file() {
         eprintln!("there is no {}", library.display());
-        eprintln!("build it with `rt staticlib spatecanter`, or set SPATECANTER_LIB_DIR to its folder");
+        eprintln!("build it with the script `library` at the root, or set SPATECANTER_LIB_DIR to its folder");
         std::process::exit(1);
     }
     println!("cargo:rustc-link-search=native={}", folder.display());

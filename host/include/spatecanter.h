@@ -1,6 +1,7 @@
 /*
  * spatecanter.h: C/A/T phototypesetter tapes to galleys, galleys to DVI files of 1980, and DVI files
- * to sheets; and old galleys to new ones and back. Link with libspatecanter.a.
+ * to sheets; and old galleys to new ones and back. Link with libspatecanter.a, which the script `library`
+ * at the root of the repository proves and builds in target/staticlib.
  *
  * ANSWERS. Every function fills `answer` with three numbers:
  *

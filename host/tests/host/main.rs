@@ -11,6 +11,7 @@ mod plain;
 #[path = "../../benches/quick/mod.rs"]
 mod quick;
 mod samples;
+mod scripts;
 mod vectors;
 
 /// A row of hexadecimal bytes.
