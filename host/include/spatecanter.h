@@ -14,8 +14,8 @@
  * the answer is the refusal for room, and its place is the number of bytes needed.
  *
  * LENT MEMORY. A pointer and the length after it make one slice; the length counts bytes, for `widths`
- * 32-bit numbers. No pointer may be null, not even with length 0. A buffer that is written must not
- * overlap anything else in the call. Nothing is allocated, kept or freed, and no state is held
+ * 32-bit numbers. With length 0 the pointer may be null; `answer` and `character` may not. A buffer that
+ * is written must not overlap anything else in the call. Nothing is allocated, kept or freed, and no state is held
  * between calls: any number of threads may call at once. A stack of 256 KB is enough.
  *
  * FORMATS. All numbers have the high byte first.

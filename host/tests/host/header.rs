@@ -1,50 +1,88 @@
-//! The header and the sample program in C.
+//! The C header, by programs in C that are compiled over it and linked with the library.
 
-use std::path::Path;
+use spatecanter::number;
+use std::collections::BTreeMap;
+use std::fs;
+use std::path::{Path, PathBuf};
 use std::process::Command;
 
-/// Compiles samples/link.c against the header and the library, and runs it. Without a C compiler nothing
-/// is tested.
-#[test]
-fn a_c_program_links() {
-    let host = Path::new(env!("CARGO_MANIFEST_DIR"));
-    let program = Path::new(env!("CARGO_TARGET_TMPDIR")).join("link");
+fn host() -> &'static Path {
+    Path::new(env!("CARGO_MANIFEST_DIR"))
+}
+
+fn header() -> String {
+    fs::read_to_string(host().join("include/spatecanter.h")).unwrap()
+}
+
+/// Compiles a program in C and runs it: what it prints, if it ends with 0.
+fn run_c(source: &Path) -> Result<String, String> {
+    let program = Path::new(env!("CARGO_TARGET_TMPDIR"))
+        .join(format!("{}.c.run", source.file_stem().unwrap().display()));
     let compiled = Command::new("cc")
         .args(["-std=c99", "-Wall", "-Wextra", "-pedantic", "-Werror", "-I"])
-        .arg(host.join("include"))
-        .arg(host.join("../samples/link.c"))
+        .arg(host().join("include"))
+        .arg(source)
         .arg(env!("SPATECANTER_LIBRARY"))
         .arg("-o")
         .arg(&program)
-        .status();
-    let Ok(status) = compiled else {
-        return;
-    };
-    assert!(status.success());
+        .output()
+        .expect("a C compiler has to be there, as cc on the PATH");
+    assert!(compiled.status.success(), "{}", String::from_utf8_lossy(&compiled.stderr));
     let output = Command::new(program).output().unwrap();
-    assert!(output.status.success());
-    assert_eq!(String::from_utf8_lossy(&output.stdout), "number 0, place 0, length 29\n");
+    let text = String::from_utf8_lossy(&output.stdout).into_owned();
+    if output.status.success() {
+        Ok(text)
+    } else {
+        Err(text)
+    }
 }
 
-/// Every limit and number of the header is that of this package.
 #[test]
-fn the_header_has_the_same_numbers() {
-    let path = Path::new(env!("CARGO_MANIFEST_DIR")).join("include/spatecanter.h");
-    let header = std::fs::read_to_string(path).unwrap();
-    let numbers: Vec<usize> = header
-        .lines()
-        .filter(|line| line.trim_start().starts_with("SP_") && line.contains(" = "))
-        .map(|line| {
-            let value = line.split(" = ").nth(1).unwrap();
-            value.split([',', ' ']).next().unwrap().parse().unwrap()
-        })
+fn a_c_program_links() {
+    let printed = run_c(&host().join("../samples/link.c"));
+    assert_eq!(printed, Ok("number 0, place 0, length 29\n".into()));
+}
+
+#[test]
+fn a_c_program_gets_every_number_from_the_library() {
+    assert_eq!(run_c(&host().join("tests/host/header.c")), Ok(String::new()));
+}
+
+/// The words of a text that start so.
+fn words(text: &str, start: &str) -> Vec<String> {
+    let is_word = |character: char| character.is_alphanumeric() || character == '_';
+    let mut words: Vec<String> = text
+        .split(|character| !is_word(character))
+        .filter(|word| word.starts_with(start))
+        .map(str::to_string)
         .collect();
-    assert_eq!(numbers.len(), 31);
-    for &number in &numbers[1..] {
-        let meaning = spatecanter::Refusal { number, place: 0 }.meaning();
-        assert_ne!(meaning, "an unknown refusal", "{number}");
-    }
-    for (name, limit) in [
+    words.sort();
+    words.dedup();
+    words
+}
+
+/// The header declares the functions that the library has, and the program in C calls each.
+#[test]
+fn the_header_has_the_library_s_functions() {
+    let symbols = Command::new("nm")
+        .args(["--extern-only", "--defined-only", "--format=posix", env!("SPATECANTER_LIBRARY")])
+        .output()
+        .expect("nm has to be there, from binutils");
+    let exported: Vec<String> = words(&String::from_utf8_lossy(&symbols.stdout), "sp_");
+    let declared: Vec<String> =
+        words(&header(), "sp_").into_iter().filter(|name| name != "sp_number").collect();
+    let called = words(&fs::read_to_string(host().join("tests/host/header.c")).unwrap(), "sp_");
+    assert_eq!(declared, exported);
+    assert_eq!(called, declared);
+}
+
+/// Every number and limit of the header, as the C compiler sees it, is that of this package; and all are tried in C.
+#[test]
+fn the_header_has_the_package_s_numbers() {
+    let mut numbers: BTreeMap<String, usize> =
+        number::ALL.iter().map(|(name, number, _)| (format!("SP_{name}"), *number)).collect();
+    numbers.insert("SP_ACCEPTED".into(), 0);
+    let limits = [
         ("SP_TAPE_LIMIT", spatecanter::TAPE_LIMIT),
         ("SP_GALLEY_LIMIT", spatecanter::GALLEY_LIMIT),
         ("SP_OLD_GALLEY_LIMIT", spatecanter::OLD_GALLEY_LIMIT),
@@ -52,8 +90,24 @@ fn the_header_has_the_same_numbers() {
         ("SP_ITEM_LIMIT", spatecanter::ITEM_LIMIT),
         ("SP_HEIGHT_LIMIT", spatecanter::HEIGHT_LIMIT as usize),
         ("SP_DVI_HEIGHT_LIMIT", spatecanter::DVI_HEIGHT_LIMIT as usize),
-    ] {
-        let line = header.lines().find(|line| line.starts_with("#define") && line.contains(name)).unwrap();
-        assert!(line.ends_with(&format!(" {limit}")), "{line}");
-    }
+    ];
+    numbers.extend(limits.map(|(name, limit)| (name.to_string(), limit)));
+    let names: Vec<&String> = numbers.keys().collect();
+    let in_header: Vec<String> = words(&header(), "SP_");
+    assert_eq!(names, in_header.iter().collect::<Vec<_>>());
+    assert_eq!(words(&fs::read_to_string(host().join("tests/host/header.c")).unwrap(), "SP_"), in_header);
+    let expected: String = numbers.iter().map(|(name, number)| format!("{name} {number}\n")).collect();
+    assert_eq!(run_c(&printing(&names)), Ok(expected));
+}
+
+/// A program in C that prints names with their values.
+fn printing(names: &[&String]) -> PathBuf {
+    let prints: String =
+        names.iter().map(|name| format!("    printf(\"{name} %lu\\n\", (unsigned long){name});\n")).collect();
+    let text = format!(
+        "#include <stdio.h>\n#include \"spatecanter.h\"\nint main(void)\n{{\n{prints}    return 0;\n}}\n"
+    );
+    let path = Path::new(env!("CARGO_TARGET_TMPDIR")).join("numbers.c");
+    fs::write(&path, text).unwrap();
+    path
 }

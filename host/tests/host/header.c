@@ -1,0 +1,264 @@
+/*
+ * Calls each function of spatecanter.h, gets each number from the library at its place, stands on both sides of
+ * each limit, and lends null pointers with length 0. Prints what differs, and ends with 1 if anything does.
+ */
+#include <stdio.h>
+#include <stdlib.h>
+#include <string.h>
+
+#include "spatecanter.h"
+
+#define BYTES(...) (const uint8_t[]){__VA_ARGS__}, sizeof((const uint8_t[]){__VA_ARGS__})
+
+static int differ;
+static size_t answer[3];
+static uint8_t room[4096];
+
+/* The last answer. */
+static void expect(const char *what, size_t number, size_t place, size_t length)
+{
+    if (answer[0] == number && answer[1] == place && answer[2] == length)
+        return;
+    printf("%s: %zu at %zu, length %zu; expected %zu at %zu, length %zu\n", what, answer[0], answer[1], answer[2],
+           number, place, length);
+    differ = 1;
+}
+
+static void expect_true(const char *what, int is_true)
+{
+    if (is_true)
+        return;
+    printf("%s\n", what);
+    differ = 1;
+}
+
+static const uint8_t tape[] = {0x40, 0xEF, 0x52, 0x4E, 0x01, 0xFC, 0x02, 0x49};
+static const uint8_t end[] = {2, 0, 4, 0, 0, 0, 0};
+static const uint8_t old_galley[] = {1, 0, 6, 0, 3, 0, 0, 2, 9, 6, 0, 0, 2, 0, 4, 0, 0, 0, 1};
+static const uint8_t new_galley[] = {7, 0, 8, 0, 3, 0, 0, 0, 0, 2, 9, 6, 0, 0, 2, 0, 4, 0, 0, 0, 1};
+static const int32_t no_width[128];
+
+/* The tape's galley, its DVI file and that file's sheet. */
+static uint8_t galley[29], dvi[59], sheet[46];
+
+static void make_files(void)
+{
+    sp_read_tape(tape, sizeof tape, 8, galley, sizeof galley, answer);
+    expect("tape to galley", SP_ACCEPTED, 0, sizeof galley);
+    sp_write_dvi(galley, sizeof galley, dvi, sizeof dvi, answer);
+    expect("galley to DVI", SP_ACCEPTED, 0, sizeof dvi);
+    sp_read_dvi(dvi, sizeof dvi, no_width, 128, sheet, sizeof sheet, answer);
+    expect("DVI to sheet", SP_ACCEPTED, 0, sizeof sheet);
+}
+
+static void refuse_tape(const char *what, const uint8_t *bytes, size_t length, size_t number, size_t place)
+{
+    sp_read_tape(bytes, length, 8, room, sizeof room, answer);
+    expect(what, number, place, 0);
+}
+
+static void tapes(void)
+{
+    refuse_tape("illegal code", BYTES(0x40, 0xFF), SP_ILLEGAL_CODE, 1);
+    refuse_tape("before initialize", BYTES(0xEF), SP_BEFORE_INITIALIZE, 0);
+    refuse_tape("after stop", BYTES(0x40, 0x49, 0x01), SP_AFTER_STOP, 2);
+    refuse_tape("parked", BYTES(0x40, 0xF0), SP_PARKED, 1);
+    refuse_tape("no size", BYTES(0x40, 0xEF, 0x01), SP_NO_SIZE, 2);
+    refuse_tape("out of range", BYTES(0x40, 0xEF, 0x48, 0xFE), SP_OUT_OF_RANGE, 3);
+    refuse_tape("upper half", BYTES(0x40, 0xEF, 0x46, 0x52, 0x2E), SP_UPPER_HALF, 4);
+    refuse_tape("no stop", BYTES(0x40), SP_NO_STOP, 1);
+    refuse_tape("after a cut", BYTES(0x40, 0x4B, 0xEF), SP_AFTER_CUT, 2);
+    sp_read_tape(tape, sizeof tape, 8, room, sizeof galley - 1, answer);
+    expect("room for a galley", SP_GALLEY_ROOM, sizeof galley, 0);
+    sp_read_tape(tape, sizeof tape, 5, room, sizeof room, answer);
+    expect("no machine", SP_NO_MACHINE, 0, 0);
+    sp_read_tape(tape, sizeof tape, 4, room, sizeof room, answer);
+    expect("a tilt on the 4-font machine", SP_ILLEGAL_CODE, 3, 0);
+}
+
+static void galleys(void)
+{
+    int32_t character[4] = {7, 7, 7, 7};
+    sp_check_galley(galley, sizeof galley, answer);
+    expect("check", SP_ACCEPTED, 0, 2);
+    sp_read_back(galley, sizeof galley, 1, answer, character);
+    expect("read back", SP_ACCEPTED, 0, 0);
+    expect_true("the second character", character[0] == 3 && character[1] == 0 && character[2] == 2 && character[3] == 2);
+    sp_read_back(galley, sizeof galley, 2, answer, character);
+    expect("no such character", SP_NO_SUCH_CHARACTER, 0, 0);
+    expect_true("no character", character[0] == 0 && character[1] == 0 && character[2] == 0 && character[3] == 0);
+    sp_check_galley(galley, sizeof galley - 1, answer);
+    expect("malformed", SP_GALLEY_MALFORMED, 22, 0);
+    sp_write_dvi(galley, sizeof galley, room, sizeof dvi - 1, answer);
+    expect("room for a DVI file", SP_DVI_ROOM, sizeof dvi, 0);
+}
+
+static void conversions(void)
+{
+    uint8_t made[sizeof new_galley];
+    sp_galley_to_new(old_galley, sizeof old_galley, made, sizeof made, answer);
+    expect("to new", SP_ACCEPTED, 0, sizeof new_galley);
+    expect_true("the new galley", memcmp(made, new_galley, sizeof new_galley) == 0);
+    sp_galley_to_new(old_galley, sizeof old_galley, made, sizeof new_galley - 1, answer);
+    expect("room for a new galley", SP_CONVERTED_ROOM, sizeof new_galley, 0);
+    sp_galley_to_old(new_galley, sizeof new_galley, made, sizeof made, answer);
+    expect("to old", SP_ACCEPTED, 0, sizeof old_galley);
+    expect_true("the old galley", memcmp(made, old_galley, sizeof old_galley) == 0);
+    sp_galley_to_old(new_galley, sizeof new_galley, made, sizeof old_galley - 1, answer);
+    expect("room for an old galley", SP_CONVERTED_ROOM, sizeof old_galley, 0);
+}
+
+static void reprints(void)
+{
+    uint8_t again[sizeof dvi], shown[sizeof sheet];
+    sp_reprint(galley, sizeof galley, no_width, 0, again, sizeof again, shown, sizeof shown, answer);
+    expect("reprint", SP_ACCEPTED, 0, sizeof sheet);
+    expect_true("the reprint", memcmp(again, dvi, sizeof dvi) == 0 && memcmp(shown, sheet, sizeof sheet) == 0);
+    sp_reprint(galley, sizeof galley, no_width, 127, again, sizeof again, shown, sizeof shown, answer);
+    expect("reprint with widths", SP_WIDTHS, 0, 0);
+    sp_reprint(galley, sizeof galley, no_width, 0, again, sizeof again, shown, sizeof shown - 1, answer);
+    expect("reprint without room", SP_SHEET_ROOM, sizeof sheet, 0);
+}
+
+#define BOP 0x81, 0, 0, 0, 1, 0xFF, 0xFF, 0xFF, 0xFF
+
+static void refuse_dvi(const char *what, const uint8_t *bytes, size_t length, size_t number, size_t place)
+{
+    sp_read_dvi(bytes, length, no_width, 128, room, sizeof room, answer);
+    expect(what, number, place, 0);
+}
+
+static void dvi_files(void)
+{
+    uint8_t pushes[9 + 201] = {BOP};
+    memset(pushes + 9, 0x84, 201);
+    refuse_dvi("command", BYTES(0x83), SP_COMMAND, 0);
+    refuse_dvi("the file ends", BYTES(BOP), SP_DVI_ENDS, 9);
+    refuse_dvi("pointer", BYTES(0x81, 0, 0, 0, 1, 0, 0, 0, 0), SP_BOP_OFFSET, 0);
+    refuse_dvi("200 pushes", pushes, sizeof pushes - 1, SP_DVI_ENDS, 209);
+    refuse_dvi("201 pushes", pushes, sizeof pushes, SP_PUSH, 209);
+    refuse_dvi("pop", BYTES(BOP, 0x85), SP_POP, 9);
+    refuse_dvi("end of page", BYTES(BOP, 0x84, 0x82), SP_EOP, 10);
+    refuse_dvi("character", BYTES(BOP, 0x88, 1), SP_CHARACTER, 9);
+    refuse_dvi("overflow", BYTES(BOP, 0x8E, 0x7F, 0xFF, 0xFF, 0xFF, 0x91), SP_OVERFLOW, 14);
+    refuse_dvi("postamble", BYTES(BOP, 0x82, 0x83), SP_POSTAMBLE, 10);
+    sp_read_dvi(dvi, sizeof dvi, no_width, 127, room, sizeof room, answer);
+    expect("widths", SP_WIDTHS, 0, 0);
+    sp_read_dvi(dvi, sizeof dvi, no_width, 0, room, sizeof sheet - 1, answer);
+    expect("room for a sheet", SP_SHEET_ROOM, sizeof sheet, 0);
+}
+
+static void lengths(void)
+{
+    uint8_t *zeros = calloc(SP_DVI_LIMIT + 1, 1);
+    if (!zeros)
+        abort();
+    sp_read_tape(zeros, SP_TAPE_LIMIT, 8, room, sizeof room, answer);
+    expect("the longest tape", SP_NO_STOP, SP_TAPE_LIMIT, 0);
+    sp_read_tape(zeros, SP_TAPE_LIMIT + 1, 8, room, sizeof room, answer);
+    expect("a longer tape", SP_TAPE_TOO_LONG, 0, 0);
+    sp_check_galley(zeros, SP_GALLEY_LIMIT, answer);
+    expect("the longest galley", SP_GALLEY_MALFORMED, 0, 0);
+    sp_check_galley(zeros, SP_GALLEY_LIMIT + 1, answer);
+    expect("a longer galley", SP_GALLEY_TOO_LONG, 0, 0);
+    sp_galley_to_new(zeros, SP_OLD_GALLEY_LIMIT, room, sizeof room, answer);
+    expect("the longest old galley", SP_GALLEY_MALFORMED, 0, 0);
+    sp_galley_to_new(zeros, SP_OLD_GALLEY_LIMIT + 1, room, sizeof room, answer);
+    expect("a longer old galley", SP_GALLEY_TOO_LONG, 0, 0);
+    sp_read_dvi(zeros, SP_DVI_LIMIT, no_width, 0, room, sizeof room, answer);
+    expect("the longest DVI file", SP_COMMAND, 0, 0);
+    sp_read_dvi(zeros, SP_DVI_LIMIT + 1, no_width, 0, room, sizeof room, answer);
+    expect("a longer DVI file", SP_DVI_TOO_LONG, 0, 0);
+    free(zeros);
+}
+
+static void items(void)
+{
+    uint8_t *cuts = malloc(3 * (SP_ITEM_LIMIT + 1) + sizeof end);
+    size_t i;
+    if (!cuts)
+        abort();
+    for (i = 0; i <= SP_ITEM_LIMIT; i++)
+        memcpy(cuts + 3 * i, (const uint8_t[]){6, 0, 0}, 3);
+    memcpy(cuts + 3 * i, end, sizeof end);
+    sp_check_galley(cuts + 3, 3 * SP_ITEM_LIMIT + sizeof end, answer);
+    expect("the most items", SP_ACCEPTED, 0, 0);
+    sp_check_galley(cuts, 3 * (SP_ITEM_LIMIT + 1) + sizeof end, answer);
+    expect("more items", SP_GALLEY_MALFORMED, 3 * SP_ITEM_LIMIT, 0);
+    free(cuts);
+}
+
+/* A galley of one character at this height is checked, written and made old. */
+static void height(uint32_t height, size_t checked, size_t written, size_t made_old)
+{
+    uint8_t one[] = {7, 0, 8, 0, 0, 0, 0, 0, 0, 2, 1, 2, 0, 4, 0, 0, 0, 1};
+    int i;
+    for (i = 0; i < 4; i++)
+        one[5 + i] = (uint8_t)(height >> (24 - 8 * i));
+    sp_check_galley(one, sizeof one, answer);
+    expect_true("a height checked", answer[0] == checked);
+    sp_write_dvi(one, sizeof one, room, sizeof room, answer);
+    expect_true("a height written", answer[0] == written);
+    sp_galley_to_old(one, sizeof one, room, sizeof room, answer);
+    expect_true("a height made old", answer[0] == made_old);
+}
+
+static void heights(void)
+{
+    height(SP_DVI_HEIGHT_LIMIT, SP_ACCEPTED, SP_ACCEPTED, SP_ACCEPTED);
+    height(SP_DVI_HEIGHT_LIMIT + 1, SP_ACCEPTED, SP_TOO_HIGH, SP_TOO_HIGH);
+    height(SP_HEIGHT_LIMIT, SP_ACCEPTED, SP_TOO_HIGH, SP_TOO_HIGH);
+    height(SP_HEIGHT_LIMIT + 1, SP_GALLEY_MALFORMED, SP_GALLEY_MALFORMED, SP_GALLEY_MALFORMED);
+}
+
+static void nulls(void)
+{
+    int32_t character[4];
+    sp_read_tape(NULL, 0, 8, NULL, 0, answer);
+    expect("null tape", SP_NO_STOP, 0, 0);
+    sp_read_tape(tape, sizeof tape, 8, NULL, 0, answer);
+    expect("null buffer for a galley", SP_GALLEY_ROOM, sizeof galley, 0);
+    sp_check_galley(NULL, 0, answer);
+    expect("null galley", SP_GALLEY_MALFORMED, 0, 0);
+    sp_read_back(NULL, 0, 0, answer, character);
+    expect("null galley read back", SP_GALLEY_MALFORMED, 0, 0);
+    sp_write_dvi(NULL, 0, NULL, 0, answer);
+    expect("null galley written", SP_GALLEY_MALFORMED, 0, 0);
+    sp_write_dvi(galley, sizeof galley, NULL, 0, answer);
+    expect("null buffer for a DVI file", SP_DVI_ROOM, sizeof dvi, 0);
+    sp_read_dvi(NULL, 0, NULL, 0, NULL, 0, answer);
+    expect("null DVI file", SP_DVI_ENDS, 0, 0);
+    sp_read_dvi(dvi, sizeof dvi, NULL, 0, room, sizeof room, answer);
+    expect("null widths", SP_ACCEPTED, 0, sizeof sheet);
+    sp_read_dvi(dvi, sizeof dvi, NULL, 0, NULL, 0, answer);
+    expect("null buffer for a sheet", SP_SHEET_ROOM, sizeof sheet, 0);
+    sp_reprint(NULL, 0, NULL, 0, NULL, 0, NULL, 0, answer);
+    expect("null galley reprinted", SP_GALLEY_MALFORMED, 0, 0);
+    sp_reprint(galley, sizeof galley, NULL, 0, NULL, 0, NULL, 0, answer);
+    expect("null buffers for a reprint", SP_DVI_ROOM, sizeof dvi, 0);
+    sp_reprint(galley, sizeof galley, NULL, 0, room, sizeof dvi, NULL, 0, answer);
+    expect("null buffer for a reprint's sheet", SP_SHEET_ROOM, sizeof sheet, 0);
+    sp_galley_to_new(NULL, 0, NULL, 0, answer);
+    expect("null old galley", SP_GALLEY_MALFORMED, 0, 0);
+    sp_galley_to_new(old_galley, sizeof old_galley, NULL, 0, answer);
+    expect("null buffer for a new galley", SP_CONVERTED_ROOM, sizeof new_galley, 0);
+    sp_galley_to_old(NULL, 0, NULL, 0, answer);
+    expect("null new galley", SP_GALLEY_MALFORMED, 0, 0);
+    sp_galley_to_old(new_galley, sizeof new_galley, NULL, 0, answer);
+    expect("null buffer for an old galley", SP_CONVERTED_ROOM, sizeof old_galley, 0);
+}
+
+int main(void)
+{
+    make_files();
+    tapes();
+    galleys();
+    conversions();
+    reprints();
+    dvi_files();
+    lengths();
+    items();
+    heights();
+    nulls();
+    return differ;
+}
