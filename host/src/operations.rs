@@ -11,6 +11,9 @@ pub const GALLEY_LIMIT: usize = 11_534_343;
 pub const OLD_GALLEY_LIMIT: usize = 9_437_191;
 pub const DVI_LIMIT: usize = 33_554_432;
 
+/// No sheet is longer, in bytes: the shortest command that shows something is one byte, and what it shows 16.
+pub const SHEET_LIMIT: usize = 16 * DVI_LIMIT;
+
 /// The most characters and cuts, together, that a galley holds.
 pub const ITEM_LIMIT: usize = 1_048_576;
 

@@ -25,20 +25,29 @@ impl fmt::Display for Fault {
 
 /// Whole sheets only: the number of fields before End.
 pub fn check(sheet: &[u8]) -> Result<usize, Fault> {
-    let mut rest = sheet;
-    let mut count = 0;
-    while let Some((_, after)) = split(rest) {
-        rest = after;
-        count += 1;
-    }
-    let fault = |what| Err(Fault { place: sheet.len() - rest.len(), what });
-    match rest {
+    let place = end_of_fields(sheet, 0);
+    let count = fields(sheet).count();
+    let fault = |what| Err(Fault { place, what });
+    match &sheet[place..] {
         [] => fault("End is missing"),
         [2, 0, 4, a, b, c, d] if u32::from_be_bytes([*a, *b, *c, *d]) as usize == count => Ok(count),
         [2, 0, 4, _, _, _, _] => fault("an End with a wrong count"),
         [2, 0, 4, _, _, _, _, ..] => fault("an End that is not the last field"),
         _ => fault("an unknown field, or one cut short,"),
     }
+}
+
+/// The longest field: a rule.
+pub const LONGEST_FIELD: usize = 20;
+
+/// Where the fields that start at `place` are no longer whole fields before End: the place of a sheet's End, of
+/// a fault, or of a field that is still to come.
+pub fn end_of_fields(sheet: &[u8], place: usize) -> usize {
+    let mut rest = &sheet[place..];
+    while let Some((_, after)) = split(rest) {
+        rest = after;
+    }
+    sheet.len() - rest.len()
 }
 
 /// The fields before End of a sheet that the check accepts.

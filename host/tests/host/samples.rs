@@ -4,7 +4,10 @@ use spatecanter::galley::characters;
 use spatecanter::sample::{chart, pages, yearbook};
 use spatecanter::sheet::{fields, Field};
 use spatecanter::{Machine, Refusal};
+use std::fs;
+use std::os::unix::fs::symlink;
 use std::path::Path;
+use std::process::Command;
 
 fn sample(name: &str) -> Vec<u8> {
     std::fs::read(Path::new(env!("CARGO_MANIFEST_DIR")).join("../samples").join(name)).unwrap()
@@ -94,4 +97,47 @@ fn p3_gives_two_characters() {
     let galley = spatecanter::read_tape(&sample("p3.tape"), Machine::Eight).unwrap();
     assert_eq!(spatecanter::check_galley(&galley), Ok(2));
     assert_eq!(spatecanter::write_dvi(&galley).unwrap().len(), 59);
+}
+
+/// The blocks of the README: each a list of commands with what they write.
+fn transcripts(readme: &str) -> Vec<Vec<(String, String)>> {
+    let blocks = readme.split("\n```\n").skip(1).step_by(2);
+    blocks.map(|block| block.split("$ ").skip(1).map(command_and_text).collect()).collect()
+}
+
+fn command_and_text(part: &str) -> (String, String) {
+    let (command, text) = part.split_once('\n').unwrap_or((part, ""));
+    (command.into(), text.trim_end().into())
+}
+
+/// A folder that looks like the root of the repository to who reads the samples' README.
+fn root_for_readers() -> std::path::PathBuf {
+    let root = Path::new(env!("CARGO_TARGET_TMPDIR")).join("samples_readme");
+    let _ = fs::remove_dir_all(&root);
+    fs::create_dir_all(root.join("target/staticlib")).unwrap();
+    let host = Path::new(env!("CARGO_MANIFEST_DIR"));
+    symlink(env!("CARGO_BIN_EXE_spatecanter"), root.join("spatecanter")).unwrap();
+    symlink(host, root.join("host")).unwrap();
+    symlink(host.join("../samples"), root.join("samples")).unwrap();
+    symlink(env!("SPATECANTER_LIBRARY"), root.join("target/staticlib/libspatecanter.a")).unwrap();
+    root
+}
+
+/// Every command of the README writes what the README says, in one folder, from top to bottom.
+#[test]
+fn the_readme_tells_what_happens() {
+    let root = root_for_readers();
+    let readme = String::from_utf8(sample("README.md")).unwrap();
+    let transcripts = transcripts(&readme);
+    assert!(transcripts.len() > 8);
+    for transcript in transcripts {
+        let commands: String =
+            transcript.iter().map(|(command, _)| format!("{command}\ns=$?; echo @@; (exit $s)\n")).collect();
+        let script = format!("exec 2>&1\n{commands}");
+        let output = Command::new("sh").args(["-c", &script]).current_dir(&root).output().unwrap();
+        let text = String::from_utf8(output.stdout).unwrap();
+        for ((command, expected), written) in transcript.iter().zip(text.split("@@\n")) {
+            assert_eq!(written.trim_end(), expected, "{command}");
+        }
+    }
 }

@@ -17,8 +17,14 @@ pub struct Arguments {
     pub page: Option<OsString>,
     /// --machine
     pub machine: Option<OsString>,
+    /// --fonts
+    pub fonts: Option<OsString>,
+    /// --from
+    pub from: Option<OsString>,
     /// --to
     pub to: Option<OsString>,
+    /// --force
+    pub force: bool,
 }
 
 /// Whether --help or -h is among the options.
@@ -35,19 +41,10 @@ pub fn parse(command: &Command, words: &[OsString]) -> Result<Arguments, Failure
     while let Some(word) = words.next() {
         if word == "--" {
             inputs.extend(words.by_ref());
-        } else if !is_option(word) {
-            inputs.push(word);
+        } else if is_option(word) {
+            arguments.take_option(command, word, || words.next().cloned()).map_err(wrong)?;
         } else {
-            let (name, joined) = split(word);
-            let slot = arguments
-                .slot(command, &name)
-                .ok_or_else(|| wrong(format!("{name} is no option of {}", command.name)))?;
-            let value = joined
-                .or_else(|| words.next().cloned())
-                .ok_or_else(|| wrong(format!("{name} needs a value")))?;
-            if slot.replace(value).is_some() {
-                return Err(wrong(format!("{name} is given twice")));
-            }
+            inputs.push(word);
         }
     }
     match inputs[..] {
@@ -59,17 +56,41 @@ pub fn parse(command: &Command, words: &[OsString]) -> Result<Arguments, Failure
 }
 
 impl Arguments {
-    /// Where an option's value goes, if the command has the option.
-    fn slot(&mut self, command: &Command, name: &str) -> Option<&mut Option<OsString>> {
-        if !command.options.contains(&name) {
-            return None;
+    /// Takes an option, with the next word for its value unless one is joined to it.
+    fn take_option(
+        &mut self,
+        command: &Command,
+        word: &OsStr,
+        next: impl FnOnce() -> Option<OsString>,
+    ) -> Result<(), String> {
+        let (name, joined) = split(word);
+        if !command.options.contains(&name.as_str()) {
+            return Err(format!("{name} is no option of {}", command.name));
         }
+        let is_given_twice = match self.slot(&name) {
+            Some(slot) => {
+                let value = joined.or_else(next).ok_or_else(|| format!("{name} needs a value"))?;
+                slot.replace(value).is_some()
+            }
+            None if joined.is_some() => return Err(format!("{name} takes no value")),
+            None => std::mem::replace(&mut self.force, true),
+        };
+        if is_given_twice {
+            return Err(format!("{name} is given twice"));
+        }
+        Ok(())
+    }
+
+    /// Where an option's value goes; --force has none.
+    fn slot(&mut self, name: &str) -> Option<&mut Option<OsString>> {
         match name {
             "-o" => Some(&mut self.output),
             "--widths" => Some(&mut self.widths),
             "-d" => Some(&mut self.folder),
             "--page" => Some(&mut self.page),
             "--machine" => Some(&mut self.machine),
+            "--fonts" => Some(&mut self.fonts),
+            "--from" => Some(&mut self.from),
             "--to" => Some(&mut self.to),
             _ => None,
         }

@@ -1,8 +1,8 @@
 //! Refusals in words: what stands at the place, and what was expected there.
 
 use crate::failure::Failure;
-use crate::files::shown;
-use crate::text::grouped;
+use crate::input::shown;
+use crate::text::{counted, grouped};
 use spatecanter::galley::characters;
 use spatecanter::{number, Machine, Refusal, ITEM_LIMIT};
 use std::ffi::OsStr;
@@ -26,6 +26,11 @@ pub fn tape(name: &OsStr, tape: &[u8], machine: Machine, refusal: Refusal) -> Fa
     Failure::Refused(lines.join("\n"))
 }
 
+/// Whether a tape that the 8-font machine accepts may be one of the 4-font machine: it flashes, and never tilts.
+pub fn may_be_of_four_fonts(tape: &[u8], galley: &[u8]) -> bool {
+    characters(galley).next().is_some() && !tape.iter().any(|code| matches!(code, 0x4E | 0x4F))
+}
+
 pub fn galley(name: &OsStr, galley: &[u8], refusal: Refusal) -> Failure {
     galley_of_form(Form::New, name, galley, refusal)
 }
@@ -46,8 +51,10 @@ pub fn galley_of_form(form: Form, name: &OsStr, galley: &[u8], refusal: Refusal)
     Failure::Refused(lines.join("\n"))
 }
 
-pub fn dvi(name: &OsStr, dvi: &[u8], refusal: Refusal) -> Failure {
-    let mut lines = vec![format!("{}: {refusal}", shown(name))];
+/// A DVI file, or the table of widths for it where that is at fault.
+pub fn dvi(name: &OsStr, widths: Option<&OsStr>, dvi: &[u8], refusal: Refusal) -> Failure {
+    let at_fault = widths.filter(|_| refusal.number == number::WIDTHS).unwrap_or(name);
+    let mut lines = vec![format!("{}: {refusal}", shown(at_fault))];
     if !matches!(refusal.number, number::DVI_TOO_LONG | number::WIDTHS) {
         lines.push(match dvi.get(refusal.place) {
             Some(&command) => {
@@ -166,7 +173,7 @@ fn expected_field(form: Form, galley: &[u8], place: usize) -> String {
     let Run { characters, cuts, ended } = run_of(before);
     match (form, rest) {
         _ if ended => "the end of the file, since End was read".into(),
-        (_, [2, 0, 4, _, _, _, _, ..]) => format!("an End that counts {} characters", grouped(characters)),
+        (_, [2, 0, 4, _, _, _, _, ..]) => format!("an End that counts {}", counted(characters, "character")),
         _ if characters + cuts == ITEM_LIMIT => {
             format!("End (02 00 04 ...), after {} characters and cuts", grouped(ITEM_LIMIT))
         }

@@ -1,6 +1,6 @@
 //! Why the command ends without success, and its exit status.
 
-use crate::files::say;
+use std::io::{stderr, Write};
 use std::process::ExitCode;
 
 pub enum Failure {
@@ -10,12 +10,12 @@ pub enum Failure {
     Usage(String),
     /// A file could not be read or written.
     File(String),
-    /// Whoever read standard output has left.
+    /// Whoever read standard output has seen enough.
     Closed,
 }
 
 impl Failure {
-    /// Says it on standard error; 1 for a refusal, else 2.
+    /// Says it on standard error; 1 for a refusal, 0 where nobody reads on, else 2.
     pub fn report(self) -> ExitCode {
         match self {
             Failure::Refused(message) => {
@@ -30,7 +30,12 @@ impl Failure {
                 say(&format!("spatecanter: {message}"));
                 ExitCode::from(2)
             }
-            Failure::Closed => ExitCode::from(2),
+            Failure::Closed => ExitCode::SUCCESS,
         }
     }
+}
+
+/// Writes a line to standard error, if anyone is there to read it.
+pub fn say(text: &str) {
+    let _ = writeln!(stderr(), "{text}");
 }

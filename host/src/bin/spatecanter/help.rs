@@ -20,28 +20,32 @@ Usage: spatecanter COMMAND ...
   --version                             the version
 
 Machines. A tape does not say whether its machine had 4 or 8 fonts: read, reprint and plot
-take --machine 4 or --machine 8. Without it the machine has 8.
+take --machine 4 or --machine 8. Without it the machine has 8, and a tape without a tilt code
+gives a hint, since it may be of the other.
 
 Old galleys. Characters once had tag 1, and heights of two bytes. Only convert takes such a
 galley; all other commands take and make the new form, with tag 7 and four bytes.
 
-Files. - is standard input or standard output. Without -o the output is named after the
-input, with .galley, .dvi, .sheet or .svg for its extension; if the input is standard input,
-the output is standard output. An output file is written whole or not at all, never in place
-of an input, and takes the place of an older file of its name.
+Files. - is standard input or standard output. Without -o the output has the input's whole
+name with .galley, .dvi, .sheet or .svg after it; if the input is standard input, the output
+is standard output. Folders on the way to an output are made. An output file is written whole
+or not at all, whatever ends the run; it never takes the place of an input, and that of
+another file only with --force.
 
-Exit status. 0: accepted. 1: refused; standard error says why, with the refusal's number and
-its place. 2: wrong usage, or a file that cannot be read or written.
+Exit status. 0: accepted, also where whoever reads standard output leaves early. 1: refused;
+standard error says why, with the refusal's number and its place. 2: wrong usage, or a file
+that cannot be read or written.
 ";
 
 pub const READ: &str = "\
 Reads a C/A/T tape and writes its galley: every character with its place, font and size, and
 every cut between pages.
 
-Usage: spatecanter read TAPE [--machine 4|8] [-o GALLEY]
+Usage: spatecanter read TAPE [--machine 4|8] [-o GALLEY] [--force]
 
 The machine that the tape was made for has 4 or 8 fonts; without --machine, 8. The tape does
-not say which. Rail and mag choose the font, on the 8-font machine with tilt, up or down:
+not say which, but one without a tilt code (4E, 4F) may be of 4 fonts: a hint says so, unless
+--machine is given. Rail and mag choose the font, on the 8-font machine with tilt, up or down:
   lower rail, lower mag   1 of 4, 1 or 2 of 8
   upper rail, lower mag   2 of 4, 3 or 4 of 8
   lower rail, upper mag   3 of 4, 5 or 6 of 8
@@ -63,7 +67,8 @@ Numbers, at the place of the byte unless another is said:
   10  after a cut, a code other than 00 and initialize; or the tape ends there, then at its
       length
 
-Without -o the galley of page.tape is page.galley.
+Without -o the galley of page.tape is page.tape.galley. --force writes over a file that is
+there already.
 ";
 
 pub const CHECK: &str = "\
@@ -91,22 +96,23 @@ standard output. Refusals are those of check.
 pub const SET: &str = "\
 Writes a galley as a DVI file of 1980. Each cut ends a page and starts the next.
 
-Usage: spatecanter set GALLEY [-o DVI]
+Usage: spatecanter set GALLEY [-o DVI] [--force]
 
 DVI holds heights of at most 65,535. Refusals are those of check, and one more:
   43  a greater height; at the field of the first such character
 
-Without -o the DVI file of page.galley is page.dvi.
+Without -o the DVI file of page.galley is page.galley.dvi. --force writes over a file that is
+there already.
 ";
 
 pub const SHOW: &str = "\
 Reads a DVI file of 1980 and writes what it shows, as a sheet: pages, characters and rules.
 
-Usage: spatecanter show DVI [--widths FILE] [-o SHEET]
+Usage: spatecanter show DVI [--widths FILE] [-o SHEET] [--force]
 
-The widths are 32-bit numbers, high byte first, 128 for each of the fonts 0, 1, ... Without
-them no character has a width, and the commands 0 to 127 are refused; files made by set do
-not use them.
+The widths are 32-bit numbers, high byte first, 128 for each of the fonts 0, 1, ..., of at
+most 65,536 fonts. Without them no character has a width, and the commands 0 to 127 are
+refused; files made by set do not use them.
 
 Numbers, at the place of the command unless another is said:
   20  the file is longer than 33,554,432 bytes; at 0
@@ -121,7 +127,8 @@ Numbers, at the place of the command unless another is said:
   28  x or y leaves 32 bits
   29  the postamble is malformed or short
 
-Without -o the sheet of page.dvi is page.sheet.
+Without -o the sheet of page.dvi is page.dvi.sheet. --force writes over a file that is there
+already.
 ";
 
 pub const SHEET: &str = "\
@@ -139,15 +146,21 @@ The text goes to standard output.
 ";
 
 pub const REPRINT: &str = "\
-Takes a tape all the way: NAME.tape to NAME.galley, NAME.dvi and NAME.sheet in a folder.
+Takes a tape all the way: TAPE to TAPE.galley, TAPE.dvi and TAPE.sheet in a folder.
 
-Usage: spatecanter reprint TAPE [--machine 4|8] -d FOLDER
+Usage: spatecanter reprint TAPE [--machine 4|8] [--fonts NAMES] -d FOLDER [--force]
 
 Prints a summary: characters, pages, fonts, and how many characters are in font 1 and in
 font 2, since measured and estimated values differ in nothing else. These two differ by tilt
-on the 8-font machine, by rail on the 4-font machine. The folder is made if it is missing.
-All three files are written or none. From standard input they are tape.galley, tape.dvi and
-tape.sheet.
+on the 8-font machine, by rail on the 4-font machine.
+
+The yearbooks of the 8-font machine set measured values in font 1 and estimates in font 2,
+and the summary says so. For other books --fonts names one or two fonts that are told apart,
+as in --fonts 3=measured,4=estimated; with --fonts none they are fonts 1 and 2, without names.
+
+The folder is made if it is missing. All three files are written or none; from standard input
+they are tape.galley, tape.dvi and tape.sheet. --force writes over files that are there
+already.
 
 --machine and refusals are those of read. A tape with a height above 65,535, which DVI cannot
 hold, is refused too: 43, at a place in the galley that read makes of it.
@@ -157,24 +170,33 @@ pub const PLOT: &str = "\
 Draws the pages below one another as an SVG picture: a small mark for each character at its
 place, without letter shapes.
 
-Usage: spatecanter plot TAPE|GALLEY [--machine 4|8] [--page N] [-o SVG]
+Usage: spatecanter plot TAPE|GALLEY [--machine 4|8] [--fonts NAMES] [--page N]
+                        [--from HEIGHT] [--to HEIGHT] [-o SVG] [--force]
 
-Font 1 is blue and upright, font 2 orange and slanted, other fonts grey; marks of double
-sizes are larger. The legend tells how many there are. A file that begins with byte 02, 06 or
-07 is read as a galley, any other as a tape; no tape and no galley is taken for the other.
-Byte 01 begins an old galley, which is refused: convert it first. --machine is that of read;
-a galley has its fonts already, whatever it says. Refusals are those of read and check.
+Font 1 is dark blue and upright, font 2 orange and slanted, other fonts light grey; marks of
+double sizes are larger, and characters that stand on another are framed. The legend tells
+how many there are, and of which machine the tape is. --fonts is that of reprint: it says
+which fonts are told apart, and what they mean.
 
-The picture has the size of the pages, with rulers in inches: a column of 1,000,000 quanta
-makes it 6,945 inches high. With --page only that page is drawn, counted from 1. Without -o
-the picture of page.tape is page.svg.
+A file that begins with byte 02, 06 or 07 is read as a galley, any other as a tape; no tape
+and no galley is taken for the other. Byte 01 begins an old galley, which is refused: convert
+it first. --machine is that of read; a galley has its fonts already, and does not record its
+machine: with --machine the legend names it. Refusals are those of read and check.
+
+The picture has the size of the pages, with rulers in inches, but is scaled where it would be
+higher than 32,767 pixels of 1/96 inch (341 inches), which many programs do not show. With
+--page only that page is drawn, counted from 1. --from and --to draw a part of one page: its
+heights in quanta of 1/144 inch, as list has them, or in inches, as in --from 12.5in.
+
+Without -o the picture of page.tape is page.tape.svg. --force writes over a file that is there
+already.
 ";
 
 pub const CONVERT: &str = "\
 Writes a galley of the old form in the new form, or back. Each character keeps its x, height,
 font and number; order, cuts and End stay. There and back gives the same bytes.
 
-Usage: spatecanter convert --to new|old GALLEY [-o GALLEY]
+Usage: spatecanter convert --to new|old GALLEY [-o GALLEY] [--force]
 
 The forms differ in the field of a character:
   old  01 00 06, x (2 bytes), height (2), font number (1), character (1)
@@ -185,5 +207,6 @@ Numbers:
   41  it is malformed by the rules of its form; at a place as in check
   43  to the old form: a height above 65,535; at the field of the first such character
 
-Without -o the new form of page.galley is page.new.galley, its old form page.old.galley.
+Without -o the new form of page.galley is page.galley.new.galley, its old form
+page.galley.old.galley. --force writes over a file that is there already.
 ";

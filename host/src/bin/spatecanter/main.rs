@@ -4,10 +4,14 @@ mod arguments;
 mod commands;
 mod explain;
 mod failure;
-mod files;
+mod fonts;
 mod help;
+mod input;
+mod options;
+mod output;
 mod plot;
 mod progress;
+mod signals;
 mod summary;
 mod text;
 
@@ -17,6 +21,7 @@ use std::ffi::OsString;
 use std::process::ExitCode;
 
 fn main() -> ExitCode {
+    signals::tidy_before_the_end(output::abandon);
     let words: Vec<OsString> = std::env::args_os().skip(1).collect();
     match run(&words) {
         Ok(()) => ExitCode::SUCCESS,
@@ -29,24 +34,24 @@ fn run(words: &[OsString]) -> Result<(), Failure> {
         return Err(Failure::Usage("no command is given".into()));
     };
     match first.to_str() {
-        Some("--help" | "-h") => files::print(help::WHOLE),
+        Some("--help" | "-h") => output::print(help::WHOLE),
         Some("help") => help_on(rest),
-        Some("--version") => files::print(concat!("spatecanter ", env!("CARGO_PKG_VERSION"), "\n")),
+        Some("--version") => output::print(concat!("spatecanter ", env!("CARGO_PKG_VERSION"), "\n")),
         _ => call(named(first)?, rest),
     }
 }
 
 fn call(command: &Command, words: &[OsString]) -> Result<(), Failure> {
     if arguments::ask_for_help(words) {
-        return files::print(command.help);
+        return output::print(command.help);
     }
     (command.run)(&arguments::parse(command, words)?)
 }
 
 fn help_on(words: &[OsString]) -> Result<(), Failure> {
     match words.first() {
-        None => files::print(help::WHOLE),
-        Some(name) => files::print(named(name)?.help),
+        None => output::print(help::WHOLE),
+        Some(name) => output::print(named(name)?.help),
     }
 }
 

@@ -1,14 +1,17 @@
 //! A picture of the pages, one below the other: a mark for each character at its place.
 
-use crate::text::grouped;
+use crate::fonts::Fonts;
+use crate::text::{counted, grouped};
 use spatecanter::galley::{items, Character, Item};
-use std::fmt::Write;
-use std::ops::Range;
+use spatecanter::Machine;
+use std::io::{self, Write};
+use std::ops::{Range, RangeInclusive};
 
-/// Units of 1/432 inch in half an inch and an inch, and across the page.
+/// Units of 1/432 inch in half an inch and an inch, across the page, and in a quantum.
 const HALF_INCH: i32 = 216;
 const INCH: i32 = 432;
 const PAGE_WIDTH: i32 = 3_240;
+const QUANTUM: i32 = 3;
 /// Room for the legend above all pages; and around each page, for its rulers and its number.
 const LEGEND: i32 = 500;
 const LEFT: i32 = 240;
@@ -16,27 +19,29 @@ const TOP: i32 = 200;
 const RIGHT: i32 = 160;
 const BOTTOM: i32 = 120;
 const WIDTH: i32 = LEFT + PAGE_WIDTH + RIGHT;
+/// The greatest height of a picture, in inches of 96 pixels: many programs show 32,767 pixels and no more.
+const MOST_INCHES: f64 = 341.0;
+/// A path is ended when it has this many bytes: many programs read no attribute of a megabyte.
+const LONG_PATH: usize = 60_000;
+/// A character whose mark starts less than this after another's, on the same line, is overstruck.
+const REACH: i32 = 8;
 
-/// A kind of marks: fonts 1 and 2 differ by colour, lightness and slant.
-struct Kind {
-    name: &'static str,
+/// How the marks of a kind look: they differ by colour, in grey too, and by shape.
+struct Style {
     colour: &'static str,
-    /// How far the top of a mark leans to the right, in tenths of its height.
+    /// How far the head of a mark stands to the right of its foot, in sixteenths of the mark's width; it is so much narrower.
     lean: i32,
 }
 
-const KINDS: [Kind; 3] = [
-    Kind { name: "font 1", colour: "#004a8f", lean: 0 },
-    Kind { name: "font 2", colour: "#e69f00", lean: 4 },
-    Kind { name: "other fonts", colour: "#a0a0a0", lean: 0 },
-];
+/// The marks of the fonts that are told apart, and of all others.
+const FONT_STYLES: [Style; 2] = [Style { colour: "#003a70", lean: 0 }, Style { colour: "#d55e00", lean: 6 }];
+const OTHER_STYLE: Style = Style { colour: "#bcbcbc", lean: 0 };
 
-fn kind_of(character: Character) -> usize {
-    match character.font() {
-        1 => 0,
-        2 => 1,
-        _ => 2,
-    }
+/// A mark of this style as a piece of a path: from the foot's left end, on the baseline.
+fn mark(style: &Style, x: i32, y: i32, height: i32) -> String {
+    let lean = style.lean * height / 32;
+    let foot = height / 2 - lean;
+    format!("M{x} {y}h{foot}l{lean}-{height}h-{foot}z")
 }
 
 /// The height of a mark; it is half as wide.
@@ -48,205 +53,283 @@ fn mark_height(is_double: bool) -> i32 {
     }
 }
 
-/// The marks of one kind, single and double: their number and their path.
+/// A page's characters.
 #[derive(Default)]
-struct Marks {
-    count: [usize; 2],
-    path: [String; 2],
-}
-
-/// A page: its marks by kind, and its lowest baseline.
-#[derive(Default)]
-pub struct Page {
-    marks: [Marks; 3],
-    lowest: i32,
-}
-
-/// The SVG picture of some pages; the first is page 1.
-pub fn picture(name: &str, all: &[Page], shown: Range<usize>) -> String {
-    let first = shown.start + 1;
-    let pages = &all[shown];
-    let mut svg = String::new();
-    open(&mut svg, pages.iter().map(|page| i64::from(page.height())).sum());
-    legend(&mut svg, name, pages);
-    rulers(&mut svg, pages.iter().map(Page::depth).max().unwrap_or(0));
-    let mut top = 0;
-    for (number, page) in (first..).zip(pages) {
-        page.draw(&mut svg, number, top);
-        top += i64::from(page.height());
-    }
-    svg.push_str("</svg>\n");
-    svg
-}
-
-/// The number of characters on some pages.
-pub fn count(pages: &[Page]) -> usize {
-    pages.iter().flat_map(|page| &page.marks).flat_map(|marks| marks.count).sum()
-}
+pub struct Page(Vec<Character>);
 
 /// The pages of a galley that the check accepts.
 pub fn pages(galley: &[u8]) -> Vec<Page> {
-    let (mut pages, mut page) = (Vec::new(), Page::default());
+    let mut pages = vec![Page::default()];
     for item in items(galley) {
         match item {
-            Item::Character(character) => page.add(character),
-            Item::Cut => pages.push(std::mem::take(&mut page)),
+            Item::Character(character) => pages.last_mut().expect("there is a page").0.push(character),
+            Item::Cut => pages.push(Page::default()),
         }
     }
-    pages.push(page);
     pages
 }
 
 impl Page {
-    fn add(&mut self, character: Character) {
-        self.marks[kind_of(character)].add(character);
-        self.lowest = self.lowest.max(3 * character.height);
+    /// The height of the lowest character.
+    pub fn lowest(&self) -> i32 {
+        self.0.iter().map(|character| character.height).max().unwrap_or(0)
     }
 
-    /// From height 0 to the page's edge: whole half inches, and at least one below the lowest baseline.
-    fn depth(&self) -> i32 {
-        (self.lowest / HALF_INCH + 2) * HALF_INCH
+    fn part(&self, heights: &RangeInclusive<i32>) -> Page {
+        Page(self.0.iter().copied().filter(|character| heights.contains(&character.height)).collect())
+    }
+
+    /// The characters that stand on another.
+    fn overstruck(&self) -> Vec<Character> {
+        let mut line = self.0.clone();
+        line.sort_by_key(|character| (character.height, character.x));
+        let is_struck =
+            |pair: &&[Character]| pair[0].height == pair[1].height && pair[1].x - pair[0].x < REACH;
+        line.windows(2).filter(is_struck).map(|pair| pair[1]).collect()
+    }
+}
+
+/// Some pages, or a part of one, with a legend.
+pub struct Picture<'a> {
+    name: String,
+    machine: Option<Machine>,
+    fonts: &'a Fonts,
+    /// How many pages there are, and the number of the first that is shown.
+    all: usize,
+    first: usize,
+    sheets: Vec<Sheet>,
+    part: Option<RangeInclusive<i32>>,
+}
+
+/// A page as it is shown: its characters, those on another, and from where to where it goes, in units.
+struct Sheet {
+    page: Page,
+    overstruck: Vec<Character>,
+    top: i32,
+    bottom: i32,
+}
+
+impl Sheet {
+    /// To whole half inches, and at least one below the lowest baseline.
+    fn whole(page: &Page) -> Sheet {
+        let bottom = (QUANTUM * page.lowest() / HALF_INCH + 2) * HALF_INCH;
+        Sheet { page: Page(page.0.clone()), overstruck: page.overstruck(), top: 0, bottom }
+    }
+
+    fn part(page: &Page, heights: &RangeInclusive<i32>) -> Sheet {
+        let page = page.part(heights);
+        let overstruck = page.overstruck();
+        let bottom = QUANTUM * heights.end() + HALF_INCH;
+        Sheet { page, overstruck, top: QUANTUM * heights.start(), bottom }
     }
 
     /// With the room around it.
     fn height(&self) -> i32 {
-        TOP + self.depth() + BOTTOM
-    }
-
-    /// The page's edges, rulers, marks and number, as a picture of its own that starts at `top`.
-    fn draw(&self, svg: &mut String, number: usize, top: i64) {
-        let (depth, height) = (self.depth(), self.height());
-        put(
-            svg,
-            format_args!(
-                "<svg y=\"{top}\" width=\"{WIDTH}\" height=\"{height}\" \
-                 viewBox=\"-{LEFT} -{TOP} {WIDTH} {height}\">\n\
-                 <rect y=\"-80\" width=\"{PAGE_WIDTH}\" height=\"{}\" fill=\"none\" stroke=\"#c8c8c8\" \
-                 stroke-width=\"4\"/>\n\
-                 <use xlink:href=\"#rulers\"/>\n\
-                 <text x=\"{PAGE_WIDTH}\" y=\"{}\" fill=\"#606060\" text-anchor=\"end\" font-size=\"60\">\
-                 page {number}</text>\n",
-                depth + 80,
-                depth + 80,
-            ),
-        );
-        for (kind, marks) in KINDS.iter().zip(&self.marks).rev() {
-            marks.draw(svg, kind);
-        }
-        svg.push_str("</svg>\n");
+        TOP + self.bottom - self.top + BOTTOM
     }
 }
 
-impl Marks {
-    fn add(&mut self, character: Character) {
-        let double = usize::from(character.is_double());
-        let height = mark_height(character.is_double());
-        let lean = KINDS[kind_of(character)].lean * height / 10;
-        // From the middle of the mark's foot, on the baseline, to its head.
-        let x = character.x + height / 4;
-        let y = 3 * character.height;
-        put(&mut self.path[double], format_args!("M{x} {y}l{lean}-{height}"));
-        self.count[double] += 1;
+impl Picture<'_> {
+    pub fn new<'a>(
+        name: String,
+        machine: Option<Machine>,
+        fonts: &'a Fonts,
+        pages: &[Page],
+        shown: Range<usize>,
+        part: Option<RangeInclusive<i32>>,
+    ) -> Picture<'a> {
+        let first = shown.start + 1;
+        let sheets = pages[shown].iter().map(|page| match &part {
+            Some(heights) => Sheet::part(page, heights),
+            None => Sheet::whole(page),
+        });
+        Picture { name, machine, fonts, all: pages.len(), first, sheets: sheets.collect(), part }
     }
 
-    fn total(&self) -> usize {
-        self.count[0] + self.count[1]
+    /// The number of characters drawn.
+    pub fn count(&self) -> usize {
+        self.characters().count()
     }
 
-    fn draw(&self, svg: &mut String, kind: &Kind) {
-        for (path, is_double) in self.path.iter().zip([false, true]) {
-            if !path.is_empty() {
-                let width = mark_height(is_double) / 2;
-                put(
-                    svg,
-                    format_args!(
-                        "<path fill=\"none\" stroke=\"{}\" stroke-width=\"{width}\" d=\"{path}\"/>\n",
-                        kind.colour
-                    ),
-                );
-            }
+    /// The percentage of its full size, if it is drawn smaller.
+    pub fn scaled_to(&self) -> Option<f64> {
+        Some(100.0 * self.scale()).filter(|percent| *percent < 100.0)
+    }
+
+    /// Writes the picture as SVG.
+    pub fn draw(&self, out: &mut dyn Write) -> io::Result<()> {
+        self.open(out)?;
+        self.draw_legend(out)?;
+        let mut top = 0;
+        for (number, sheet) in (self.first..).zip(&self.sheets) {
+            self.draw_sheet(out, sheet, number, top)?;
+            top += i64::from(sheet.height());
         }
+        writeln!(out, "</svg>")
     }
-}
 
-/// The start of the picture: its size and a white ground. The first page starts at 0, below the legend.
-fn open(svg: &mut String, depth: i64) {
-    let height = i64::from(LEGEND) + depth;
-    let inches = |units: i64| units as f64 / f64::from(INCH);
-    put(
-        svg,
-        format_args!(
-            "<svg xmlns=\"http://www.w3.org/2000/svg\" xmlns:xlink=\"http://www.w3.org/1999/xlink\" \
-             width=\"{:.2}in\" height=\"{:.2}in\" viewBox=\"0 -{LEGEND} {WIDTH} {height}\" \
-             font-family=\"sans-serif\" font-size=\"72\">\n\
+    fn characters(&self) -> impl Iterator<Item = &Character> {
+        self.sheets.iter().flat_map(|sheet| &sheet.page.0)
+    }
+
+    /// In units, with the legend.
+    fn height(&self) -> i64 {
+        i64::from(LEGEND) + self.sheets.iter().map(|sheet| i64::from(sheet.height())).sum::<i64>()
+    }
+
+    fn scale(&self) -> f64 {
+        (MOST_INCHES * f64::from(INCH) / self.height() as f64).min(1.0)
+    }
+
+    /// The start of the picture: its size and a white ground. The first page starts at 0, below the legend.
+    fn open(&self, out: &mut dyn Write) -> io::Result<()> {
+        let height = self.height();
+        let inches = |units: i64| self.scale() * units as f64 / f64::from(INCH);
+        write!(
+            out,
+            "<svg xmlns=\"http://www.w3.org/2000/svg\" width=\"{:.2}in\" height=\"{:.2}in\" \
+             viewBox=\"0 -{LEGEND} {WIDTH} {height}\" font-family=\"sans-serif\" font-size=\"72\">\n\
              <rect y=\"-{LEGEND}\" width=\"{WIDTH}\" height=\"{height}\" fill=\"#ffffff\"/>\n",
             inches(WIDTH.into()),
             inches(height),
-        ),
-    );
-}
-
-/// The name, the numbers of characters and pages, and a line for each kind with its count.
-fn legend(svg: &mut String, name: &str, pages: &[Page]) {
-    let count = |kind: usize| pages.iter().map(|page| page.marks[kind].total()).sum();
-    let counts: [usize; 3] = [count(0), count(1), count(2)];
-    let double = pages.iter().flat_map(|page| &page.marks).map(|marks| marks.count[1]).sum();
-    let mut title = format!("{}: {} characters", escaped(name), grouped(counts.iter().sum()));
-    if pages.len() > 1 {
-        title += &format!(", {} pages", grouped(pages.len()));
+        )
     }
-    put(
-        svg,
-        format_args!(
-            "<title>{title}</title>\n<text x=\"{LEFT}\" y=\"-360\" font-size=\"96\">{title}</text>\n"
-        ),
-    );
-    for (index, (kind, count)) in KINDS.iter().zip(counts).enumerate() {
-        let x = LEFT + 1_080 * index as i32;
-        let lean = kind.lean * 64 / 10;
-        put(
-            svg,
-            format_args!(
-                "<path fill=\"none\" stroke=\"{}\" stroke-width=\"32\" d=\"M{} -200l{lean}-64\"/>\n\
-                 <text x=\"{}\" y=\"-206\">{}: {}</text>\n",
-                kind.colour,
-                x + 24,
-                x + 100,
-                kind.name,
+
+    /// The name with what is shown, a line for each kind of marks, and what else there is to know.
+    fn draw_legend(&self, out: &mut dyn Write) -> io::Result<()> {
+        let title = escaped(&self.title());
+        writeln!(out, "<title>{title}</title>")?;
+        writeln!(out, "<text x=\"{LEFT}\" y=\"-360\" font-size=\"96\">{title}</text>")?;
+        for (kind, x) in (0..=self.fonts.iter().count()).zip((LEFT..).step_by(1_180)) {
+            let count = self.characters().filter(|character| self.kind_of(character) == kind).count();
+            writeln!(
+                out,
+                "<path fill=\"{}\" d=\"{}\"/>\n<text x=\"{}\" y=\"-206\">{}: {}</text>",
+                self.style(kind).colour,
+                mark(self.style(kind), x, -200, 64),
+                x + 80,
+                escaped(&self.label(kind)),
                 grouped(count),
-            ),
-        );
+            )?;
+        }
+        let double = self.characters().filter(|character| character.is_double()).count();
+        let overstruck: usize = self.sheets.iter().map(|sheet| sheet.overstruck.len()).sum();
+        let machine = match self.machine {
+            Some(machine) => format!("{}-font machine", machine.fonts()),
+            None => "Machine not recorded".into(),
+        };
+        writeln!(
+            out,
+            "<text x=\"{LEFT}\" y=\"-80\" fill=\"#606060\" font-size=\"66\">{machine}. Double sizes, with larger \
+             marks: {}. Overstruck, framed: {}. Rulers in inches.</text>",
+            grouped(double),
+            grouped(overstruck),
+        )
     }
-    put(
-        svg,
-        format_args!(
-            "<text x=\"{LEFT}\" y=\"-80\" fill=\"#606060\">double sizes, with larger marks: {}. Rulers in \
-             inches.</text>\n",
-            grouped(double)
-        ),
-    );
+
+    fn title(&self) -> String {
+        let mut title = format!("{}: {}", self.name, counted(self.count(), "character"));
+        if self.sheets.len() > 1 {
+            title += &format!(", {}", counted(self.sheets.len(), "page"));
+        } else if self.all > 1 {
+            title += &format!(", page {} of {}", grouped(self.first), grouped(self.all));
+        }
+        if let Some(heights) = &self.part {
+            let [from, to] = [heights.start(), heights.end()].map(|height| grouped(*height as usize));
+            title += &format!(", heights {from} to {to}");
+        }
+        title
+    }
+
+    /// A kind of marks: which of the fonts told apart, or one more for all others.
+    fn kind_of(&self, character: &Character) -> usize {
+        self.fonts.position(character.font()).unwrap_or(self.fonts.iter().count())
+    }
+
+    fn label(&self, kind: usize) -> String {
+        self.fonts.iter().nth(kind).map_or("other fonts".into(), |font| font.label())
+    }
+
+    fn style(&self, kind: usize) -> &'static Style {
+        if kind < self.fonts.iter().count() {
+            &FONT_STYLES[kind]
+        } else {
+            &OTHER_STYLE
+        }
+    }
+
+    /// A page's edges, rulers, marks and number, as a picture of its own that starts at `top`.
+    fn draw_sheet(&self, out: &mut dyn Write, sheet: &Sheet, number: usize, top: i64) -> io::Result<()> {
+        let (height, depth) = (sheet.height(), sheet.bottom - sheet.top);
+        write!(
+            out,
+            "<svg y=\"{top}\" width=\"{WIDTH}\" height=\"{height}\" viewBox=\"-{LEFT} {} {WIDTH} {height}\">\n\
+             <rect y=\"{}\" width=\"{PAGE_WIDTH}\" height=\"{}\" fill=\"none\" stroke=\"#c8c8c8\" \
+             stroke-width=\"4\"/>\n",
+            sheet.top - TOP,
+            sheet.top - 80,
+            depth + 80,
+        )?;
+        draw_rulers(out, sheet)?;
+        writeln!(
+            out,
+            "<text x=\"{PAGE_WIDTH}\" y=\"{}\" fill=\"#606060\" text-anchor=\"end\" font-size=\"60\">page \
+             {number}</text>",
+            sheet.bottom + 80,
+        )?;
+        // The others first, and slanted marks over upright ones, so that both are seen.
+        let others = self.fonts.iter().count();
+        for kind in std::iter::once(others).chain(0..others) {
+            let style = self.style(kind);
+            let marks = sheet.page.0.iter().filter(|character| self.kind_of(character) == kind);
+            let pieces = marks.map(|it| mark(style, it.x, QUANTUM * it.height, mark_height(it.is_double())));
+            draw_paths(out, &format!("fill=\"{}\"", style.colour), pieces)?;
+        }
+        let frames = sheet.overstruck.iter().map(frame);
+        draw_paths(out, "fill=\"none\" stroke=\"#000000\" stroke-width=\"5\"", frames)?;
+        writeln!(out, "</svg>")
+    }
 }
 
-/// Inches along the top and down the left side, to the depth of the deepest page; each page shows its part.
-fn rulers(svg: &mut String, depth: i32) {
-    svg.push_str(
-        "<defs><g id=\"rulers\" fill=\"#606060\" stroke=\"none\" text-anchor=\"middle\" font-size=\"60\">\n",
-    );
+/// A frame around a mark as a piece of a path.
+fn frame(character: &Character) -> String {
+    let height = mark_height(character.is_double());
+    let (x, y) = (character.x - 5, QUANTUM * character.height + 5);
+    let (across, up) = (height / 2 + 10, height + 10);
+    format!("M{x} {y}h{across}v-{up}h-{across}z")
+}
+
+/// Draws pieces of paths, as many to a path as it may hold.
+fn draw_paths(out: &mut dyn Write, look: &str, pieces: impl Iterator<Item = String>) -> io::Result<()> {
+    let mut path = String::new();
+    let mut pieces = pieces.peekable();
+    while let Some(piece) = pieces.next() {
+        path.push_str(&piece);
+        if path.len() > LONG_PATH || pieces.peek().is_none() {
+            writeln!(out, "<path {look} d=\"{path}\"/>")?;
+            path.clear();
+        }
+    }
+    Ok(())
+}
+
+/// Inches along the top of a page and down its left side.
+fn draw_rulers(out: &mut dyn Write, sheet: &Sheet) -> io::Result<()> {
+    writeln!(out, "<g fill=\"#606060\" text-anchor=\"middle\" font-size=\"60\">")?;
+    let tick = |out: &mut dyn Write, x, y, way| {
+        write!(out, "<path stroke=\"#c8c8c8\" stroke-width=\"4\" d=\"M{x} {y}{way}\"/>")
+    };
     for inch in 0..=PAGE_WIDTH / INCH {
         let x = inch * INCH;
-        put(svg, format_args!("<path stroke=\"#c8c8c8\" stroke-width=\"4\" d=\"M{x} -80v-32\"/>"));
-        put(svg, format_args!("<text x=\"{x}\" y=\"-130\">{inch}</text>\n"));
+        tick(out, x, sheet.top - 80, "v-32")?;
+        writeln!(out, "<text x=\"{x}\" y=\"{}\">{inch}</text>", sheet.top - 130)?;
     }
-    for inch in 0..=depth / INCH {
+    for inch in (sheet.top + INCH - 1) / INCH..=sheet.bottom / INCH {
         let y = inch * INCH;
-        put(svg, format_args!("<path stroke=\"#c8c8c8\" stroke-width=\"4\" d=\"M0 {y}h-32\"/>"));
-        put(svg, format_args!("<text x=\"-110\" y=\"{}\">{inch}</text>\n", y + 20));
+        tick(out, 0, y, "h-32")?;
+        writeln!(out, "<text x=\"-110\" y=\"{}\">{inch}</text>", y + 20)?;
     }
-    svg.push_str("</g></defs>\n");
-}
-
-fn put(text: &mut String, what: std::fmt::Arguments) {
-    text.write_fmt(what).expect("a string takes all text");
+    writeln!(out, "</g>")
 }
 
 /// Text with what XML reserves written out, and without control characters.

@@ -1,25 +1,27 @@
 //! What a reprinted tape holds, in numbers.
 
+use crate::fonts::Fonts;
 use crate::text::grouped;
 use spatecanter::galley::{characters, Character};
 use spatecanter::sheet::{fields, Field};
 use std::collections::BTreeMap;
 use std::fmt;
 
-pub struct Summary {
+pub struct Summary<'a> {
+    fonts: &'a Fonts,
     pages: usize,
     /// How many characters there are of each font number.
     by_font: BTreeMap<i32, usize>,
 }
 
-impl Summary {
-    pub fn of(galley: &[u8], sheet: &[u8]) -> Summary {
+impl Summary<'_> {
+    pub fn of<'a>(galley: &[u8], sheet: &[u8], fonts: &'a Fonts) -> Summary<'a> {
         let pages = fields(sheet).filter(|field| matches!(field, Field::Page(_))).count();
         let mut by_font = BTreeMap::new();
         for character in characters(galley) {
             *by_font.entry(character.font_number).or_default() += 1;
         }
-        Summary { pages, by_font }
+        Summary { fonts, pages, by_font }
     }
 
     /// The characters of a font, in all its sizes.
@@ -37,15 +39,16 @@ fn of_number(font_number: i32) -> Character {
     Character { x: 0, height: 0, font_number, code: 1 }
 }
 
-impl fmt::Display for Summary {
+impl fmt::Display for Summary<'_> {
     fn fmt(&self, f: &mut fmt::Formatter) -> fmt::Result {
         let row = |f: &mut fmt::Formatter, what: &str, count: usize| {
             writeln!(f, "{what:<28}{:>10}", grouped(count))
         };
         row(f, "characters", self.by_font.values().sum())?;
         row(f, "pages", self.pages)?;
-        row(f, "in font 1", self.in_font(1))?;
-        row(f, "in font 2", self.in_font(2))?;
+        for font in self.fonts.iter() {
+            row(f, &format!("in {}", font.label()), self.in_font(font.number))?;
+        }
         row(f, "fonts, by size", self.by_font.len())?;
         for (&number, &count) in &self.by_font {
             let (font, points) = (of_number(number).font(), of_number(number).points());

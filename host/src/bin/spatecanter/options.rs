@@ -1,0 +1,115 @@
+//! What the values of options say.
+
+use crate::arguments::Arguments;
+use crate::commands::{CONVERT_USAGE, REPRINT_USAGE};
+use crate::explain::Form;
+use crate::failure::Failure;
+use crate::text::grouped;
+use spatecanter::{Machine, HEIGHT_LIMIT};
+use std::ffi::OsStr;
+use std::ops::{Range, RangeInclusive};
+
+/// Quanta in an inch.
+const INCH: f64 = 144.0;
+
+/// The machine that --machine names.
+pub fn machine(arguments: &Arguments) -> Result<Option<Machine>, Failure> {
+    let Some(word) = &arguments.machine else {
+        return Ok(None);
+    };
+    match word.to_str() {
+        Some("4") => Ok(Some(Machine::Four)),
+        Some("8") => Ok(Some(Machine::Eight)),
+        _ => Err(Failure::Usage(format!(
+            "--machine {} is no machine: it is 4 or 8, the number of fonts",
+            word.to_string_lossy()
+        ))),
+    }
+}
+
+/// The folder that -d names.
+pub fn folder(arguments: &Arguments) -> Result<&OsStr, Failure> {
+    arguments
+        .folder
+        .as_deref()
+        .ok_or_else(|| Failure::Usage(format!("reprint needs a folder\nUsage: spatecanter {REPRINT_USAGE}")))
+}
+
+/// The form that --to names.
+pub fn form(arguments: &Arguments) -> Result<Form, Failure> {
+    let Some(word) = &arguments.to else {
+        let what = format!("convert needs --to new or --to old\nUsage: spatecanter {CONVERT_USAGE}");
+        return Err(Failure::Usage(what));
+    };
+    match word.to_str() {
+        Some("new") => Ok(Form::New),
+        Some("old") => Ok(Form::Old),
+        _ => Err(Failure::Usage(format!(
+            "--to {} is no form of a galley: it is new or old",
+            word.to_string_lossy()
+        ))),
+    }
+}
+
+/// The pages to draw, counted from 0: the one that --page names, or all.
+pub fn pages(arguments: &Arguments, pages: usize) -> Result<Range<usize>, Failure> {
+    let Some(word) = &arguments.page else {
+        return Ok(0..pages);
+    };
+    match word.to_str().and_then(|text| text.parse::<usize>().ok()) {
+        Some(number) if (1..=pages).contains(&number) => Ok(number - 1..number),
+        _ => {
+            let there = if pages == 1 { "there is" } else { "there are" };
+            Err(Failure::Usage(format!(
+                "--page {} is no page: {there} {}, counted from 1",
+                word.to_string_lossy(),
+                grouped(pages)
+            )))
+        }
+    }
+}
+
+/// The heights that --from and --to name, on one page of `lowest` quanta.
+pub fn part(
+    arguments: &Arguments,
+    pages: usize,
+    lowest: i32,
+) -> Result<Option<RangeInclusive<i32>>, Failure> {
+    if arguments.from.is_none() && arguments.to.is_none() {
+        return Ok(None);
+    }
+    if pages > 1 {
+        let what = format!(
+            "--from and --to are for one page, and there are {}: name one with --page",
+            grouped(pages)
+        );
+        return Err(Failure::Usage(what));
+    }
+    let from = arguments.from.as_deref().map_or(Ok(0), |word| height("--from", word))?;
+    let to = arguments.to.as_deref().map_or(Ok(lowest.max(from)), |word| height("--to", word))?;
+    if from > to {
+        let what = format!(
+            "--from {} is below --to {}: heights grow downwards",
+            grouped(from as usize),
+            grouped(to as usize)
+        );
+        return Err(Failure::Usage(what));
+    }
+    Ok(Some(from..=to))
+}
+
+/// A height in quanta, as list has it, or in inches, as rulers have it, with "in" after the number.
+fn height(option: &str, word: &OsStr) -> Result<i32, Failure> {
+    let text = word.to_string_lossy();
+    let quanta = match text.strip_suffix("in") {
+        Some(inches) => inches.parse().ok().map(|inches: f64| (inches * INCH).round()),
+        None => text.parse().ok().map(|quanta: u32| f64::from(quanta)),
+    };
+    match quanta {
+        Some(quanta) if (0.0..=f64::from(HEIGHT_LIMIT)).contains(&quanta) => Ok(quanta as i32),
+        _ => Err(Failure::Usage(format!(
+            "{option} {text} is no height: it is a number of quanta up to {}, or of inches as in 12.5in",
+            grouped(HEIGHT_LIMIT as usize)
+        ))),
+    }
+}
