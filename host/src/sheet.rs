@@ -40,8 +40,8 @@ pub fn check(sheet: &[u8]) -> Result<usize, Fault> {
 /// The longest field: a rule.
 pub const LONGEST_FIELD: usize = 20;
 
-/// Where the fields that start at `place` are no longer whole fields before End: the place of a sheet's End, of
-/// a fault, or of a field that is still to come.
+/// Where the fields that start at `place` are no longer whole fields before End: the place of a sheet's End,
+/// of a fault, or of a field that is still to come.
 pub fn end_of_fields(sheet: &[u8], place: usize) -> usize {
     let mut rest = &sheet[place..];
     while let Some((_, after)) = split(rest) {

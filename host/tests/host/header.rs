@@ -76,7 +76,8 @@ fn the_header_has_the_library_s_functions() {
     assert_eq!(called, declared);
 }
 
-/// Every number and limit of the header, as the C compiler sees it, is that of this package; and all are tried in C.
+/// Every number and limit of the header, as the C compiler sees it, is that of this package; and all are
+/// tried in C.
 #[test]
 fn the_header_has_the_package_s_numbers() {
     let mut numbers: BTreeMap<String, usize> =

@@ -123,6 +123,17 @@ fn root_for_readers() -> std::path::PathBuf {
     root
 }
 
+#[test]
+fn the_picture_is_that_of_the_yearbook() {
+    let host = Path::new(env!("CARGO_MANIFEST_DIR"));
+    let output = Command::new(env!("CARGO_BIN_EXE_spatecanter"))
+        .args(["plot", "samples/yearbook.tape", "-o", "-"])
+        .current_dir(host.join(".."))
+        .output()
+        .unwrap();
+    assert!(output.stdout == sample("yearbook.svg"));
+}
+
 /// Every command of the README writes what the README says, in one folder, from top to bottom.
 #[test]
 fn the_readme_tells_what_happens() {

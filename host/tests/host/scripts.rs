@@ -1,4 +1,5 @@
-//! The scripts `library` and `spatecanter` at the root, in a small repository with stand-ins for rt and cargo.
+//! The scripts `library` and `spatecanter` at the root, in a small repository with stand-ins for rt and
+//! cargo.
 
 use std::fs;
 use std::os::unix::fs::{symlink, PermissionsExt};

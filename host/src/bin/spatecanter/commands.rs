@@ -180,21 +180,8 @@ fn reprint(arguments: &Arguments) -> Result<(), Failure> {
 }
 
 fn draw(arguments: &Arguments) -> Result<(), Failure> {
-    let mut machine = options::machine(arguments)?;
     let place = place(arguments, &[&arguments.input], "svg")?;
-    let bytes = input::read(&arguments.input, GALLEY_LIMIT)?;
-    let galley = match bytes.first() {
-        Some(1 | 2 | 6 | 7) => {
-            spatecanter::check_galley(&bytes)
-                .map_err(|refusal| explain::galley(&arguments.input, &bytes, refusal))?;
-            bytes
-        }
-        _ => {
-            let galley = galley_of(&arguments.input, &bytes, machine)?;
-            machine = machine.or(Some(Machine::Eight));
-            galley
-        }
-    };
+    let (galley, machine) = galley_to_draw(&arguments.input, options::machine(arguments)?)?;
     let fonts = Fonts::choose(arguments.fonts.as_deref(), machine)?;
     let pages = plot::pages(&galley);
     let shown_pages = options::pages(arguments, pages.len())?;
@@ -211,6 +198,18 @@ fn draw(arguments: &Arguments) -> Result<(), Failure> {
         ));
     }
     Ok(())
+}
+
+/// The galley of an input that is a galley or a tape, and its machine: a galley's is the one named, if any.
+fn galley_to_draw(name: &OsStr, named: Option<Machine>) -> Result<(Vec<u8>, Option<Machine>), Failure> {
+    let bytes = input::read(name, GALLEY_LIMIT)?;
+    match bytes.first() {
+        Some(1 | 2 | 6 | 7) => {
+            spatecanter::check_galley(&bytes).map_err(|refusal| explain::galley(name, &bytes, refusal))?;
+            Ok((bytes, named))
+        }
+        _ => Ok((galley_of(name, &bytes, named)?, named.or(Some(Machine::Eight)))),
+    }
 }
 
 fn convert(arguments: &Arguments) -> Result<(), Failure> {
@@ -243,7 +242,8 @@ fn print(write: impl FnOnce(&mut dyn Write) -> io::Result<()>) -> Result<(), Fai
     output::finish(vec![draft])
 }
 
-/// The galley of a tape of this machine, or of the 8-font machine where none is named. Nothing on a tape tells its machine but a tilt.
+/// The galley of a tape of this machine, or of the 8-font machine where none is named. Nothing on a tape
+/// tells its machine but a tilt.
 fn galley_of(name: &OsStr, tape: &[u8], named: Option<Machine>) -> Result<Vec<u8>, Failure> {
     let machine = named.unwrap_or(Machine::Eight);
     let galley = progress::during("reading the tape", || spatecanter::read_tape(tape, machine))

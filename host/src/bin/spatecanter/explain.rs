@@ -26,7 +26,8 @@ pub fn tape(name: &OsStr, tape: &[u8], machine: Machine, refusal: Refusal) -> Fa
     Failure::Refused(lines.join("\n"))
 }
 
-/// Whether a tape that the 8-font machine accepts may be one of the 4-font machine: it flashes, and never tilts.
+/// Whether a tape that the 8-font machine accepts may be one of the 4-font machine: it flashes, and never
+/// tilts.
 pub fn may_be_of_four_fonts(tape: &[u8], galley: &[u8]) -> bool {
     characters(galley).next().is_some() && !tape.iter().any(|code| matches!(code, 0x4E | 0x4F))
 }

@@ -23,7 +23,8 @@ impl Font {
 }
 
 impl Fonts {
-    /// Those that --fonts names, or fonts 1 and 2: in the yearbooks of the 8-font machine measured and estimated values.
+    /// Those that --fonts names, or fonts 1 and 2: in the yearbooks of the 8-font machine measured and
+    /// estimated values.
     pub fn choose(word: Option<&OsStr>, machine: Option<Machine>) -> Result<Fonts, Failure> {
         let words = match word {
             Some(word) if word == "none" => "1,2".into(),

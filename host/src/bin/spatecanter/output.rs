@@ -1,5 +1,6 @@
-//! Outputs: where they go, and how they are written. A file is written beside its place, and put there when it is whole; the files of one
-//! run are put in their places together, all or none. Whatever ends the run early, nothing unfinished is left behind.
+//! Outputs: where they go, and how they are written. A file is written beside its place, and put there when
+//! it is whole; the files of one run are put in their places together, all or none. Whatever ends the run
+//! early, nothing unfinished is left behind.
 
 use crate::failure::{say, Failure};
 use crate::progress;
@@ -10,7 +11,8 @@ use std::os::unix::fs::MetadataExt;
 use std::path::{Path, PathBuf};
 use std::sync::{Mutex, MutexGuard, PoisonError};
 
-/// The name of an output that is not named: the input's whole name with an ending after it, beside the input or in a folder.
+/// The name of an output that is not named: the input's whole name with an ending after it, beside the input
+/// or in a folder.
 pub fn named_after(input: &OsStr, folder: Option<&OsStr>, ending: &str) -> PathBuf {
     let input = Path::new(if input == "-" { OsStr::new("tape") } else { input });
     let mut name = input.file_name().unwrap_or(input.as_os_str()).to_os_string();
@@ -25,8 +27,11 @@ pub fn named_after(input: &OsStr, folder: Option<&OsStr>, ending: &str) -> PathB
 /// Where an output goes.
 pub enum Place {
     Standard,
-    /// A file, and whether it may take the place of another.
-    File(PathBuf, bool),
+    /// A file, which takes the place of another by force only.
+    File {
+        path: PathBuf,
+        force: bool,
+    },
 }
 
 impl Place {
@@ -58,12 +63,12 @@ impl Place {
             }
         }
         may_be_written(&path, force)?;
-        Ok(Place::File(path, force))
+        Ok(Place::File { path, force })
     }
 
     /// Says on standard error what was written, if it went to a file.
     pub fn tell(&self, what: &str) {
-        if let Place::File(path, _) = self {
+        if let Place::File { path, .. } = self {
             say(&format!("{}: {what}", path.display()));
         }
     }
@@ -78,7 +83,7 @@ impl Place {
     fn failed(&self, error: io::Error) -> Failure {
         match self {
             Place::Standard if error.kind() == io::ErrorKind::BrokenPipe => Failure::Closed,
-            Place::File(path, _) if error.kind() == io::ErrorKind::AlreadyExists => exists(path),
+            Place::File { path, .. } if error.kind() == io::ErrorKind::AlreadyExists => exists(path),
             _ => Failure::File(format!("cannot write {}: {error}", self.shown())),
         }
     }
@@ -87,7 +92,7 @@ impl Place {
     fn shown(&self) -> String {
         match self {
             Place::Standard => "standard output".into(),
-            Place::File(path, _) => path.display().to_string(),
+            Place::File { path, .. } => path.display().to_string(),
         }
     }
 }
@@ -133,7 +138,7 @@ enum Out {
 impl Draft<'_> {
     /// Starts an output; the folders on the way to a file are made.
     pub fn start(place: &Place) -> Result<Draft<'_>, Failure> {
-        let Place::File(path, force) = place else {
+        let Place::File { path, force } = place else {
             return Ok(Draft { place, out: Out::Standard(BufWriter::new(stdout())), beside: None });
         };
         let started = if is_written_in_place(path) {
@@ -226,6 +231,7 @@ impl Beside {
                 fs::set_permissions(&self.file, old.permissions())?;
                 self.replace().map(Some)
             }
+            Some(old) if old.is_dir() => Err(io::ErrorKind::IsADirectory.into()),
             Some(_) => Err(io::ErrorKind::AlreadyExists.into()),
             None => self.put_first().map(|()| None),
         }
@@ -234,7 +240,10 @@ impl Beside {
     /// Where no file stands; one that comes there at the same moment is not written over.
     fn put_first(&self) -> io::Result<()> {
         match fs::hard_link(&self.file, &self.path) {
-            Ok(()) => fs::remove_file(&self.file),
+            Ok(()) => {
+                let _ = fs::remove_file(&self.file);
+                Ok(())
+            }
             Err(error) if error.kind() == io::ErrorKind::AlreadyExists => Err(error),
             // The system has no links.
             Err(_) => fs::rename(&self.file, &self.path),
@@ -350,8 +359,10 @@ impl Unfinished {
 
     /// Removes the folders made that have nothing in them.
     fn remove_folders(&mut self) {
-        while self.folders.last().is_some_and(|folder| fs::remove_dir(folder).is_ok()) {
-            self.folders.pop();
+        for index in (0..self.folders.len()).rev() {
+            if fs::remove_dir(&self.folders[index]).is_ok() {
+                self.folders.remove(index);
+            }
         }
     }
 }

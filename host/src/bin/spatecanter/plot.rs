@@ -3,7 +3,7 @@
 use crate::fonts::Fonts;
 use crate::text::{counted, grouped};
 use spatecanter::galley::{items, Character, Item};
-use spatecanter::Machine;
+use spatecanter::{Machine, HEIGHT_LIMIT};
 use std::io::{self, Write};
 use std::ops::{Range, RangeInclusive};
 
@@ -29,7 +29,8 @@ const REACH: i32 = 8;
 /// How the marks of a kind look: they differ by colour, in grey too, and by shape.
 struct Style {
     colour: &'static str,
-    /// How far the head of a mark stands to the right of its foot, in sixteenths of the mark's width; it is so much narrower.
+    /// How far the head of a mark stands to the right of its foot, in sixteenths of the mark's width; it is
+    /// so much narrower.
     lean: i32,
 }
 
@@ -74,19 +75,6 @@ impl Page {
     pub fn lowest(&self) -> i32 {
         self.0.iter().map(|character| character.height).max().unwrap_or(0)
     }
-
-    fn part(&self, heights: &RangeInclusive<i32>) -> Page {
-        Page(self.0.iter().copied().filter(|character| heights.contains(&character.height)).collect())
-    }
-
-    /// The characters that stand on another.
-    fn overstruck(&self) -> Vec<Character> {
-        let mut line = self.0.clone();
-        line.sort_by_key(|character| (character.height, character.x));
-        let is_struck =
-            |pair: &&[Character]| pair[0].height == pair[1].height && pair[1].x - pair[0].x < REACH;
-        line.windows(2).filter(is_struck).map(|pair| pair[1]).collect()
-    }
 }
 
 /// Some pages, or a part of one, with a legend.
@@ -97,30 +85,34 @@ pub struct Picture<'a> {
     /// How many pages there are, and the number of the first that is shown.
     all: usize,
     first: usize,
-    sheets: Vec<Sheet>,
+    views: Vec<View<'a>>,
     part: Option<RangeInclusive<i32>>,
 }
 
-/// A page as it is shown: its characters, those on another, and from where to where it goes, in units.
-struct Sheet {
-    page: Page,
+/// A page as it is shown: the characters of some heights, those on another, and its edges, in units.
+struct View<'a> {
+    page: &'a Page,
+    heights: RangeInclusive<i32>,
     overstruck: Vec<Character>,
     top: i32,
     bottom: i32,
 }
 
-impl Sheet {
-    /// To whole half inches, and at least one below the lowest baseline.
-    fn whole(page: &Page) -> Sheet {
-        let bottom = (QUANTUM * page.lowest() / HALF_INCH + 2) * HALF_INCH;
-        Sheet { page: Page(page.0.clone()), overstruck: page.overstruck(), top: 0, bottom }
+impl View<'_> {
+    /// A part of a page, or all of it: to whole half inches, and at least one below the lowest baseline.
+    fn new<'a>(page: &'a Page, part: Option<&RangeInclusive<i32>>) -> View<'a> {
+        let (heights, bottom) = match part {
+            Some(heights) => (heights.clone(), QUANTUM * heights.end() + HALF_INCH),
+            None => (0..=HEIGHT_LIMIT, (QUANTUM * page.lowest() / HALF_INCH + 2) * HALF_INCH),
+        };
+        let top = QUANTUM * heights.start();
+        let mut view = View { page, heights, overstruck: vec![], top, bottom };
+        view.overstruck = overstruck(view.characters().copied().collect());
+        view
     }
 
-    fn part(page: &Page, heights: &RangeInclusive<i32>) -> Sheet {
-        let page = page.part(heights);
-        let overstruck = page.overstruck();
-        let bottom = QUANTUM * heights.end() + HALF_INCH;
-        Sheet { page, overstruck, top: QUANTUM * heights.start(), bottom }
+    fn characters(&self) -> impl Iterator<Item = &Character> {
+        self.page.0.iter().filter(|character| self.heights.contains(&character.height))
     }
 
     /// With the room around it.
@@ -129,21 +121,25 @@ impl Sheet {
     }
 }
 
+/// The characters of a page that stand on another.
+fn overstruck(mut characters: Vec<Character>) -> Vec<Character> {
+    characters.sort_by_key(|character| (character.height, character.x));
+    let is_struck = |pair: &&[Character]| pair[0].height == pair[1].height && pair[1].x - pair[0].x < REACH;
+    characters.windows(2).filter(is_struck).map(|pair| pair[1]).collect()
+}
+
 impl Picture<'_> {
     pub fn new<'a>(
         name: String,
         machine: Option<Machine>,
         fonts: &'a Fonts,
-        pages: &[Page],
+        pages: &'a [Page],
         shown: Range<usize>,
         part: Option<RangeInclusive<i32>>,
     ) -> Picture<'a> {
         let first = shown.start + 1;
-        let sheets = pages[shown].iter().map(|page| match &part {
-            Some(heights) => Sheet::part(page, heights),
-            None => Sheet::whole(page),
-        });
-        Picture { name, machine, fonts, all: pages.len(), first, sheets: sheets.collect(), part }
+        let views = pages[shown].iter().map(|page| View::new(page, part.as_ref())).collect();
+        Picture { name, machine, fonts, all: pages.len(), first, views, part }
     }
 
     /// The number of characters drawn.
@@ -161,20 +157,20 @@ impl Picture<'_> {
         self.open(out)?;
         self.draw_legend(out)?;
         let mut top = 0;
-        for (number, sheet) in (self.first..).zip(&self.sheets) {
-            self.draw_sheet(out, sheet, number, top)?;
-            top += i64::from(sheet.height());
+        for (number, view) in (self.first..).zip(&self.views) {
+            self.draw_page(out, view, number, top)?;
+            top += i64::from(view.height());
         }
         writeln!(out, "</svg>")
     }
 
     fn characters(&self) -> impl Iterator<Item = &Character> {
-        self.sheets.iter().flat_map(|sheet| &sheet.page.0)
+        self.views.iter().flat_map(View::characters)
     }
 
     /// In units, with the legend.
     fn height(&self) -> i64 {
-        i64::from(LEGEND) + self.sheets.iter().map(|sheet| i64::from(sheet.height())).sum::<i64>()
+        i64::from(LEGEND) + self.views.iter().map(|view| i64::from(view.height())).sum::<i64>()
     }
 
     fn scale(&self) -> f64 {
@@ -197,9 +193,12 @@ impl Picture<'_> {
 
     /// The name with what is shown, a line for each kind of marks, and what else there is to know.
     fn draw_legend(&self, out: &mut dyn Write) -> io::Result<()> {
-        let title = escaped(&self.title());
+        let title = self.title();
+        // Smaller where it would be too long.
+        let size = (96 * 60 / title.chars().count()).clamp(24, 96);
+        let title = escaped(&title);
         writeln!(out, "<title>{title}</title>")?;
-        writeln!(out, "<text x=\"{LEFT}\" y=\"-360\" font-size=\"96\">{title}</text>")?;
+        writeln!(out, "<text x=\"{LEFT}\" y=\"-360\" font-size=\"{size}\">{title}</text>")?;
         for (kind, x) in (0..=self.fonts.iter().count()).zip((LEFT..).step_by(1_180)) {
             let count = self.characters().filter(|character| self.kind_of(character) == kind).count();
             writeln!(
@@ -213,7 +212,7 @@ impl Picture<'_> {
             )?;
         }
         let double = self.characters().filter(|character| character.is_double()).count();
-        let overstruck: usize = self.sheets.iter().map(|sheet| sheet.overstruck.len()).sum();
+        let overstruck: usize = self.views.iter().map(|view| view.overstruck.len()).sum();
         let machine = match self.machine {
             Some(machine) => format!("{}-font machine", machine.fonts()),
             None => "Machine not recorded".into(),
@@ -229,8 +228,8 @@ impl Picture<'_> {
 
     fn title(&self) -> String {
         let mut title = format!("{}: {}", self.name, counted(self.count(), "character"));
-        if self.sheets.len() > 1 {
-            title += &format!(", {}", counted(self.sheets.len(), "page"));
+        if self.views.len() > 1 {
+            title += &format!(", {}", counted(self.views.len(), "page"));
         } else if self.all > 1 {
             title += &format!(", page {} of {}", grouped(self.first), grouped(self.all));
         }
@@ -259,33 +258,33 @@ impl Picture<'_> {
     }
 
     /// A page's edges, rulers, marks and number, as a picture of its own that starts at `top`.
-    fn draw_sheet(&self, out: &mut dyn Write, sheet: &Sheet, number: usize, top: i64) -> io::Result<()> {
-        let (height, depth) = (sheet.height(), sheet.bottom - sheet.top);
+    fn draw_page(&self, out: &mut dyn Write, view: &View, number: usize, top: i64) -> io::Result<()> {
+        let (height, depth) = (view.height(), view.bottom - view.top);
         write!(
             out,
             "<svg y=\"{top}\" width=\"{WIDTH}\" height=\"{height}\" viewBox=\"-{LEFT} {} {WIDTH} {height}\">\n\
              <rect y=\"{}\" width=\"{PAGE_WIDTH}\" height=\"{}\" fill=\"none\" stroke=\"#c8c8c8\" \
              stroke-width=\"4\"/>\n",
-            sheet.top - TOP,
-            sheet.top - 80,
+            view.top - TOP,
+            view.top - 80,
             depth + 80,
         )?;
-        draw_rulers(out, sheet)?;
+        draw_rulers(out, view)?;
         writeln!(
             out,
             "<text x=\"{PAGE_WIDTH}\" y=\"{}\" fill=\"#606060\" text-anchor=\"end\" font-size=\"60\">page \
              {number}</text>",
-            sheet.bottom + 80,
+            view.bottom + 80,
         )?;
         // The others first, and slanted marks over upright ones, so that both are seen.
         let others = self.fonts.iter().count();
         for kind in std::iter::once(others).chain(0..others) {
             let style = self.style(kind);
-            let marks = sheet.page.0.iter().filter(|character| self.kind_of(character) == kind);
+            let marks = view.characters().filter(|character| self.kind_of(character) == kind);
             let pieces = marks.map(|it| mark(style, it.x, QUANTUM * it.height, mark_height(it.is_double())));
             draw_paths(out, &format!("fill=\"{}\"", style.colour), pieces)?;
         }
-        let frames = sheet.overstruck.iter().map(frame);
+        let frames = view.overstruck.iter().map(frame);
         draw_paths(out, "fill=\"none\" stroke=\"#000000\" stroke-width=\"5\"", frames)?;
         writeln!(out, "</svg>")
     }
@@ -314,17 +313,17 @@ fn draw_paths(out: &mut dyn Write, look: &str, pieces: impl Iterator<Item = Stri
 }
 
 /// Inches along the top of a page and down its left side.
-fn draw_rulers(out: &mut dyn Write, sheet: &Sheet) -> io::Result<()> {
+fn draw_rulers(out: &mut dyn Write, view: &View) -> io::Result<()> {
     writeln!(out, "<g fill=\"#606060\" text-anchor=\"middle\" font-size=\"60\">")?;
     let tick = |out: &mut dyn Write, x, y, way| {
         write!(out, "<path stroke=\"#c8c8c8\" stroke-width=\"4\" d=\"M{x} {y}{way}\"/>")
     };
     for inch in 0..=PAGE_WIDTH / INCH {
         let x = inch * INCH;
-        tick(out, x, sheet.top - 80, "v-32")?;
-        writeln!(out, "<text x=\"{x}\" y=\"{}\">{inch}</text>", sheet.top - 130)?;
+        tick(out, x, view.top - 80, "v-32")?;
+        writeln!(out, "<text x=\"{x}\" y=\"{}\">{inch}</text>", view.top - 130)?;
     }
-    for inch in (sheet.top + INCH - 1) / INCH..=sheet.bottom / INCH {
+    for inch in (view.top + INCH - 1) / INCH..=view.bottom / INCH {
         let y = inch * INCH;
         tick(out, 0, y, "h-32")?;
         writeln!(out, "<text x=\"-110\" y=\"{}\">{inch}</text>", y + 20)?;

@@ -1,7 +1,8 @@
 //! Signals that end a run: SIGHUP, SIGINT and SIGTERM.
 //!
-//! std has no signals, but links the C library, which has them; these are the few functions needed, as Linux declares them. The signals are
-//! blocked in every thread and taken by one that waits for them, so that tidying up is ordinary code.
+//! std has no signals, but links the C library, which has them; these are the few functions needed, as Linux
+//! declares them. The signals are blocked in every thread and taken by one that waits for them, so that
+//! tidying up is ordinary code.
 
 use std::ffi::c_int;
 use std::ptr::null_mut;
@@ -28,7 +29,8 @@ extern "C" {
     fn raise(signal: c_int) -> c_int;
 }
 
-/// Has `tidy` called before one of the signals ends the run. To be called once, before there is a second thread.
+/// Has `tidy` called before one of the signals ends the run. To be called once, before there is a second
+/// thread.
 pub fn tidy_before_the_end(tidy: fn()) {
     let set = awaited();
     // SAFETY: the set is a live sigset_t that was filled by the C library.
@@ -38,7 +40,8 @@ pub fn tidy_before_the_end(tidy: fn()) {
         // SAFETY: the set and the number are live; the signals of the set are blocked in all threads.
         while unsafe { sigwait(&set, &mut which) } != 0 {}
         tidy();
-        // SAFETY: as above; the signal, no longer blocked in this thread, ends the process as it does by default.
+        // SAFETY: as above; the signal, no longer blocked in this thread, ends the process as it does by
+        // default.
         unsafe {
             signal(which, SIG_DFL);
             pthread_sigmask(SIG_UNBLOCK, &set, null_mut());
