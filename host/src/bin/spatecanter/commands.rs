@@ -192,9 +192,10 @@ fn draw(arguments: &Arguments) -> Result<(), Failure> {
     output::finish(vec![draft])?;
     place.tell(&counted(picture.count(), "character"));
     if let Some(percent) = picture.scaled_to() {
-        place.tell(&format!(
-            "scaled to {percent:.1} percent, since many programs show no picture of more than 32,767 pixels; \
-             --page N, or --from and --to, draw a part in full size"
+        say(&format!(
+            "{}: scaled to {percent:.1} percent, since many programs show no picture of more than 32,767 \
+             pixels; --page N, or --from and --to, draw a part in full size",
+            place.shown()
         ));
     }
     Ok(())

@@ -89,7 +89,7 @@ impl Place {
     }
 
     /// Its name for people.
-    fn shown(&self) -> String {
+    pub fn shown(&self) -> String {
         match self {
             Place::Standard => "standard output".into(),
             Place::File { path, .. } => path.display().to_string(),
@@ -304,7 +304,7 @@ fn through_links(path: &Path) -> PathBuf {
 
 fn folder_of(path: &Path) -> &Path {
     match path.parent() {
-        Some(folder) if folder != "" => folder,
+        Some(folder) if !folder.as_os_str().is_empty() => folder,
         _ => Path::new("."),
     }
 }
@@ -342,7 +342,8 @@ fn unfinished() -> MutexGuard<'static, Unfinished> {
 impl Unfinished {
     /// Makes a folder with those above it, and remembers which are new.
     fn make_folders(&mut self, folder: &Path) -> io::Result<()> {
-        let missing: Vec<&Path> = folder.ancestors().take_while(|it| *it != "" && !it.exists()).collect();
+        let is_missing = |folder: &&Path| !folder.as_os_str().is_empty() && !folder.exists();
+        let missing: Vec<&Path> = folder.ancestors().take_while(is_missing).collect();
         for folder in missing.into_iter().rev() {
             match fs::create_dir(folder) {
                 Ok(()) => self.folders.push(folder.into()),
