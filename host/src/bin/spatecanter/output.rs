@@ -188,7 +188,10 @@ pub fn finish(mut drafts: Vec<Draft>) -> Result<(), Failure> {
     let mut put: Vec<(&Beside, Option<PathBuf>)> = Vec::new();
     for (place, beside) in files() {
         match beside.put() {
-            Ok(replaced) => put.push((beside, replaced)),
+            Ok(replaced) => {
+                unfinished.files.retain(|file| *file != beside.file);
+                put.push((beside, replaced));
+            }
             Err(error) => {
                 put.iter().for_each(|(beside, replaced)| take_back(&beside.path, replaced.as_deref()));
                 return Err(place.failed(error));
@@ -197,7 +200,6 @@ pub fn finish(mut drafts: Vec<Draft>) -> Result<(), Failure> {
     }
     for (beside, replaced) in put {
         replaced.map(fs::remove_file);
-        unfinished.files.retain(|file| *file != beside.file);
         // The name too reaches the disk, where the system can do that.
         let _ = File::open(folder_of(&beside.path)).and_then(|folder| folder.sync_all());
     }
