@@ -249,4 +249,11 @@ fn a_library_from_another_folder() {
     assert!(err(&missing).contains("other/libspatecanter.a"), "{}", err(&missing));
     fs::rename(repository.archive(), repository.root.join("other/libspatecanter.a")).unwrap();
     assert_eq!(out(&run(&["x"])), "built: x\n");
+    // Without it the command is linked again, with the library that is proved here.
+    repository.write_script("bin/rt", RT);
+    assert_eq!(repository.run("library", &[]).status.code(), Some(0));
+    assert_eq!(repository.run("spatecanter", &[]).status.code(), Some(0));
+    repository.calls();
+    assert_eq!(out(&run(&["y"])), "built: y\n");
+    assert_eq!(repository.calls(), "cargo\n");
 }

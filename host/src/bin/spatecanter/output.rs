@@ -184,9 +184,8 @@ pub fn finish(mut drafts: Vec<Draft>) -> Result<(), Failure> {
         progress::during(&what, || draft.settle())?;
     }
     let mut unfinished = unfinished();
-    let files = || drafts.iter().filter_map(|draft| Some((draft.place, draft.beside.as_ref()?)));
     let mut put: Vec<(&Beside, Option<PathBuf>)> = Vec::new();
-    for (place, beside) in files() {
+    for (place, beside) in drafts.iter().filter_map(|draft| Some((draft.place, draft.beside.as_ref()?))) {
         match beside.put() {
             Ok(replaced) => {
                 unfinished.files.retain(|file| *file != beside.file);
