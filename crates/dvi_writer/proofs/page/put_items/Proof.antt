@@ -33,12 +33,12 @@ add-loop : tie.Need-add-loop Inv-loop μ-loop
 add-loop c = omega (arith, printed-inside _ _ _ _ _ (c .loop .inv), within _ _ (c .before .before .before .before .before .pre .0))
 
 item-at-requires : tie.Need-item-at-requires Inv-loop μ-loop
-item-at-requires c κs = printed-whole _ _ _ _ _ (c .before .loop .inv) (c .loop-test .taken)
+item-at-requires c κs = printed-whole _ _ _ _ _ (c .before .loop .inv) (omega (arith, c .loop-test .taken))
 
 put-item-requires : tie.Need-put-item-requires Inv-loop μ-loop
 put-item-requires c κs =
     let s = c .before .before .before .before .before .before .before .before .before in
-    (printed-asks _ _ _ _ _ (c .before .before .before .before .loop .inv) (c .before .before .before .loop-test .taken) (all-low _ _ (s .pre .0)) (few _ _ (s .pre .0)) (s .pre .1) _ (c .before .before .item-at .ensures), c .before .before .before .before .before .before .targets .ensures)
+    (printed-asks _ _ _ _ _ (c .before .before .before .before .loop .inv) (omega (arith, c .before .before .before .loop-test .taken)) (all-low _ _ (s .pre .0)) (few _ _ (s .pre .0)) (s .pre .1) _ (c .before .before .item-at .ensures), c .before .before .before .before .before .before .targets .ensures)
 
 item-size-requires : tie.Need-item-size-requires Inv-loop μ-loop
 item-size-requires c κs = search needs
@@ -46,7 +46,7 @@ item-size-requires c κs = search needs
 -- the next place is in the galley
 inside : (c : tie.After-item-size Inv-loop μ-loop) → c .before .before .before .before .before .before .before .before .loop .at + c .item-size .result + 7 ≤ length (c .before .before .before .before .before .before .before .before .before .before .before .before .before .args .g .now)
 inside c =
-    omega (arith, printed-size _ _ _ _ _ (c .before .before .before .before .before .before .before .before .loop .inv) (c .before .before .before .before .before .before .before .loop-test .taken), c .item-size .ensures, ap (itemSize New) (c .before .before .before .before .before .before .item-at .ensures))
+    omega (arith, printed-size _ _ _ _ _ (c .before .before .before .before .before .before .before .before .loop .inv) (omega (arith, c .before .before .before .before .before .before .before .loop-test .taken)), c .item-size .ensures, ap (itemSize New) (c .before .before .before .before .before .before .item-at .ensures))
 
 add-at : tie.Need-add-at Inv-loop μ-loop
 add-at c = omega (arith, inside c, within _ _ (c .before .before .before .before .before .before .before .before .before .before .before .before .before .pre .0))
@@ -58,7 +58,7 @@ loop-again : tie.Need-loop-again Inv-loop μ-loop
 loop-again c =
     let w = c .before .before .before .put-item in
     rw (c .item-size .ensures)
-    (printed-next _ _ _ _ _ (c .before .before .before .before .before .before .before .before .loop .inv) (c .before .before .before .before .before .before .before .loop-test .taken) _ (c .before .before .before .before .before .before .item-at .ensures) _ _ (search needs) (w .ensures .0) (w .ensures .1))
+    (printed-next _ _ _ _ _ (c .before .before .before .before .before .before .before .before .loop .inv) (omega (arith, c .before .before .before .before .before .before .before .loop-test .taken)) _ (c .before .before .before .before .before .before .item-at .ensures) _ _ (search needs) (w .ensures .0) (w .ensures .1))
 
 same-length : tie.Need-same-length Inv-loop μ-loop
 same-length c = c .before .loop .inv .same
