@@ -4,7 +4,7 @@
 mod quick;
 
 use spatecanter::sample::{book, book_widths, yearbook};
-use spatecanter::{Machine, DVI_LIMIT, GALLEY_LIMIT, TAPE_LIMIT};
+use spatecanter::{Machine, RunningTape, DVI_LIMIT, GALLEY_LIMIT, TAPE_LIMIT};
 use std::hint::black_box;
 use std::time::{Duration, Instant};
 
@@ -45,6 +45,8 @@ fn print_operations() {
     print_row("read a tape", "yearbook, 4 fonts", &four, &mut read_tape(&four, Machine::Four));
     let tape = yearbook(Machine::Eight, SEED, TAPE_LIMIT);
     print_row("read a tape", "yearbook", &tape, &mut read_tape(&tape, Machine::Eight));
+    print_row("read a tape in pieces", "yearbook, 64 KiB each", &tape, &mut read_pieces(&tape, 65_536));
+    print_row("read a tape in pieces", "yearbook, 512 bytes each", &tape, &mut read_pieces(&tape, 512));
     let galley = galley_of_length(&tape, GALLEY_LIMIT);
     print_row("check a galley", "yearbook", &galley, &mut check_galley(&galley));
     print_row("read back the last character", "yearbook", &galley, &mut read_back(&galley));
@@ -68,6 +70,10 @@ fn print_growth() {
     for length in lengths(TAPE_LIMIT) {
         let tape = yearbook(Machine::Eight, SEED, length);
         print_growth_row("read a tape", &tape, &mut read_tape(&tape, Machine::Eight));
+    }
+    for length in lengths(TAPE_LIMIT) {
+        let tape = yearbook(Machine::Eight, SEED, length);
+        print_growth_row("read a tape in pieces", &tape, &mut read_pieces(&tape, 65_536));
     }
     let tape = yearbook(Machine::Eight, SEED, TAPE_LIMIT);
     for length in lengths(GALLEY_LIMIT) {
@@ -112,6 +118,33 @@ fn read_tape(tape: &[u8], machine: Machine) -> Contest<'_> {
         room,
         move |galley| spatecanter::read_tape_into(tape, machine, galley).unwrap(),
         move |galley| quick::read_tape(tape, machine.fonts(), galley),
+    )
+}
+
+/// A tape of the 8-font machine in pieces of so many bytes, whose fields are joined in one buffer.
+fn read_pieces(tape: &[u8], length: usize) -> Contest<'_> {
+    let room = spatecanter::read_tape(tape, Machine::Eight).unwrap().len();
+    contest_of_one(
+        room,
+        move |galley| {
+            let mut running = RunningTape::new();
+            running.start(Machine::Eight);
+            let mut at = 0;
+            for piece in tape.chunks(length) {
+                at += running.feed_into(piece, &mut galley[at..]).unwrap();
+            }
+            at + running.close_into(&mut galley[at..]).unwrap()
+        },
+        move |galley| {
+            let mut running = quick::RunningTape::new();
+            running.start(8);
+            let mut at = 0;
+            for piece in tape.chunks(length) {
+                at += running.feed(piece, &mut galley[at..])[2];
+            }
+            let [number, place, end] = running.close(&mut galley[at..]);
+            [number, place, at + end]
+        },
     )
 }
 

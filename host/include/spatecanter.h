@@ -1,9 +1,9 @@
 /*
- * spatecanter.h: C/A/T phototypesetter tapes to galleys, galleys to DVI files of 1980, and DVI files
- * to sheets; and old galleys to new ones and back. Link with libspatecanter.a, which the script `library`
+ * spatecanter.h: C/A/T phototypesetter tapes, whole or in pieces, to galleys, galleys to DVI files of 1980, and
+ * DVI files to sheets; and old galleys to new ones and back. Link with libspatecanter.a, which the script `library`
  * at the root of the repository proves and builds in target/staticlib.
  *
- * ANSWERS. Every function fills `answer` with three numbers:
+ * ANSWERS. Every function but sp_new_tape fills `answer` with three numbers:
  *
  *     answer[0]  number  0 if accepted, else the refusal's number (enum sp_number)
  *     answer[1]  place   0 if accepted, else where the input was refused
@@ -14,9 +14,10 @@
  * the answer is the refusal for room, and its place is the number of bytes needed.
  *
  * LENT MEMORY. A pointer and the length after it make one slice; the length counts bytes, for `widths`
- * 32-bit numbers. With length 0 the pointer may be null; `answer` and `character` may not. A buffer that
- * is written must not overlap anything else in the call. Nothing is allocated, kept or freed, and no state is held
- * between calls: any number of threads may call at once. A stack of 256 KB is enough.
+ * 32-bit numbers. With length 0 the pointer may be null; `answer`, `character` and a running tape may not. A
+ * buffer that is written must not overlap anything else in the call. Nothing is allocated, kept or freed, and no
+ * state is held between calls but a running tape in the caller's array: any number of threads may call at once,
+ * each with its own. A stack of 256 KB is enough.
  *
  * FORMATS. All numbers have the high byte first.
  *
@@ -65,6 +66,9 @@ extern "C" {
 #define SP_HEIGHT_LIMIT     1000000
 #define SP_DVI_HEIGHT_LIMIT 65535
 
+/* The words of a running tape. */
+#define SP_TAPE_WORDS       19
+
 /* answer[0]; after the semicolon, what answer[1] then is. "Offset" counts bytes from 0. */
 enum sp_number {
     SP_ACCEPTED          = 0,  /* accepted; 0 */
@@ -83,7 +87,9 @@ enum sp_number {
     SP_NO_STOP           = 9,  /* the tape ends without stop; the tape's length */
     SP_AFTER_CUT         = 10, /* after a cut (4B), another code than 00 and initialize; the byte's offset.
                                   The tape ends after a cut and 00 alone; the tape's length */
-    SP_GALLEY_ROOM       = 12, /* galley buffer too short; the bytes needed */
+    SP_GALLEY_ROOM       = 12, /* buffer for the galley, or for the fields of a piece or End, too short; the
+                                  bytes needed */
+    SP_NOT_STARTED       = 13, /* a piece or a closing before any start or after an accepted closing; 0 */
     SP_NO_MACHINE        = 50, /* a machine other than 4 or 8; 0 */
 
     /* DVI files */
@@ -195,6 +201,48 @@ void sp_galley_to_new(const uint8_t *old_galley, size_t old_galley_len,
 void sp_galley_to_old(const uint8_t *new_galley, size_t new_galley_len,
                       uint8_t *old_galley, size_t old_galley_len,
                       size_t answer[3]);
+
+/*
+ * THE RUNNING TAPE: a tape that comes in pieces. The caller keeps it in an array of SP_TAPE_WORDS words and lends
+ * that to each call; it must not overlap anything else in the call. sp_new_tape sets it up; what the words hold
+ * is the library's own. The functions promise this of an array that they alone have set; with any other array a
+ * call answers, and a refusal changes no byte of the buffer.
+ *
+ * After an accepted start a tape may be cut into pieces at will, also into empty ones. Each piece's fields are
+ * written into the buffer that is lent with it, without an End; closing writes End. With room for each piece and
+ * for the close, the close gives the number and the place that sp_read_tape gives for the whole tape, and what
+ * was written, joined, is its galley. A piece's fields have at most 11 bytes for each byte of it, End has 7.
+ *
+ * A piece or a closing refused for room (12) leaves the running tape as it was, and may be offered again. After
+ * any other refusal of a piece or a closing each further one gets the same number and place, until a start.
+ */
+
+/* A running tape before any start. */
+void sp_new_tape(uint64_t tape[SP_TAPE_WORDS]);
+
+/*
+ * Starts a running tape anew, whatever it was before, on the machine with 4 or 8 fonts. The length is 0.
+ * Refusals: 50, which leaves the running tape as it was.
+ */
+void sp_start(uint64_t tape[SP_TAPE_WORDS], uint32_t machine,
+              size_t answer[3]);
+
+/*
+ * Takes a piece of the tape and writes its fields. Places count from the tape's start.
+ * Refusals: 13; then the refusal that is repeated; then 1, for the bytes of all pieces together; then 2 to 10 as
+ * of sp_read_tape; then 12. Of a refused piece nothing is written.
+ */
+void sp_feed(uint64_t tape[SP_TAPE_WORDS], const uint8_t *piece, size_t piece_len,
+             uint8_t *out, size_t out_len,
+             size_t answer[3]);
+
+/*
+ * Closes the tape and writes End, 7 bytes. A new piece then needs a new start.
+ * Refusals: 13; then the refusal that is repeated; then 10 or 9, at the number of bytes fed; then 12.
+ */
+void sp_close(uint64_t tape[SP_TAPE_WORDS],
+              uint8_t *out, size_t out_len,
+              size_t answer[3]);
 
 #ifdef __cplusplus
 }

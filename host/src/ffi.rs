@@ -3,6 +3,9 @@
 //! `answer` is number, place, length. A pointer and the length after it make one slice; no two of a
 //! call's slices overlap unless both are read only.
 
+/// The words of a running tape.
+pub const TAPE_WORDS: usize = 19;
+
 extern "C" {
     pub fn sp_read_tape(
         tape: *const u8,
@@ -68,4 +71,19 @@ extern "C" {
         old_galley_len: usize,
         answer: *mut [usize; 3],
     );
+
+    pub fn sp_new_tape(tape: *mut [u64; TAPE_WORDS]);
+
+    pub fn sp_start(tape: *mut [u64; TAPE_WORDS], machine: u32, answer: *mut [usize; 3]);
+
+    pub fn sp_feed(
+        tape: *mut [u64; TAPE_WORDS],
+        piece: *const u8,
+        piece_len: usize,
+        out: *mut u8,
+        out_len: usize,
+        answer: *mut [usize; 3],
+    );
+
+    pub fn sp_close(tape: *mut [u64; TAPE_WORDS], out: *mut u8, out_len: usize, answer: *mut [usize; 3]);
 }

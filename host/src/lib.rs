@@ -1,5 +1,5 @@
-//! C/A/T phototypesetter tapes to galleys, galleys to DVI files of 1980, and DVI files to sheets; and old galleys
-//! to new ones and back.
+//! C/A/T phototypesetter tapes, whole or in pieces, to galleys, galleys to DVI files of 1980, and DVI files to
+//! sheets; and old galleys to new ones and back.
 //!
 //! The operations are those of the proved library `libspatecanter.a`; this package adds safe calls,
 //! readers of galleys and sheets for people, and the command `spatecanter`.
@@ -9,6 +9,7 @@ pub mod galley;
 mod machine;
 mod operations;
 mod refusal;
+mod running;
 pub mod sample;
 pub mod sheet;
 
@@ -20,3 +21,4 @@ pub use operations::{
     TAPE_LIMIT, WIDTHS_PER_FONT,
 };
 pub use refusal::{number, Outcome, Refusal};
+pub use running::RunningTape;

@@ -216,7 +216,8 @@ fn filled(
     Ok(buffer)
 }
 
-fn outcome(answer: [usize; 3]) -> Outcome {
+/// What number, place and length say.
+pub(crate) fn outcome(answer: [usize; 3]) -> Outcome {
     match answer {
         [0, _, length] => Ok(length),
         [number, place, _] => Err(Refusal { number, place }),

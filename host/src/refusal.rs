@@ -37,6 +37,7 @@ numbers! {
     AFTER_CUT = 10: "a code other than initialize after a cut, or the tape ends there",
     NO_SUCH_CHARACTER = 11: "the galley has no character of this number",
     GALLEY_ROOM = 12: "the buffer for the galley is too short",
+    NOT_STARTED = 13: "a piece or a closing before any start, or after an accepted closing",
     DVI_TOO_LONG = 20: "the DVI file is longer than 33,554,432 bytes",
     COMMAND = 21: "an undefined command, or one not allowed there",
     DVI_ENDS = 22: "the file ends inside a page or a command, or before its postamble",

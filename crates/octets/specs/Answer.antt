@@ -49,6 +49,9 @@ afterCut = 10
 abbrev pub noGalleyRoom : ℕ
 noGalleyRoom = 12
 
+abbrev pub notStarted : ℕ
+notStarted = 13
+
 abbrev pub dviTooLong : ℕ
 dviTooLong = 20
 

@@ -27,7 +27,7 @@ use Rattle.tape.specs.declared.quick.Derived.{Derived}
 use Rattle.typesetter.specs.Code.{codeOf}
 use Rattle.typesetter.specs.Machine.{pastHalf, codeIn, withHeight, orderOf, effectOf}
 use Rattle.typesetter.specs.StepLaws.{placed}
-use Rattle.tape.specs.Quick.{Running, halfSize, Flashing, DerivedFrom, Takes, escapeBy, flashesIn, Leads}
+use Rattle.tape.specs.Quick.{Ready, halfSize, Flashing, DerivedFrom, Takes, escapeBy, flashesIn, Leads}
 use Rattle.typesetter.specs.StepLaws.{step-ignored, order-taken, flash-set, lead-to, escape-at}
 
 pub half-taken : (u : Bool) (v : ℕ) → v ≤ halfSize u → (v < 64) × (pastHalf u v ≡ false)
@@ -52,7 +52,7 @@ code-lead machine b h k =
     rw (ne-eqb b 0 (not-zero b (omega arith)), le-ltb b 64 (omega arith), le-ltb b 80 (omega arith), le-ltb b 95 (omega arith), le-ltb b 96 h, lt-ltb b 128 k)
 
 module _ (s : State) (b : ℕ) where
-  pub quick-led : Running s → 96 ≤ b → b < 128 → (r : Height) → heightAt (s .height .0 +ℤ directedBy (s .modes .«lead_back») (31 - b % 32)) ≡ r → Leads s b r
+  pub quick-led : Ready s → 96 ≤ b → b < 128 → (r : Height) → heightAt (s .height .0 +ℤ directedBy (s .modes .«lead_back») (31 - b % 32)) ≡ r → Leads s b r
   unfolding orderOf
   quick-led r h k (height.At t) e = sym (lead-to s (31 - b % 32) e ∙ order-taken s b (code-lead (s .machine) b h k) (r .begun) (r .uncut) (r .unstopped))
   quick-led r h k height.Outside e = tt
@@ -70,7 +70,7 @@ module _ (s : State) (b : ℕ) where
       (flash-set s b (f .runs .unparked) (lt-leb _ _ (f .sized)) (t .1) x (d .font) k ex (f .number) ek
       ∙ order-taken s b (code-flash (s .machine) b h (t .0)) (f .runs .begun) (f .runs .uncut) (f .runs .unstopped))
 
-  pub quick-at : Running s → 128 ≤ b → b < 255 → (c : Units) → carriageAt (s .carriage .0 +ℤ directedBy (s .modes .«escape_back») (127 - b % 128)) ≡ carriage.At c
+  pub quick-at : Ready s → 128 ≤ b → b < 255 → (c : Units) → carriageAt (s .carriage .0 +ℤ directedBy (s .modes .«escape_back») (127 - b % 128)) ≡ carriage.At c
       → effectOf s b ≡ Moved (placed s c)
   unfolding orderOf
   quick-at r h k c e =

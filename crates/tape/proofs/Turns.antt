@@ -11,10 +11,10 @@ use Rattle.typesetter.specs.declared.machine.State.{State}
 use Rattle.typesetter.specs.declared.machine.Effect.the-variants.{Moved}
 use Rattle.typesetter.specs.Code.{codeOf}
 use Rattle.typesetter.specs.Machine.{orderOf, effectOf}
-use Rattle.tape.specs.Quick.{Running, Turn, modesAfter, sizeAfter, settled}
+use Rattle.tape.specs.Quick.{Ready, Turn, modesAfter, sizeAfter, settled}
 use Rattle.typesetter.specs.StepLaws.{order-taken}
 
-module _ (s : State) (r : Running s) where
+module _ (s : State) (r : Ready s) where
   turn-at : (k : ℕ) → k ≤ 29 → (k ≡ 8 → ⊥) → (k ≡ 10 → ⊥) → (k ≡ 12 → ⊥) → (13 ≤ k → k ≤ 14 → s .machine ≡ Eight) → effectOf s (65 + k) ≡ Moved (settled s (modesAfter (s .modes) (65 + k)) (sizeAfter (s .size) (65 + k)))
   unfolding codeOf orderOf
   turn-at zero h a c e t = sym (order-taken s 65 refl (r .begun) (r .uncut) (r .unstopped))

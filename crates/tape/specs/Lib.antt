@@ -1,6 +1,7 @@
 -- C/A/T tapes (document 01, "Numbers given back"): what a tape gives.
 pub mod Tape
 pub mod RunLaws
+pub mod ResultLaws
 pub mod Quick
 pub mod Pass
 pub mod TapeLaws

@@ -19,7 +19,7 @@ use Rattle.typesetter.specs.Machine.{fontIn, withHeight, effectOf}
 use Rattle.typesetter.specs.StepLaws.{placed}
 
 -- initialized, not stopped or cut, and past the left switch
-pub record Running (s : State) : Type 0 where
+pub record Ready (s : State) : Type 0 where
   pub begun : s .initialized ≡ true
   pub uncut : s .cut ≡ false
   pub unstopped : s .stopped ≡ false
@@ -32,7 +32,7 @@ halfSize false = 63
 
 -- what is derived from a state that takes flashes
 pub record Flashing (s : State) (d : Derived) : Type 0 where
-  pub runs : Running s
+  pub runs : Ready s
   pub sized : s .size < 15
   pub last : d .«last_flash» ≡ halfSize (s .modes .«upper_half»)
   pub number : d .font ≡ fontNumber (fontIn (s .machine) (s .modes)) (s .size)
@@ -40,7 +40,7 @@ pub record Flashing (s : State) (d : Derived) : Type 0 where
 -- what is derived from a state: nothing of it is about the carriage or the height
 pub record DerivedFrom (s : State) (d : Derived) : Type 0 where
   pub escapes : d .«last_escape» ≤ 254
-  pub escaping : 1 ≤ d .«last_escape» → Running s
+  pub escaping : 1 ≤ d .«last_escape» → Ready s
   pub flashing : 1 ≤ d .«last_flash» → Flashing s d
 
 -- a code within the escapes, or within 00 and the flashes, that are taken

@@ -3,6 +3,8 @@
 --     run-moved, run-set, run-refused       the byte after a prefix
 --     run-length       at most one item a byte
 --     run-valid        from a sound state, valid characters
+--     run-sound        and a sound state again
+--     run-fault        what a run is refused with is one of 2 to 10
 -- Assumes nothing.
 use mathlib.Core.Path.{_≡_, refl, sym, ap, subst, _∙_}
 use mathlib.Core.List.{List, [], _∷_, _++_, append-nil}
@@ -25,6 +27,7 @@ use Rattle.tape.specs.declared.Ending.the-variants.{Reached, Fault}
 use Rattle.typesetter.specs.Machine.{effectOf}
 use Rattle.typesetter.specs.Sound.{Sound}
 use Rattle.typesetter.specs.SoundLaws.{stays-sound, parted-sound, flashed-valid}
+use Rattle.typesetter.specs.FaultLaws.{IsFault, FaultOf, fault-effect}
 use Rattle.tape.specs.Tape.{Run, after, run}
 
 -- a run after items that were set, by how these ended
@@ -133,3 +136,31 @@ run-valid s at (b ∷ bs) r = go (λ t q. run-valid t (suc at) bs q) (effectOf s
     go later (Flashed c) q = rw (q, run) (more (flashed-valid s r b q) (later s r))
     go later (Parted t) q = rw (q, run) (more refl (later t (parted-sound s r b q)))
     go later (Refused n) q = rw (q, run) nil
+
+-- ---- how a run ends
+
+pub run-sound : (s : State) (at : ℕ) (bs : List ℕ) → Sound s → {t : State} → run s at bs .ending ≡ Reached t → Sound t
+unfolding run
+run-sound s at [] r {t} e = let q : s ≡ t = cc in subst Sound q r
+run-sound s at (b ∷ bs) r {t} h = go (λ u q. run-sound u (suc at) bs q {t = t}) (effectOf s b) refl h
+  where
+    go : ((u : State) → Sound u → run u (suc at) bs .ending ≡ Reached t → Sound t) → (e : Effect) → effectOf s b ≡ e → run s at (b ∷ bs) .ending ≡ Reached t → Sound t
+    go later (Moved u) q = rw (q, run) (later u (stays-sound s r b q))
+    go later (Flashed c) q = rw (q, run) (later s r)
+    go later (Parted u) q = rw (q, run) (later u (parted-sound s r b q))
+    go later (Refused n) q = rw (q, run) (λ e. absurd (let z : _≡_ {A = ℕ} 0 1 = cc in omega arith))
+
+abbrev pub FaultIn : Ending → Type 0
+FaultIn (Reached t) = Unit {0}
+FaultIn (Fault n place) = IsFault n
+
+pub run-fault : (s : State) (at : ℕ) (bs : List ℕ) → FaultIn (run s at bs .ending)
+unfolding run
+run-fault s at [] = tt
+run-fault s at (b ∷ bs) = go (λ t. run-fault t (suc at) bs) (effectOf s b) refl (fault-effect s b)
+  where
+    go : ((t : State) → FaultIn (run t (suc at) bs .ending)) → (e : Effect) → effectOf s b ≡ e → FaultOf e → FaultIn (run s at (b ∷ bs) .ending)
+    go later (Moved t) q f = rw (q, run) (later t)
+    go later (Flashed c) q f = rw (q, run) (later s)
+    go later (Parted t) q f = rw (q, run) (later t)
+    go later (Refused n) q f = rw (q, run) f

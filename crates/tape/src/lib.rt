@@ -61,7 +61,7 @@ fn found(count: usize, cuts: usize, ending: Ending) -> Reading
 }
 
 // One pass over the bytes of a tape from the place `at`, on a machine in the state `first`. It writes the items' fields, if writing.
-fn pass(first: State, at: usize, tape: &[u8], out: &mut [u8], writing: bool) -> Reading
+pub fn pass(first: State, at: usize, tape: &[u8], out: &mut [u8], writing: bool) -> Reading
     requires { ⌜ (Sound first) × (at + length (now tape) ≤ maxTape) ⌝ }
     requires { ⌜ (writing ≡ true → length (fields New (run first at (now tape) .items)) ≤ length (now out)) ⌝ }
     ensures { λ r. ⌜ Passed (run first at (now (tape .entry))) writing (now (out .entry)) r (now (out .exit)) ⌝ }

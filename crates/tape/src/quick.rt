@@ -18,7 +18,7 @@ ghost use mathlib.Core.List.{List};
 ghost use Prim.Native.Nat.{ℕ, _≤_};
 ghost use Rattle.typesetter.specs.Sound.{Sound};
 ghost use Rattle.typesetter.specs.StepLaws.{placed};
-ghost use Rattle.tape.specs.Quick.{Running, halfSize, DerivedFrom, Takes, escapeBy, flashesIn, Turn, turnedBy, modesAfter, sizeAfter, Leads, stretchAt, Quickly};
+ghost use Rattle.tape.specs.Quick.{Ready, halfSize, DerivedFrom, Takes, escapeBy, flashesIn, Turn, turnedBy, modesAfter, sizeAfter, Leads, stretchAt, Quickly};
 ghost use Rattle.tape.specs.Pass.{Further, Stretched};
 
 // What is derived from a state and outlives flashes and escapes: the last escape and the last flash that are taken, or 0, and the font number.
@@ -74,7 +74,7 @@ fn with_carriage(s: State, c: Units) -> State
 
 // Initialized, not stopped or cut, and past the left switch.
 fn running(s: State) -> bool
-    ensures { λ r. ⌜ (r ≡ true → Running s) ⌝ }
+    ensures { λ r. ⌜ (r ≡ true → Ready s) ⌝ }
 {
     if s.initialized {
         if s.cut {
@@ -298,7 +298,7 @@ fn turns(machine: Machine, b: u8) -> bool
 
 // Whether b turns a mode or sets a size of a running machine.
 fn takes_turn(s: State, b: u8) -> bool
-    ensures { λ r. ⌜ (r ≡ true → ((Running s) × (Turn (s .machine) b))) ⌝ }
+    ensures { λ r. ⌜ (r ≡ true → ((Ready s) × (Turn (s .machine) b))) ⌝ }
 {
     if running(s) {
         let machine = s.machine;

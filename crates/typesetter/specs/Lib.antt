@@ -4,3 +4,4 @@ pub mod Machine
 pub mod StepLaws
 pub mod Sound
 pub mod SoundLaws
+pub mod FaultLaws

@@ -6,12 +6,14 @@
 mod convert;
 mod galley;
 mod reader;
+mod running;
 mod tape;
 mod writer;
 
 pub use convert::{to_new, to_old};
 pub use galley::{check_galley, read_back};
 pub use reader::read_dvi;
+pub use running::RunningTape;
 pub use tape::read_tape;
 pub use writer::{reprint, write_dvi};
 

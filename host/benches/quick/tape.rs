@@ -7,10 +7,8 @@ pub fn read_tape(tape: &[u8], machine: u32, galley: &mut [u8]) -> [usize; 3] {
     if tape.len() > 1_048_576 {
         return refused((1, 0));
     }
-    let effects = match machine {
-        4 => &EFFECTS_OF_FOUR,
-        8 => &EFFECTS_OF_EIGHT,
-        _ => return refused((50, 0)),
+    let Some(effects) = effects_of(machine) else {
+        return refused((50, 0));
     };
     match scan(effects, tape) {
         Err(refusal) => refused(refusal),
@@ -19,9 +17,20 @@ pub fn read_tape(tape: &[u8], machine: u32, galley: &mut [u8]) -> [usize; 3] {
             if galley.len() < needed {
                 return refused((12, needed));
             }
-            write(effects, &tape[codes.start..codes.stop], &mut galley[..needed], codes.count);
+            let (fields, end) = galley[..needed].split_at_mut(needed - 7);
+            write_fields(effects, first_modes(effects), BODY_PARKED, &tape[codes.start..codes.stop], fields);
+            write_end(end, codes.count);
             accepted(needed)
         }
+    }
+}
+
+/// What the codes of the machine with so many fonts do.
+pub(super) fn effects_of(machine: u32) -> Option<&'static Effects> {
+    match machine {
+        4 => Some(&EFFECTS_OF_FOUR),
+        8 => Some(&EFFECTS_OF_EIGHT),
+        _ => None,
     }
 }
 
@@ -46,13 +55,13 @@ const SIZE: u32 = 15 | DOUBLE | SIZED;
 
 /// What a code does to the modes, and which modes it needs.
 #[derive(Clone, Copy)]
-struct Effect {
+pub(super) struct Effect {
     keep: u32,
     set: u32,
     need: u32,
 }
 
-type Effects = [Effect; 256];
+pub(super) type Effects = [Effect; 256];
 static EFFECTS_OF_EIGHT: Effects = effects(8);
 static EFFECTS_OF_FOUR: Effects = effects(4);
 
@@ -170,21 +179,21 @@ const BEYOND: u64 = WIDE.word((1 << 31) - 1_000_001, (1 << 31) - 3_240);
 const TOPS: u64 = 1 << 63 | 1 << 31;
 
 #[derive(Clone, Copy)]
-struct Machine {
-    effects: &'static Effects,
-    modes: u32,
+pub(super) struct Machine {
+    pub(super) effects: &'static Effects,
+    pub(super) modes: u32,
     place: u64,
 }
 
 impl Machine {
     /// The machine after its first initialize.
-    fn new(effects: &'static Effects) -> Machine {
+    pub(super) fn new(effects: &'static Effects) -> Machine {
         Machine { effects, modes: first_modes(effects), place: 0 }
     }
 
     /// Takes codes as long as they need no second look: how many, and how many flashes among them.
     #[inline(never)]
-    fn take_common(&mut self, codes: &[u8]) -> (usize, usize) {
+    pub(super) fn take_common(&mut self, codes: &[u8]) -> (usize, usize) {
         let Machine { effects, mut modes, mut place } = *self;
         let mut count = 0;
         let mut taken = codes.len();
@@ -206,19 +215,29 @@ impl Machine {
     }
 
     /// The height is 0 after a cut. The initialize that follows does the rest.
-    fn cut(&mut self) {
+    pub(super) fn cut(&mut self) {
         self.place = 0;
     }
 
     /// Off the left switch, to 0.
-    fn leave_switch(&mut self) {
+    pub(super) fn leave_switch(&mut self) {
         self.modes |= UNPARKED;
         self.place &= !0xFFFF_FFFF;
     }
 
+    /// Height and x as they stand in a field's body.
+    pub(super) fn body(&self) -> u64 {
+        let height = BODY.word((self.place >> 32) as i64, 0);
+        if self.modes & UNPARKED == 0 {
+            height.wrapping_add(BODY_PARKED)
+        } else {
+            height.wrapping_add(BODY.word(0, (self.place & 0xFFFF_FFFF) as i64))
+        }
+    }
+
     /// Why a code is not taken; nothing for the escape off the switch.
     #[cold]
-    fn refusal(&self, code: u8) -> Option<usize> {
+    pub(super) fn refusal(&self, code: u8) -> Option<usize> {
         let parked = self.modes & UNPARKED == 0;
         match code {
             _ if is_illegal(self.effects, code) => Some(2),
@@ -253,13 +272,13 @@ fn scan(effects: &'static Effects, tape: &[u8]) -> Result<Codes, (usize, usize)>
 }
 
 /// The first code other than 00 from a place on, and its place.
-fn next_code(tape: &[u8], from: usize) -> Option<(u8, usize)> {
+pub(super) fn next_code(tape: &[u8], from: usize) -> Option<(u8, usize)> {
     let further = tape[from..].iter().position(|&code| code != 0)?;
     Some((tape[from + further], from + further))
 }
 
 /// 2 for an illegal code, else the number given.
-fn other_code(effects: &Effects, code: u8, number: usize) -> usize {
+pub(super) fn other_code(effects: &Effects, code: u8, number: usize) -> usize {
     if is_illegal(effects, code) {
         2
     } else {
@@ -317,14 +336,17 @@ fn is_flash(code: u8) -> bool {
     code.wrapping_sub(1) < 63
 }
 
-/// Writes the galley of codes that are known to be good. Every code but a mode or a cut stores a character
-/// field; only a flash moves on. After the last flash only cuts are left.
+/// Writes the fields of codes that are known to be good, from these modes and this place on. Every code but a
+/// mode or a cut stores a character field; only a flash moves on. After the last flash only cuts are left.
 #[inline(never)]
-fn write(effects: &Effects, codes: &[u8], galley: &mut [u8], count: usize) {
-    let (fields, end) = galley.split_at_mut(galley.len() - 7);
+pub(super) fn write_fields(
+    effects: &Effects,
+    mut modes: u32,
+    mut body: u64,
+    codes: &[u8],
+    fields: &mut [u8],
+) {
     let last = codes.iter().rposition(|&code| is_flash(code));
-    let mut modes = first_modes(effects);
-    let mut body = BODY_PARKED;
     let mut setting = Setting::of(modes);
     let mut at = 0;
     for &code in &codes[..last.map_or(0, |last| last + 1)] {
@@ -351,8 +373,11 @@ fn write(effects: &Effects, codes: &[u8], galley: &mut [u8], count: usize) {
     for cut in fields[at..].chunks_exact_mut(3) {
         cut.copy_from_slice(&CUT);
     }
+}
+
+pub(super) fn write_end(end: &mut [u8], count: usize) {
     end[..3].copy_from_slice(&[2, 0, 4]);
-    end[3..].copy_from_slice(&(count as u32).to_be_bytes());
+    end[3..7].copy_from_slice(&(count as u32).to_be_bytes());
 }
 
 /// The field of a cut.

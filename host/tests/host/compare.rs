@@ -1,6 +1,6 @@
 //! One call of an implementation against the plain reading: every answer, every byte.
 
-use crate::implementation::{Answer, Implementation, PLAIN};
+use crate::implementation::{Answer, Implementation, RunningTape, PLAIN};
 use crate::plain;
 use spatecanter::sample::Random;
 use std::collections::BTreeMap;
@@ -51,6 +51,26 @@ impl Lent {
         bytes[self.start..self.start + written.len()].copy_from_slice(written);
         bytes
     }
+}
+
+/// A running tape of the implementation, and that of the plain reading.
+struct Running {
+    theirs: Box<dyn RunningTape>,
+    plain: plain::RunningTape,
+}
+
+impl Running {
+    fn new(implementation: &Implementation) -> Running {
+        Running { theirs: (implementation.new_tape)(), plain: plain::RunningTape::new() }
+    }
+}
+
+/// A call on a running tape.
+#[derive(Clone, Copy)]
+enum Call<'a> {
+    Start(u32),
+    Feed(&'a [u8]),
+    Close,
 }
 
 /// How many calls gave each number, by operation.
@@ -189,6 +209,87 @@ impl Comparison {
         let expected = plain::with_room(result, room, 44);
         self.fills("to_old", new, expected.clone(), room, |them, new, old| (them.to_old)(new, old));
         expected.ok()
+    }
+
+    /// A tape fed in these pieces, on a machine of any number, each call with room of any kind and again with
+    /// room enough where it was short; and what the whole tape gives at once.
+    pub fn session(&mut self, pieces: &[&[u8]], machine: u32) {
+        let mut running = Running::new(&self.implementation);
+        if self.random.below(8) == 0 {
+            self.disordered(&mut running);
+        }
+        let whole = plain::read_tape(&pieces.concat(), machine);
+        let mut out = Vec::new();
+        let mut answer = self.call(&mut running, Call::Start(machine), &mut out);
+        if answer[0] == 0 {
+            for piece in pieces {
+                self.call(&mut running, Call::Feed(piece), &mut out);
+            }
+            answer = self.call(&mut running, Call::Close, &mut out);
+        }
+        match whole {
+            Ok(galley) => {
+                assert!(answer == [0, 0, 7] && out == galley, "{answer:?} of {}", shown(&pieces.concat()))
+            }
+            Err((number, place)) => assert_eq!(answer, [number, place, 0], "{}", shown(&pieces.concat())),
+        }
+        for _ in 0..self.random.below(4) {
+            self.disordered(&mut running);
+        }
+    }
+
+    /// A call that may come at a wrong time.
+    fn disordered(&mut self, running: &mut Running) {
+        let call = match self.random.below(5) {
+            0 => Call::Close,
+            1 => Call::Start(self.random.pick(&[4, 8])),
+            2 => Call::Start(self.random.below(10) as u32),
+            _ => Call::Feed(self.random.pick(&[&[], &[0], &[0x40], &[0x49], &[0x40, 0xEF, 0x52, 0x01]])),
+        };
+        self.call(running, call, &mut Vec::new());
+    }
+
+    /// A call on a running tape; where it is refused for room it is offered again with room enough. What it
+    /// writes is added to `out`.
+    fn call(&mut self, running: &mut Running, call: Call, out: &mut Vec<u8>) -> Answer {
+        let room = match call {
+            Call::Start(_) => 0,
+            Call::Feed(piece) => {
+                self.random.pick(&[0, 1, 11, 11, 11, 11, 12]) * piece.len() + self.random.below(3)
+            }
+            Call::Close => self.random.pick(&[0, 6, 7, 7, 7, 8, 40]),
+        };
+        let answer = self.call_with(running, call, room, out);
+        match answer {
+            [12, needed, _] => self.call_with(running, call, needed, out),
+            _ => answer,
+        }
+    }
+
+    fn call_with(&mut self, running: &mut Running, call: Call, room: usize, out: &mut Vec<u8>) -> Answer {
+        let (operation, input) = match call {
+            Call::Start(_) => ("start", &[][..]),
+            Call::Feed(piece) => ("feed", piece),
+            Call::Close => ("close", &[][..]),
+        };
+        let lent = Lent::holding(&mut self.random, input);
+        let mut buffer = Lent::new(&mut self.random, room);
+        let expected = match call {
+            Call::Start(machine) => running.plain.start(machine),
+            Call::Feed(piece) => running.plain.feed(piece, room),
+            Call::Close => running.plain.close(room),
+        };
+        let after = buffer.after(expected.as_deref().unwrap_or_default());
+        let answer = match call {
+            Call::Start(machine) => running.theirs.start(machine),
+            Call::Feed(_) => running.theirs.feed(lent.slice(), buffer.slice_mut()),
+            Call::Close => running.theirs.close(buffer.slice_mut()),
+        };
+        lent.still_holds(input);
+        self.same_bytes(operation, input, &buffer.bytes, &after);
+        out.extend(expected.as_deref().unwrap_or_default());
+        self.agree(operation, input, answer, answer_of(expected));
+        answer
     }
 
     /// A call that fills one buffer.

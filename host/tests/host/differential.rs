@@ -2,7 +2,7 @@
 
 use crate::cases::{self, Form};
 use crate::compare::Comparison;
-use crate::implementation::{Implementation, LIBRARY, QUICK};
+use crate::implementation::{Implementation, RunningTape, Words, GUARD, LIBRARY, QUICK};
 use crate::plain;
 use spatecanter::sample::Random;
 
@@ -23,6 +23,7 @@ fn compare(implementation: Implementation) {
     tapes(&mut comparison);
     codes(&mut comparison);
     other_machines(&mut comparison);
+    sessions(&mut comparison);
     galleys(&mut comparison);
     conversions(&mut comparison);
     dvi_files(&mut comparison);
@@ -103,6 +104,67 @@ fn other_machines(comparison: &mut Comparison) {
     for _ in 0..10_000 {
         comparison.tape(&cases::tape(&mut random, 8), random.bits() as u32);
     }
+}
+
+/// Tapes cut into pieces anywhere, some of them empty; and one cut at each place.
+fn sessions(comparison: &mut Comparison) {
+    let mut random = Random::new(SEED + 6);
+    for fonts in [4, 8] {
+        for _ in 0..30_000 {
+            let tape = cases::tape(&mut random, fonts);
+            let machine = random.pick(&[fonts, fonts, fonts, 4, 8, 5]);
+            comparison.session(&cut(&tape, &mut random), machine);
+        }
+        for _ in 0..20 {
+            let tape = cases::valid_tape(&mut random, fonts);
+            for place in 0..=tape.len() {
+                comparison.session(&[&tape[..place], &tape[place..]], fonts);
+                comparison.session(&[&tape[..place]], fonts);
+            }
+        }
+    }
+}
+
+fn cut<'a>(tape: &'a [u8], random: &mut Random) -> Vec<&'a [u8]> {
+    let mut pieces = Vec::new();
+    let mut rest = tape;
+    while !rest.is_empty() || random.below(4) == 0 {
+        let length = random.pick(&[0, 1, 1, 2, 3, 8, 40]).min(rest.len());
+        let (piece, after) = rest.split_at(length);
+        pieces.push(piece);
+        rest = after;
+    }
+    pieces
+}
+
+/// Of words that no call has made: a call answers, and a refusal changes no lent byte.
+#[test]
+fn any_words_are_answered() {
+    let mut random = Random::new(SEED + 7);
+    let mut refusals = 0;
+    for _ in 0..100_000 {
+        let mut words = Words([GUARD; spatecanter::ffi::TAPE_WORDS + 2]);
+        let last = words.0.len() - 1;
+        for word in &mut words.0[1..last] {
+            *word = match random.below(3) {
+                0 => random.bits(),
+                1 => random.below(3) as u64,
+                _ => 0x8000_0000 + random.bits() % 4_000,
+            };
+        }
+        words.0[1] = random.pick(&[0, 1, 1, 1, 2, 3]);
+        let piece = cases::tape(&mut random, 8);
+        let mut out = vec![0xA5; 11 * piece.len() + 7];
+        let answer = match random.below(4) {
+            0 => words.close(&mut out),
+            _ => words.feed(&piece, &mut out),
+        };
+        if answer[0] != 0 {
+            refusals += 1;
+            assert!(answer[2] == 0 && out.iter().all(|&byte| byte == 0xA5), "{:?}", words.0);
+        }
+    }
+    assert!(refusals >= 20_000);
 }
 
 fn galleys(comparison: &mut Comparison) {
@@ -220,10 +282,13 @@ fn each_byte_set(bytes: &[u8], value: u8, mut take: impl FnMut(&[u8])) {
 
 /// The cases are worth their number: each answer that small inputs can get was met often.
 fn every_number_is_met(comparison: &Comparison) {
-    let numbers: [(&str, &[usize]); 10] = [
+    let numbers: [(&str, &[usize]); 13] = [
         ("read_tape, 4 fonts", &[0, 2, 3, 4, 5, 6, 7, 8, 9, 10, 12]),
         ("read_tape, 8 fonts", &[0, 2, 3, 4, 5, 6, 7, 8, 9, 10, 12]),
         ("read_tape, no machine", &[50]),
+        ("start", &[0, 50]),
+        ("feed", &[0, 2, 3, 4, 5, 6, 7, 8, 9, 10, 12, 13]),
+        ("close", &[0, 2, 3, 4, 5, 6, 7, 8, 9, 10, 12, 13]),
         ("check_galley", &[0, 41]),
         ("read_back", &[0, 41, 11]),
         ("write_dvi", &[0, 41, 43, 42]),

@@ -76,6 +76,51 @@ static void tapes(void)
     expect("a tilt on the 4-font machine", SP_ILLEGAL_CODE, 3, 0);
 }
 
+/* The tape cut in two after `cut` bytes, with no word and no byte written beside the lent ones. */
+static void cut_tape(size_t cut)
+{
+    uint64_t words[SP_TAPE_WORDS + 2];
+    uint8_t joined[sizeof galley + 1] = {0};
+    size_t at = 0;
+    words[0] = words[SP_TAPE_WORDS + 1] = 7;
+    sp_new_tape(words + 1);
+    sp_start(words + 1, 8, answer);
+    expect("start", SP_ACCEPTED, 0, 0);
+    sp_feed(words + 1, tape, cut, joined, sizeof galley, answer);
+    expect_true("first piece", answer[0] == SP_ACCEPTED);
+    at += answer[2];
+    sp_feed(words + 1, tape + cut, sizeof tape - cut, joined + at, sizeof galley - at, answer);
+    expect_true("second piece", answer[0] == SP_ACCEPTED);
+    at += answer[2];
+    sp_close(words + 1, joined + at, 6, answer);
+    expect("room for End", SP_GALLEY_ROOM, 7, 0);
+    sp_close(words + 1, joined + at, 7, answer);
+    expect("close", SP_ACCEPTED, 0, 7);
+    expect_true("the joined galley", memcmp(joined, galley, sizeof galley) == 0 && joined[sizeof galley] == 0);
+    expect_true("the words beside", words[0] == 7 && words[SP_TAPE_WORDS + 1] == 7);
+}
+
+static void running_tapes(void)
+{
+    uint64_t words[SP_TAPE_WORDS];
+    size_t cut;
+    for (cut = 0; cut <= sizeof tape; cut++)
+        cut_tape(cut);
+    sp_new_tape(words);
+    sp_feed(words, tape, sizeof tape, room, sizeof room, answer);
+    expect("piece before a start", SP_NOT_STARTED, 0, 0);
+    sp_close(words, room, sizeof room, answer);
+    expect("close before a start", SP_NOT_STARTED, 0, 0);
+    sp_start(words, 5, answer);
+    expect("start of no machine", SP_NO_MACHINE, 0, 0);
+    sp_start(words, 4, answer);
+    expect("start of the 4-font machine", SP_ACCEPTED, 0, 0);
+    sp_feed(words, tape, sizeof tape, room, sizeof room, answer);
+    expect("a tilt in a piece", SP_ILLEGAL_CODE, 3, 0);
+    sp_close(words, room, sizeof room, answer);
+    expect("the refusal repeated", SP_ILLEGAL_CODE, 3, 0);
+}
+
 static void galleys(void)
 {
     int32_t character[4] = {7, 7, 7, 7};
@@ -150,6 +195,7 @@ static void dvi_files(void)
 
 static void lengths(void)
 {
+    uint64_t words[SP_TAPE_WORDS];
     uint8_t *zeros = calloc(SP_DVI_LIMIT + 1, 1);
     if (!zeros)
         abort();
@@ -157,6 +203,12 @@ static void lengths(void)
     expect("the longest tape", SP_NO_STOP, SP_TAPE_LIMIT, 0);
     sp_read_tape(zeros, SP_TAPE_LIMIT + 1, 8, room, sizeof room, answer);
     expect("a longer tape", SP_TAPE_TOO_LONG, 0, 0);
+    sp_new_tape(words);
+    sp_start(words, 8, answer);
+    sp_feed(words, zeros, SP_TAPE_LIMIT, room, sizeof room, answer);
+    expect("the longest piece", SP_ACCEPTED, 0, 0);
+    sp_feed(words, zeros, 1, room, sizeof room, answer);
+    expect("a piece more", SP_TAPE_TOO_LONG, 0, 0);
     sp_check_galley(zeros, SP_GALLEY_LIMIT, answer);
     expect("the longest galley", SP_GALLEY_MALFORMED, 0, 0);
     sp_check_galley(zeros, SP_GALLEY_LIMIT + 1, answer);
@@ -214,6 +266,15 @@ static void heights(void)
 static void nulls(void)
 {
     int32_t character[4];
+    uint64_t words[SP_TAPE_WORDS];
+    sp_new_tape(words);
+    sp_start(words, 8, answer);
+    sp_feed(words, NULL, 0, NULL, 0, answer);
+    expect("null piece", SP_ACCEPTED, 0, 0);
+    sp_feed(words, tape, sizeof tape, NULL, 0, answer);
+    expect("null buffer for a piece", SP_GALLEY_ROOM, 22, 0);
+    sp_close(words, NULL, 0, answer);
+    expect("null buffer for End", SP_NO_STOP, 0, 0);
     sp_read_tape(NULL, 0, 8, NULL, 0, answer);
     expect("null tape", SP_NO_STOP, 0, 0);
     sp_read_tape(tape, sizeof tape, 8, NULL, 0, answer);
@@ -252,6 +313,7 @@ int main(void)
 {
     make_files();
     tapes();
+    running_tapes();
     galleys();
     conversions();
     reprints();

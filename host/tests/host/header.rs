@@ -91,6 +91,7 @@ fn the_header_has_the_package_s_numbers() {
         ("SP_ITEM_LIMIT", spatecanter::ITEM_LIMIT),
         ("SP_HEIGHT_LIMIT", spatecanter::HEIGHT_LIMIT as usize),
         ("SP_DVI_HEIGHT_LIMIT", spatecanter::DVI_HEIGHT_LIMIT as usize),
+        ("SP_TAPE_WORDS", spatecanter::ffi::TAPE_WORDS),
     ];
     numbers.extend(limits.map(|(name, limit)| (name.to_string(), limit)));
     let names: Vec<&String> = numbers.keys().collect();

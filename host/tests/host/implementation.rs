@@ -24,6 +24,14 @@ pub struct Implementation {
     pub reprint: FillBoth,
     pub to_new: Fill,
     pub to_old: Fill,
+    pub new_tape: fn() -> Box<dyn RunningTape>,
+}
+
+/// A running tape of one implementation.
+pub trait RunningTape {
+    fn start(&mut self, machine: u32) -> Answer;
+    fn feed(&mut self, piece: &[u8], out: &mut [u8]) -> Answer;
+    fn close(&mut self, out: &mut [u8]) -> Answer;
 }
 
 /// The plain reading, with buffers.
@@ -51,7 +59,22 @@ pub const PLAIN: Implementation = Implementation {
     },
     to_new: |old, new| filled(plain::to_new(old), new, 44),
     to_old: |new, old| filled(plain::to_old(new), old, 44),
+    new_tape: || Box::new(plain::RunningTape::new()),
 };
+
+impl RunningTape for plain::RunningTape {
+    fn start(&mut self, machine: u32) -> Answer {
+        filled(self.start(machine), &mut [], 12)
+    }
+
+    fn feed(&mut self, piece: &[u8], out: &mut [u8]) -> Answer {
+        filled(self.feed(piece, out.len()), out, 12)
+    }
+
+    fn close(&mut self, out: &mut [u8]) -> Answer {
+        filled(self.close(out.len()), out, 12)
+    }
+}
 
 /// Puts bytes into a buffer; `no_room` is the refusal's number where they don't fit.
 fn filled(result: Result<Vec<u8>, plain::Refused>, buffer: &mut [u8], no_room: usize) -> Answer {
@@ -74,7 +97,22 @@ pub const QUICK: Implementation = Implementation {
     reprint: quick::reprint,
     to_new: quick::to_new,
     to_old: quick::to_old,
+    new_tape: || Box::new(quick::RunningTape::new()),
 };
+
+impl RunningTape for quick::RunningTape {
+    fn start(&mut self, machine: u32) -> Answer {
+        self.start(machine)
+    }
+
+    fn feed(&mut self, piece: &[u8], out: &mut [u8]) -> Answer {
+        self.feed(piece, out)
+    }
+
+    fn close(&mut self, out: &mut [u8]) -> Answer {
+        self.close(out)
+    }
+}
 
 /// The library by its C interface, with a guard on both sides of every answer.
 pub const LIBRARY: Implementation = Implementation {
@@ -140,7 +178,51 @@ pub const LIBRARY: Implementation = Implementation {
             ffi::sp_galley_to_old(new.as_ptr(), new.len(), old.as_mut_ptr(), old.len(), answer)
         })
     },
+    new_tape: || {
+        let mut tape = Words([GUARD; ffi::TAPE_WORDS + 2]);
+        unsafe { ffi::sp_new_tape(tape.lent()) };
+        tape.is_guarded();
+        Box::new(tape)
+    },
 };
+
+/// The library's running tape, with a guard on both sides.
+pub struct Words(pub [u64; ffi::TAPE_WORDS + 2]);
+
+pub const GUARD: u64 = 0x5A5A_5A5A_5A5A_5A5A;
+
+impl Words {
+    fn lent(&mut self) -> *mut [u64; ffi::TAPE_WORDS] {
+        self.0[1..].as_mut_ptr().cast()
+    }
+
+    fn is_guarded(&self) {
+        assert_eq!([self.0[0], self.0[ffi::TAPE_WORDS + 1]], [GUARD; 2], "written beside the running tape");
+    }
+
+    fn call(&mut self, call: impl FnOnce(*mut [u64; ffi::TAPE_WORDS], *mut Answer)) -> Answer {
+        let tape = self.lent();
+        let answer = answered(|answer| call(tape, answer));
+        self.is_guarded();
+        answer
+    }
+}
+
+impl RunningTape for Words {
+    fn start(&mut self, machine: u32) -> Answer {
+        self.call(|tape, answer| unsafe { ffi::sp_start(tape, machine, answer) })
+    }
+
+    fn feed(&mut self, piece: &[u8], out: &mut [u8]) -> Answer {
+        self.call(|tape, answer| unsafe {
+            ffi::sp_feed(tape, piece.as_ptr(), piece.len(), out.as_mut_ptr(), out.len(), answer)
+        })
+    }
+
+    fn close(&mut self, out: &mut [u8]) -> Answer {
+        self.call(|tape, answer| unsafe { ffi::sp_close(tape, out.as_mut_ptr(), out.len(), answer) })
+    }
+}
 
 fn answered(call: impl FnOnce(*mut Answer)) -> Answer {
     let mut lent = [usize::MAX - 1; 5];

@@ -25,6 +25,7 @@ fn on_a_small_stack(implementation: Implementation) {
     let work = move || {
         let mut comparison = Comparison::new(implementation, 432).with_exact_room();
         tapes(&mut comparison);
+        sessions(&mut comparison);
         galleys(&mut comparison);
         galleys_with_cuts(&mut comparison);
         long_columns(&mut comparison);
@@ -62,6 +63,26 @@ fn tapes(comparison: &mut Comparison) {
     comparison.tape_on_both(&cuts);
     cuts[TAPE_LIMIT - 2] = 0x00;
     comparison.tape_on_both(&cuts);
+}
+
+/// A tape to the limit in pieces of several lengths, and with one byte more; 1 comes before a fault of its piece.
+fn sessions(comparison: &mut Comparison) {
+    let tape = yearbook(Machine::Eight, 7, TAPE_LIMIT);
+    for length in [TAPE_LIMIT, 65_536, 4_096, 511] {
+        let mut pieces: Vec<&[u8]> = tape.chunks(length).collect();
+        comparison.session(&pieces, 8);
+        pieces.push(&[]);
+        comparison.session(&pieces, 8);
+        pieces.push(&[0]);
+        comparison.session(&pieces, 8);
+    }
+    comparison.session(&[&tape[..1], &tape], 8);
+    let flashes = [&[0x40, 0xEF, 0x52][..], &vec![0x2A; TAPE_LIMIT - 4], &[0x49]].concat();
+    comparison.session(&[&flashes], 4);
+    comparison.session(&[&flashes, &[0xFF]], 4);
+    comparison.session(&flashes.chunks(1_000).collect::<Vec<_>>(), 8);
+    let cuts = [0x40, 0x4B].repeat(TAPE_LIMIT / 2);
+    comparison.session(&cuts.chunks(999).collect::<Vec<_>>(), 8);
 }
 
 fn galleys(comparison: &mut Comparison) {

@@ -3,7 +3,7 @@
 mod call;
 mod text;
 
-use crate::implementation::{Implementation, LIBRARY, PLAIN, QUICK};
+use crate::implementation::{Implementation, RunningTape, LIBRARY, PLAIN, QUICK};
 use call::{Call, Given};
 use std::fs;
 use std::io::Write;
@@ -30,22 +30,45 @@ fn every_case_gives_what_is_written() {
 /// Runs the cases of a file on each implementation and gives their number. A fault names its line.
 fn run(file: &str, text: &str, faults: &mut Vec<String>) -> usize {
     let mut cases = 0;
+    let mut session = Session::default();
     for (index, line) in text.lines().enumerate() {
         let place = format!("{file}:{}", index + 1);
         match Case::read(line) {
+            Ok(None) if line.is_empty() => std::mem::take(&mut session).run(faults),
             Ok(None) => {}
             Ok(Some(case)) => {
                 cases += 1;
-                for them in [PLAIN, LIBRARY, QUICK] {
-                    if let Err(fault) = case.run(&them) {
-                        faults.push(format!("{place}: {}: {fault}", them.name));
-                    }
-                }
+                session.0.push((place, case));
             }
             Err(fault) => faults.push(format!("{place}: {fault}")),
         }
     }
+    session.run(faults);
     cases
+}
+
+/// The cases between two empty lines, with their places: they share a running tape.
+#[derive(Default)]
+struct Session(Vec<(String, Case)>);
+
+impl Session {
+    /// Runs the cases on each implementation. Where a case has no room, the buffer is just as long as needed, and
+    /// then longer. A case is told once.
+    fn run(self, faults: &mut Vec<String>) {
+        for them in [PLAIN, LIBRARY, QUICK] {
+            let mut told = vec![false; self.0.len()];
+            for (spare, filler) in [(0, 0xA5), (100, 0x5A)] {
+                let mut tape = (them.new_tape)();
+                for ((place, case), told) in self.0.iter().zip(&mut told) {
+                    if let Err(fault) = case.run(&them, &mut *tape, spare, filler) {
+                        if !std::mem::replace(told, true) {
+                            faults.push(format!("{place}: {}: {fault}", them.name));
+                        }
+                    }
+                }
+            }
+        }
+    }
 }
 
 /// A call, the buffers that are lent to it, and what it gives.
@@ -83,14 +106,14 @@ impl Case {
         Ok(Some(Case { call, buffers, given }))
     }
 
-    /// Without a room the buffer is just as long as needed, and then longer.
-    fn run(&self, them: &Implementation) -> Result<(), String> {
-        self.run_with(them, 0, 0xA5)?;
-        self.run_with(them, 100, 0x5A)
-    }
-
     /// Runs the case with so much spare room, in buffers full of one byte.
-    fn run_with(&self, them: &Implementation, spare: usize, filler: u8) -> Result<(), String> {
+    fn run(
+        &self,
+        them: &Implementation,
+        tape: &mut dyn RunningTape,
+        spare: usize,
+        filler: u8,
+    ) -> Result<(), String> {
         let room = |buffer: &Buffer| buffer.room.unwrap_or(buffer.bytes.len() + spare);
         let mut lent: Vec<Vec<u8>> =
             self.buffers.iter().map(|buffer| vec![filler; room(buffer) + 2 * GUARD]).collect();
@@ -99,7 +122,7 @@ impl Case {
             let end = lent.len() - GUARD;
             slices.push(&mut lent[GUARD..end]);
         }
-        let given = (self.call.run)(them, &mut slices);
+        let given = (self.call.run)(them, tape, &mut slices);
         if given != self.given {
             return Err(format!("{given:?} in place of {:?}", self.given));
         }
@@ -143,6 +166,8 @@ fn faults_name_their_lines() {
         ("read_tape machine=8 tape= n=0 -> 9 0 0", &["a:1: `n` has no meaning"]),
         ("check_galley galley= -> 41 0 0 dvi=", &["a:1: `dvi` has no meaning"]),
         ("read galley= -> 41 0 0", &["a:1: there is no operation `read`"]),
+        ("start machine=8 -> 0 0 0\nclose -> 9 0 0\n\nclose -> 13 0 0", &[]),
+        ("start machine=8 -> 0 0 0\n\nclose -> 9 0 0", &["a:3: plain", "a:3: library", "a:3: quick"]),
     ] {
         let mut faults = Vec::new();
         run("a", text, &mut faults);

@@ -13,7 +13,8 @@ use Rattle.octets.specs.AnswerLaws.{gives}
 use Rattle.galley_file.specs.declared.form.Form.the-variants.{New}
 use Rattle.galley_file.specs.Galley.{fields}
 use Rattle.tape.specs.Tape.{run}
-use Rattle.tape.proofs.Results.{read-fault, read-cut, read-open, needed, read-short, read-whole, fields-counted, filled}
+use Rattle.tape.specs.ResultLaws.{read-fault, read-cut, read-open, needed, read-short, read-whole, fields-counted}
+use Rattle.tape.proofs.Results.{filled}
 use Rattle.tape.proofs.read_from.Statement.{statement}
 use Rattle.tape.proofs.read_from.Tie as tie
 

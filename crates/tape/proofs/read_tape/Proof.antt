@@ -1,27 +1,14 @@
 -- `tape::read_tape` meets its contract: 1 over the whole tape, then 50, and then the tape read from the start of its machine.
 -- Assumes nothing.
-use mathlib.Core.Path.{_≡_, refl}
-use mathlib.Core.Option.{none, some}
-use Prim.Native.Nat.{ℕ}
+use mathlib.Core.Path.{refl}
 use borrow.Author.Needs.{needs}
-use borrow.Author.Tests.{eq-eqb, ne-eqb}
 use lib.ListN.{length}
 use Rattle.octets.specs.AnswerLaws.{gives, gives-same}
 use Rattle.typesetter.specs.declared.code.Machine.the-variants.{Four, Eight}
-use Rattle.tape.specs.Tape.{machineOf}
 use Rattle.typesetter.specs.SoundLaws.{start-sound}
-use Rattle.tape.proofs.Results.{long-tape, other-machine, on-machine}
+use Rattle.tape.specs.ResultLaws.{machine-four, machine-eight, machine-none, long-tape, other-machine, on-machine}
 use Rattle.tape.proofs.read_tape.Statement.{statement}
 use Rattle.tape.proofs.read_tape.Tie as tie
-
-four : (n : ℕ) → n ≡ 4 → machineOf n ≡ some Four
-four n e = rw (eq-eqb n 4 e)
-
-eight : (n : ℕ) → (n ≡ 4 → ⊥) → n ≡ 8 → machineOf n ≡ some Eight
-eight n f e = rw (ne-eqb n 4 f, eq-eqb n 8 e)
-
-neither : (n : ℕ) → (n ≡ 4 → ⊥) → (n ≡ 8 → ⊥) → machineOf n ≡ none
-neither n f e = rw (ne-eqb n 4 f, ne-eqb n 8 e)
 
 returns : tie.Need-returns
 returns c =
@@ -41,7 +28,7 @@ returns-2 : tie.Need-returns-2
 returns-2 c =
     let t = c .before .before .before .before .before in
     let a = t .before .before .before .before .args in
-    gives-same (on-machine (a .tape .now) (a .machine) (length (a .galley .now)) (t .before .if1 .left) (four (a .machine) (t .if2 .taken)) (c .before .before .before .before .at-start .ensures))
+    gives-same (on-machine (a .tape .now) (a .machine) (length (a .galley .now)) (t .before .if1 .left) (machine-four (a .machine) (t .if2 .taken)) (c .before .before .before .before .at-start .ensures))
     (c .before .before .read-from .ensures)
 
 at-start-requires-2 : tie.Need-at-start-requires-2
@@ -57,13 +44,13 @@ returns-3 : tie.Need-returns-3
 returns-3 c =
     let t = c .before .before .before .before .before in
     let a = t .before .before .before .before .before .args in
-    gives-same (on-machine (a .tape .now) (a .machine) (length (a .galley .now)) (t .before .before .if1 .left) (eight (a .machine) (t .before .if2 .left) (t .if3 .taken)) (c .before .before .before .before .at-start2 .ensures))
+    gives-same (on-machine (a .tape .now) (a .machine) (length (a .galley .now)) (t .before .before .if1 .left) (machine-eight (a .machine) (t .before .if2 .left) (t .if3 .taken)) (c .before .before .before .before .at-start2 .ensures))
     (c .before .before .read-from2 .ensures)
 
 returns-4 : tie.Need-returns-4
 returns-4 c =
     let a = c .before .before .before .before .before .args in
-    gives (other-machine (a .tape .now) (a .machine) (length (a .galley .now)) (c .before .before .if1 .left) (neither (a .machine) (c .before .if2 .left) (c .if3 .left))) refl refl
+    gives (other-machine (a .tape .now) (a .machine) (length (a .galley .now)) (c .before .before .if1 .left) (machine-none (a .machine) (c .before .if2 .left) (c .if3 .left))) refl refl
 
 pub read-tape-spec : {M : Type 1} → statement M
 read-tape-spec =

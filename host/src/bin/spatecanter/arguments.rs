@@ -23,6 +23,8 @@ pub struct Arguments {
     pub from: Option<OsString>,
     /// --to
     pub to: Option<OsString>,
+    /// --pieces
+    pub pieces: Option<OsString>,
     /// --force
     pub force: bool,
 }
@@ -92,6 +94,7 @@ impl Arguments {
             "--fonts" => Some(&mut self.fonts),
             "--from" => Some(&mut self.from),
             "--to" => Some(&mut self.to),
+            "--pieces" => Some(&mut self.pieces),
             _ => None,
         }
     }

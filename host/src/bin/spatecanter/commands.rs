@@ -9,7 +9,7 @@ use crate::output::{self, named_after, Draft, Place};
 use crate::plot::{self, Picture};
 use crate::summary::Summary;
 use crate::text::{self, counted};
-use crate::{help, options, progress};
+use crate::{help, options, pieces, progress};
 use spatecanter::galley::characters;
 use spatecanter::{
     sheet, Machine, Reprint, DVI_LIMIT, GALLEY_LIMIT, OLD_GALLEY_LIMIT, SHEET_LIMIT, TAPE_LIMIT,
@@ -28,8 +28,8 @@ pub struct Command {
 pub const COMMANDS: [Command; 9] = [
     Command {
         name: "read",
-        usage: "read TAPE [--machine 4|8] [-o GALLEY] [--force]",
-        options: &["--machine", "-o", "--force"],
+        usage: "read TAPE [--machine 4|8] [--pieces N] [-o GALLEY] [--force]",
+        options: &["--machine", "--pieces", "-o", "--force"],
         help: help::READ,
         run: read,
     },
@@ -82,12 +82,21 @@ const PLOT_USAGE: &str = "plot TAPE|GALLEY [--machine 4|8] [--fonts NAMES] [--pa
 const WIDTHS_LIMIT: usize = 33_554_432;
 
 fn read(arguments: &Arguments) -> Result<(), Failure> {
-    let machine = options::machine(arguments)?;
-    let place = place(arguments, &[&arguments.input], "galley")?;
-    let tape = input::read(&arguments.input, TAPE_LIMIT)?;
-    let galley = galley_of(&arguments.input, &tape, machine)?;
-    place.write(&galley)?;
-    place.tell(&counted(characters(&galley).count(), "character"));
+    let name = &arguments.input;
+    let named = options::machine(arguments)?;
+    let longest = options::pieces(arguments)?;
+    let place = place(arguments, &[name], "galley")?;
+    if name != "-" && longest.is_none() {
+        let tape = input::read(name, TAPE_LIMIT)?;
+        let galley = galley_of(name, &tape, named)?;
+        place.write(&galley)?;
+        place.tell(&counted(characters(&galley).count(), "character"));
+        return Ok(());
+    }
+    let machine = named.unwrap_or(Machine::Eight);
+    let reading = pieces::read(name, machine, longest.unwrap_or(pieces::LONGEST), &place)?;
+    hint_at_four_fonts(name, named, reading.characters, reading.has_tilt);
+    place.tell(&counted(reading.characters, "character"));
     Ok(())
 }
 
@@ -249,14 +258,19 @@ fn galley_of(name: &OsStr, tape: &[u8], named: Option<Machine>) -> Result<Vec<u8
     let machine = named.unwrap_or(Machine::Eight);
     let galley = progress::during("reading the tape", || spatecanter::read_tape(tape, machine))
         .map_err(|refusal| explain::tape(name, tape, machine, refusal))?;
-    if named.is_none() && explain::may_be_of_four_fonts(tape, &galley) {
+    hint_at_four_fonts(name, named, characters(&galley).count(), explain::has_tilt(tape));
+    Ok(galley)
+}
+
+/// A tape that the 8-font machine accepts may be one of the 4-font machine, if it flashes and never tilts.
+fn hint_at_four_fonts(name: &OsStr, named: Option<Machine>, characters: usize, has_tilt: bool) {
+    if named.is_none() && characters > 0 && !has_tilt {
         say(&format!(
             "spatecanter: {} has no tilt code (4E, 4F). If it was made for the 4-font machine, its fonts are\n  \
              others: use --machine 4. With --machine 8 this hint is left out.",
             shown(name)
         ));
     }
-    Ok(galley)
 }
 
 /// A galley that the check accepts, and its number of characters.

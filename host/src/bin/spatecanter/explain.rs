@@ -4,7 +4,7 @@ use crate::failure::Failure;
 use crate::input::shown;
 use crate::text::{counted, grouped};
 use spatecanter::galley::characters;
-use spatecanter::{number, Machine, Refusal, ITEM_LIMIT};
+use spatecanter::{number, Machine, Refusal, RunningTape, ITEM_LIMIT};
 use std::ffi::OsStr;
 
 /// The form of a galley: its characters have tag 1 and two bytes for the height, or tag 7 and four.
@@ -14,22 +14,55 @@ pub enum Form {
     New,
 }
 
-pub fn tape(name: &OsStr, tape: &[u8], machine: Machine, refusal: Refusal) -> Failure {
+/// Some codes of a tape, where they start, and the running tape before them.
+#[derive(Clone, Copy)]
+pub struct Stretch<'a> {
+    pub before: &'a RunningTape,
+    pub start: usize,
+    pub codes: &'a [u8],
+}
+
+impl Stretch<'_> {
+    /// The code at a place of the tape.
+    fn code(self, place: usize) -> Option<u8> {
+        self.codes.get(place - self.start).copied()
+    }
+
+    /// The carriage and the height before a place: those of one more character there, in size 7. A parked
+    /// carriage has to leave the switch first.
+    fn standing(self, place: usize) -> Option<(i32, i32)> {
+        let mut tape = self.before.clone();
+        tape.feed(&self.codes[..place - self.start]).ok()?;
+        let ends: [&[u8]; 2] = [&[0x50, 0x45, 0x01], &[0x47, 0xEF, 0x50, 0x45, 0x01]];
+        let field = ends.iter().find_map(|end| tape.clone().feed(end).ok())?;
+        let character = characters(&field).next()?;
+        Some((character.x, character.height))
+    }
+}
+
+pub fn tape(name: &OsStr, codes: &[u8], machine: Machine, refusal: Refusal) -> Failure {
+    let mut before = RunningTape::new();
+    before.start(machine);
+    stretch(name, Stretch { before: &before, start: 0, codes }, machine, refusal)
+}
+
+/// A refusal at a place in these codes, or at their end.
+pub fn stretch(name: &OsStr, codes: Stretch, machine: Machine, refusal: Refusal) -> Failure {
     let mut lines = vec![format!("{}: {refusal}", shown(name))];
     if refusal.number != number::TAPE_TOO_LONG {
-        lines.push(match tape.get(refusal.place) {
-            Some(&code) => format!("{}: byte {code:02X}, {}", offset(refusal.place), code_in_words(code)),
+        let code = codes.code(refusal.place);
+        lines.push(match code {
+            Some(code) => format!("{}: byte {code:02X}, {}", offset(refusal.place), code_in_words(code)),
             None => format!("{}: the end of the tape", offset(refusal.place)),
         });
-        lines.push(format!("  expected: {}", expected_code(tape, machine, refusal)));
+        lines.push(format!("  expected: {}", expected_code(codes, code.unwrap_or(0), machine, refusal)));
     }
     Failure::Refused(lines.join("\n"))
 }
 
-/// Whether a tape that the 8-font machine accepts may be one of the 4-font machine: it flashes, and never
-/// tilts.
-pub fn may_be_of_four_fonts(tape: &[u8], galley: &[u8]) -> bool {
-    characters(galley).next().is_some() && !tape.iter().any(|code| matches!(code, 0x4E | 0x4F))
+/// Whether there is a tilt among these codes.
+pub fn has_tilt(codes: &[u8]) -> bool {
+    codes.iter().any(|code| matches!(code, 0x4E | 0x4F))
 }
 
 pub fn galley(name: &OsStr, galley: &[u8], refusal: Refusal) -> Failure {
@@ -115,14 +148,14 @@ fn escape_size(code: u8) -> i32 {
     i32::from(!code & 127)
 }
 
-fn expected_code(tape: &[u8], machine: Machine, refusal: Refusal) -> String {
+fn expected_code(codes: Stretch, code: u8, machine: Machine, refusal: Refusal) -> String {
     let words = match refusal.number {
-        number::ILLEGAL_CODE => expected_legal_code(machine, tape[refusal.place]),
+        number::ILLEGAL_CODE => expected_legal_code(machine, code),
         number::BEFORE_INITIALIZE => "initialize (40), after nothing but 00",
         number::AFTER_STOP => "nothing but 00, since stop was read",
         number::PARKED => "an escape of 16 (EF), forward, since the carriage is parked",
         number::NO_SIZE => "a size (50 to 5E) before the first flash",
-        number::OUT_OF_RANGE => return expected_motion(tape, machine, refusal.place),
+        number::OUT_OF_RANGE => return expected_motion(codes, code, refusal.place),
         number::UPPER_HALF => "a flash of at most 45 (2D), or lower half (45) before it",
         number::NO_STOP => "stop (49)",
         number::AFTER_CUT => "initialize (40), after nothing but 00, since a cut was read",
@@ -143,8 +176,8 @@ fn expected_legal_code(machine: Machine, code: u8) -> &'static str {
 }
 
 /// What a motion has to keep to, and where it would go.
-fn expected_motion(tape: &[u8], machine: Machine, place: usize) -> String {
-    let (code, standing) = (tape[place], standing(&tape[..place], machine));
+fn expected_motion(codes: Stretch, code: u8, place: usize) -> String {
+    let standing = codes.standing(place);
     if code >= 0x80 {
         let way = standing.map_or(String::new(), |(carriage, _)| way(carriage, escape_size(code), 3_239));
         format!("an escape that keeps the carriage in 0 to 3,239{way}")
@@ -158,14 +191,6 @@ fn expected_motion(tape: &[u8], machine: Machine, place: usize) -> String {
 fn way(from: i32, size: i32, most: i32) -> String {
     let to = if from + size > most { from + size } else { from - size };
     format!("; it would go from {from} to {to}")
-}
-
-/// The carriage and the height after the start of a tape: those of one more character, in size 7, read
-/// off the galley of that tape. A parked carriage has to leave the switch first.
-fn standing(start: &[u8], machine: Machine) -> Option<(i32, i32)> {
-    let ends: [&[u8]; 2] = [&[0x50, 0x45, 0x01, 0x49], &[0x47, 0xEF, 0x50, 0x45, 0x01, 0x49]];
-    let galley = ends.iter().find_map(|end| spatecanter::read_tape(&[start, end].concat(), machine).ok())?;
-    characters(&galley).last().map(|character| (character.x, character.height))
 }
 
 /// What is wrong with the first bad field of a galley of this form.

@@ -41,7 +41,7 @@ pub const READ: &str = "\
 Reads a C/A/T tape and writes its galley: every character with its place, font and size, and
 every cut between pages.
 
-Usage: spatecanter read TAPE [--machine 4|8] [-o GALLEY] [--force]
+Usage: spatecanter read TAPE [--machine 4|8] [--pieces N] [-o GALLEY] [--force]
 
 The machine that the tape was made for has 4 or 8 fonts; without --machine, 8. The tape does
 not say which, but one without a tilt code (4E, 4F) may be of 4 fonts: a hint says so, unless
@@ -66,6 +66,12 @@ Numbers, at the place of the byte unless another is said:
    9  the tape ends without stop; at its length
   10  after a cut, a code other than 00 and initialize; or the tape ends there, then at its
       length
+
+Standard input is read in pieces as they come, of at most 65,536 bytes: however long the tape
+takes, only one piece is kept, and on a terminal a line tells how far it is. --pieces N does
+the same for any input, with pieces of at most N bytes. The galley is the same, and so are
+refusals. To standard output the fields of each piece go at once: if the tape is refused then,
+a galley without its End is out, which every command refuses.
 
 Without -o the galley of page.tape is page.tape.galley. --force writes over a file that is
 there already.

@@ -1,4 +1,4 @@
-//! Inputs: files, and - for standard input. Each is read to its limit.
+//! Inputs: files, and - for standard input. Each is read to its limit, or in pieces as it comes.
 
 use crate::failure::Failure;
 use crate::progress;
@@ -27,6 +27,25 @@ pub fn read_while(
         Ok(bytes)
     });
     result.map_err(|error: io::Error| Failure::File(format!("cannot read {}: {error}", shown(name))))
+}
+
+/// Reads an input as it comes, and has `take` take each piece of at most so many bytes.
+pub fn each_piece(
+    name: &OsStr,
+    length: usize,
+    mut take: impl FnMut(&[u8]) -> Result<(), Failure>,
+) -> Result<(), Failure> {
+    let failed = |error: io::Error| Failure::File(format!("cannot read {}: {error}", shown(name)));
+    let mut input = open(name).map_err(failed)?;
+    let mut piece = vec![0; length];
+    loop {
+        match input.read(&mut piece) {
+            Ok(0) => return Ok(()),
+            Ok(length) => take(&piece[..length])?,
+            Err(error) if error.kind() == io::ErrorKind::Interrupted => {}
+            Err(error) => return Err(failed(error)),
+        }
+    }
 }
 
 fn open(name: &OsStr) -> io::Result<Box<dyn Read>> {

@@ -9,6 +9,7 @@ mod help;
 mod input;
 mod options;
 mod output;
+mod pieces;
 mod plot;
 mod progress;
 mod signals;

@@ -5,7 +5,7 @@ use crate::commands::{CONVERT_USAGE, REPRINT_USAGE};
 use crate::explain::Form;
 use crate::failure::Failure;
 use crate::text::grouped;
-use spatecanter::{Machine, HEIGHT_LIMIT};
+use spatecanter::{Machine, HEIGHT_LIMIT, TAPE_LIMIT};
 use std::ffi::OsStr;
 use std::ops::{Range, RangeInclusive};
 
@@ -23,6 +23,21 @@ pub fn machine(arguments: &Arguments) -> Result<Option<Machine>, Failure> {
         _ => Err(Failure::Usage(format!(
             "--machine {} is no machine: it is 4 or 8, the number of fonts",
             word.to_string_lossy()
+        ))),
+    }
+}
+
+/// How many bytes --pieces allows in a piece.
+pub fn pieces(arguments: &Arguments) -> Result<Option<usize>, Failure> {
+    let Some(word) = &arguments.pieces else {
+        return Ok(None);
+    };
+    match word.to_str().and_then(|text| text.parse().ok()) {
+        Some(length) if (1..=TAPE_LIMIT).contains(&length) => Ok(Some(length)),
+        _ => Err(Failure::Usage(format!(
+            "--pieces {} is no length of a piece: it is a number of bytes, 1 to {}",
+            word.to_string_lossy(),
+            grouped(TAPE_LIMIT)
         ))),
     }
 }

@@ -2,6 +2,7 @@
 
 mod outputs;
 mod pictures;
+mod pieces;
 mod refusals;
 mod usage;
 mod ways;

@@ -64,7 +64,7 @@ pub enum Item {
 }
 
 impl Item {
-    fn field(&self, form: Form) -> Vec<u8> {
+    pub fn field(&self, form: Form) -> Vec<u8> {
         match self {
             Item::Character(character) => character.field(form),
             Item::Cut => field(6, &[]),

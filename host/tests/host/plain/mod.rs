@@ -5,12 +5,14 @@
 mod convert;
 mod dvi;
 mod galley;
+mod running;
 mod tape;
 mod writer;
 
 pub use convert::{to_new, to_old};
 pub use dvi::read_dvi;
 pub use galley::{check_galley, read_back, Character};
+pub use running::RunningTape;
 pub use tape::read_tape;
 pub use writer::write_dvi;
 

@@ -3,13 +3,14 @@
 use super::galley::{galley_of, Character, Item, NEW};
 use super::Refused;
 
-struct Machine {
+#[derive(Clone)]
+pub struct Machine {
     /// 4 or 8.
     fonts: u32,
     begun: bool,
     /// After a cut, until the next initialize.
-    cut: bool,
-    stopped: bool,
+    pub cut: bool,
+    pub stopped: bool,
     parked: bool,
     carriage: i32,
     height: i32,
@@ -29,22 +30,7 @@ pub fn read_tape(tape: &[u8], fonts: u32) -> Result<Vec<u8>, Refused> {
     if fonts != 4 && fonts != 8 {
         return Err((50, 0));
     }
-    let mut machine = Machine {
-        fonts,
-        begun: false,
-        cut: false,
-        stopped: false,
-        parked: false,
-        carriage: 0,
-        height: 0,
-        escape_backward: false,
-        lead_backward: false,
-        upper_half: false,
-        upper_rail: false,
-        upper_mag: false,
-        tilt_down: false,
-        size_index: None,
-    };
+    let mut machine = Machine::at_start(fonts);
     let mut items: Vec<Item> = Vec::new();
     for (place, &code) in tape.iter().enumerate() {
         match machine.take(code) {
@@ -63,8 +49,28 @@ pub fn read_tape(tape: &[u8], fonts: u32) -> Result<Vec<u8>, Refused> {
 }
 
 impl Machine {
+    /// Before the first code of a tape.
+    pub fn at_start(fonts: u32) -> Machine {
+        Machine {
+            fonts,
+            begun: false,
+            cut: false,
+            stopped: false,
+            parked: false,
+            carriage: 0,
+            height: 0,
+            escape_backward: false,
+            lead_backward: false,
+            upper_half: false,
+            upper_rail: false,
+            upper_mag: false,
+            tilt_down: false,
+            size_index: None,
+        }
+    }
+
     /// The effect of one code: a character or a cut, nothing, or a refusal's number.
-    fn take(&mut self, code: u8) -> Result<Option<Item>, usize> {
+    pub fn take(&mut self, code: u8) -> Result<Option<Item>, usize> {
         if code == 0x00 {
             return Ok(None);
         }

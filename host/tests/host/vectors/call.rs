@@ -1,7 +1,7 @@
 //! The operations that directed cases name, with their inputs and buffers named as in include/spatecanter.h.
 
 use super::text::{bytes, number, numbers, Words};
-use crate::implementation::{Answer, Implementation};
+use crate::implementation::{Answer, Implementation, RunningTape};
 
 /// A call of any implementation, with the names of the buffers that are lent to it.
 pub struct Call {
@@ -9,7 +9,7 @@ pub struct Call {
     pub run: Box<Run>,
 }
 
-type Run = dyn Fn(&Implementation, &mut [&mut [u8]]) -> Given;
+type Run = dyn Fn(&Implementation, &mut dyn RunningTape, &mut [&mut [u8]]) -> Given;
 
 impl Call {
     /// The call of an operation with these inputs, which it takes.
@@ -19,6 +19,15 @@ impl Call {
                 let (tape, machine) = (inputs.take("tape", bytes)?, inputs.take("machine", number)?);
                 Call::of(&["galley"], move |them, lent| (them.read_tape)(&tape, machine, lent[0]))
             }
+            "start" => {
+                let machine = inputs.take("machine", number)?;
+                Call::on_tape(&[], move |tape, _| tape.start(machine))
+            }
+            "feed" => {
+                let piece = inputs.take("piece", bytes)?;
+                Call::on_tape(&["out"], move |tape, lent| tape.feed(&piece, lent[0]))
+            }
+            "close" => Call::on_tape(&["out"], |tape, lent| tape.close(lent[0])),
             "check_galley" => {
                 let galley = inputs.take("galley", bytes)?;
                 Call::of(&[], move |them, _| (them.check_galley)(&galley))
@@ -58,7 +67,14 @@ impl Call {
         buffers: &'static [&'static str],
         run: impl Fn(&Implementation, &mut [&mut [u8]]) -> T + 'static,
     ) -> Result<Call, String> {
-        Ok(Call { buffers, run: Box::new(move |them, lent| run(them, lent).into()) })
+        Ok(Call { buffers, run: Box::new(move |them, _, lent| run(them, lent).into()) })
+    }
+
+    fn on_tape(
+        buffers: &'static [&'static str],
+        run: impl Fn(&mut dyn RunningTape, &mut [&mut [u8]]) -> Answer + 'static,
+    ) -> Result<Call, String> {
+        Ok(Call { buffers, run: Box::new(move |_, tape, lent| run(tape, lent).into()) })
     }
 }
 

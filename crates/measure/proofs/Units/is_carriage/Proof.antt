@@ -1,0 +1,19 @@
+-- `measure::Units::is_carriage` meets its contract: the test of the carriage's range.
+-- Assumes nothing.
+use borrow.Author.Needs.{needs}
+use mir.Syntax.{w32}
+use mir.Val.{SFits}
+use Rattle.integers.specs.Parts.{plain}
+use Rattle.measure.proofs.Units.is_carriage.Statement.{statement}
+use Rattle.measure.proofs.Units.is_carriage.Tie as tie
+
+is-within-requires : tie.Need-is-within-requires
+is-within-requires c κs = search needs
+
+returns : tie.Need-returns
+returns c =
+    let f : SFits w32 (c .before .before .args .self .0) = search needs in
+    rw (plain f) at (c .is-within .ensures)
+
+pub is-carriage-spec : {M : Type 1} → statement M
+is-carriage-spec = tie.close (tie.spec is-within-requires returns)

@@ -1,0 +1,60 @@
+-- `running::fed` meets its contract: by the phase.
+-- Assumes nothing.
+use mathlib.Core.Path.{refl}
+use borrow.Author.Needs.{needs}
+use lib.ListN.{length}
+use Rattle.running.specs.RunningLaws.{feed-phase, leaves-same}
+use Rattle.running.proofs.Replies.{refuses}
+use Rattle.running.proofs.fed.Statement.{statement}
+use Rattle.running.proofs.fed.Tie as tie
+
+enum-told : tie.Need-enum-told
+enum-told c = search needs
+
+refusing-requires : tie.Need-refusing-requires
+refusing-requires c κs = search needs
+
+enum-known-phase : tie.Need-enum-known-phase
+enum-known-phase c = search needs
+
+refusing-requires-2 : tie.Need-refusing-requires-2
+refusing-requires-2 c κs = search needs
+
+enum-told-2 : tie.Need-enum-told-2
+enum-told-2 c = search needs
+
+feed-open-requires : tie.Need-feed-open-requires
+feed-open-requires c κs = search needs
+
+returns : tie.Need-returns
+returns c =
+    let a = c .before .before .before .before .before .args in
+    refuses (a .tape) (feed-phase (a .tape) (a .piece .now) (length (a .out .now)) (c .before .enum-told .given .1)) (c .refusing .ensures) refl
+
+returns-2 : tie.Need-returns-2
+returns-2 c =
+    let a = c .before .before .before .before .before .before .args in
+    refuses (a .tape) (feed-phase (a .tape) (a .piece .now) (length (a .out .now)) (c .before .before .phase .given .1)) (c .refusing2 .ensures) refl
+
+same-length : tie.Need-same-length
+same-length c = search needs
+
+returns-3 : tie.Need-returns-3
+returns-3 c =
+    let a = c .before .before .before .before .before .before .before .before .args in
+    leaves-same (feed-phase (a .tape) (a .piece .now) (length (a .out .now)) (c .before .before .before .before .enum-told2 .given .1)) (c .before .before .feed-open .ensures)
+
+pub fed-spec : {M : Type 1} → statement M
+fed-spec =
+    tie.close
+    (tie.spec
+    enum-told
+    refusing-requires
+    enum-known-phase
+    refusing-requires-2
+    enum-told-2
+    feed-open-requires
+    returns
+    returns-2
+    same-length
+    returns-3)

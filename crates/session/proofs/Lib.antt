@@ -1,0 +1,3 @@
+-- What the walks of the thin functions use.
+pub mod Walk
+pub mod Thin

@@ -1,0 +1,98 @@
+-- Sessions: calls on a running tape, one after another (document 02, "From the tape drive").
+--     Call          a start, a piece or the close, and given what it gives
+--     tapeAfter     the running tape after some calls
+--     results       what they give, one after another
+--     output        the bytes that they write, joined
+--     Made          a running tape that these calls alone have made
+--     withoutRoom   the calls of a session that were not refused for room
+--     Piece         some bytes of a tape and the room lent with them; joined, the tape that pieces are cut from
+--     RoomFor       there is room for a piece, and Roomy for each of some
+--     session       a start, the pieces and the close
+use Prim.Native.Nat.{ℕ, _+_, _≤_}
+use mathlib.Core.Path.{_≡_}
+use mathlib.Core.Bool.{Bool, false, cond}
+use mathlib.Core.List.{List, [], _∷_, _++_}
+use lib.Dec.{eqb}
+use lib.ListN.{length}
+use Rattle.octets.specs.Answer.{Result, refusal, written, noGalleyRoom}
+use Rattle.galley_file.specs.declared.form.Form.the-variants.{New}
+use Rattle.galley_file.specs.Galley.{fields}
+use Rattle.typesetter.specs.declared.code.Machine.{Machine}
+use Rattle.typesetter.specs.declared.machine.State.{State}
+use Rattle.typesetter.specs.Machine.{start}
+use Rattle.tape.specs.declared.Ending.the-variants.{Reached}
+use Rattle.tape.specs.Tape.{run}
+use Rattle.tape.specs.TapeLaws.{itemsOn}
+use Rattle.running.specs.declared.Running.{Running}
+use Rattle.running.specs.Running.{Replied, newTape, startOf, feedOf, closeOf}
+
+pub data Call : Type 0 where
+  starting : ℕ → Call  -- on the machine of so many fonts
+  piece : List ℕ → ℕ → Call  -- some bytes, and a buffer of so many
+  closing : ℕ → Call  -- a buffer of so many bytes
+
+abbrev pub given : Running → Call → Replied
+given r (starting machine) = startOf r machine
+given r (piece bs room) = feedOf r bs room
+given r (closing room) = closeOf r room
+
+unfoldable pub tapeAfter : Running → List Call → Running
+tapeAfter r [] = r
+tapeAfter r (c ∷ cs) = tapeAfter (given r c .tape) cs
+
+unfoldable pub results : Running → List Call → List Result
+results r [] = []
+results r (c ∷ cs) = given r c .result ∷ results (given r c .tape) cs
+
+abbrev pub bytesOf : Result → List ℕ
+bytesOf (refusal n place) = []
+bytesOf (written bs) = bs
+
+unfoldable pub output : Running → List Call → List ℕ
+output r [] = []
+output r (c ∷ cs) = bytesOf (given r c .result) ++ output (given r c .tape) cs
+
+-- "one that these calls alone have made"
+pub data Made : Running → Type 0 where
+  new : Made newTape
+  by-call : {r : Running} → Made r → (c : Call) → Made (given r c .tape)
+
+-- ---- refusals for room
+
+abbrev pub isRoom : Result → Bool
+isRoom (refusal n place) = eqb n noGalleyRoom
+isRoom (written bs) = false
+
+unfoldable pub withoutRoom : Running → List Call → List Call
+withoutRoom r [] = []
+withoutRoom r (c ∷ cs) = cond (isRoom (given r c .result)) (withoutRoom (given r c .tape) cs) (c ∷ withoutRoom (given r c .tape) cs)
+
+unfoldable pub withoutRooms : List Result → List Result
+withoutRooms [] = []
+withoutRooms (x ∷ xs) = cond (isRoom x) (withoutRooms xs) (x ∷ withoutRooms xs)
+
+-- ---- a tape, cut at will
+
+pub record Piece : Type 0 where
+  pub codes : List ℕ
+  pub room : ℕ
+
+unfoldable pub joined : List Piece → List ℕ
+joined [] = []
+joined (p ∷ ps) = p .codes ++ joined ps
+
+unfoldable pub pieces : List Piece → List Call
+pieces [] = []
+pieces (p ∷ ps) = piece (p .codes) (p .room) ∷ pieces ps
+
+unfoldable pub session : ℕ → List Piece → ℕ → List Call
+session machine ps room = starting machine ∷ (pieces ps ++ (closing room ∷ []))
+
+-- "room for each piece", after the bytes xs: for the fields of what it sets on this machine, where it has no fault
+abbrev pub RoomFor : Machine → List ℕ → List ℕ → ℕ → Type 0
+RoomFor kind xs p room =
+    (t : State) → run (start kind) 0 (xs ++ p) .ending ≡ Reached t → length (fields New (itemsOn kind (xs ++ p))) ≤ length (fields New (itemsOn kind xs)) + room
+
+pub data Roomy (kind : Machine) : List ℕ → List Piece → Type 0 where
+  none : {xs : List ℕ} → Roomy kind xs []
+  more : {xs : List ℕ} {p : Piece} {ps : List Piece} → RoomFor kind xs (p .codes) (p .room) → Roomy kind (xs ++ p .codes) ps → Roomy kind xs (p ∷ ps)
