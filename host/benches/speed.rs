@@ -133,7 +133,9 @@ fn read_pieces(tape: &[u8], length: usize) -> Contest<'_> {
             for piece in tape.chunks(length) {
                 at += running.feed_into(piece, &mut galley[at..]).unwrap();
             }
-            at + running.close_into(&mut galley[at..]).unwrap()
+            at += running.close_into(&mut galley[at..]).unwrap();
+            done(running.extents());
+            at
         },
         move |galley| {
             let mut running = quick::RunningTape::new();
@@ -143,6 +145,7 @@ fn read_pieces(tape: &[u8], length: usize) -> Contest<'_> {
                 at += running.feed(piece, &mut galley[at..])[2];
             }
             let [number, place, end] = running.close(&mut galley[at..]);
+            done(running.extents());
             [number, place, at + end]
         },
     )

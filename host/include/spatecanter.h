@@ -3,7 +3,7 @@
  * DVI files to sheets; and old galleys to new ones and back. Link with libspatecanter.a, which the script `library`
  * at the root of the repository proves and builds in target/staticlib.
  *
- * ANSWERS. Every function but sp_new_tape fills `answer` with three numbers:
+ * ANSWERS. Every function but sp_new_tape and sp_extents fills `answer` with three numbers:
  *
  *     answer[0]  number  0 if accepted, else the refusal's number (enum sp_number)
  *     answer[1]  place   0 if accepted, else where the input was refused
@@ -67,7 +67,7 @@ extern "C" {
 #define SP_DVI_HEIGHT_LIMIT 65535
 
 /* The words of a running tape. */
-#define SP_TAPE_WORDS       19
+#define SP_TAPE_WORDS       23
 
 /* answer[0]; after the semicolon, what answer[1] then is. "Offset" counts bytes from 0. */
 enum sp_number {
@@ -243,6 +243,15 @@ void sp_feed(uint64_t tape[SP_TAPE_WORDS], const uint8_t *piece, size_t piece_le
 void sp_close(uint64_t tape[SP_TAPE_WORDS],
               uint8_t *out, size_t out_len,
               size_t answer[3]);
+
+/*
+ * The extents of the characters gone out since the last accepted start, over all pages: reach[0] is the farthest
+ * x, in units, and reach[1] the greatest height, in quanta, both at least 0; bit f of fonts[0] is set where font
+ * number f was met, and bit f of fonts[1] where 64 + f was. A refused piece adds nothing, a close keeps them, a
+ * start clears them.
+ */
+void sp_extents(const uint64_t tape[SP_TAPE_WORDS],
+                int32_t reach[2], uint64_t fonts[2]);
 
 #ifdef __cplusplus
 }

@@ -4,7 +4,7 @@
 //! call's slices overlap unless both are read only.
 
 /// The words of a running tape.
-pub const TAPE_WORDS: usize = 19;
+pub const TAPE_WORDS: usize = 23;
 
 extern "C" {
     pub fn sp_read_tape(
@@ -86,4 +86,6 @@ extern "C" {
     );
 
     pub fn sp_close(tape: *mut [u64; TAPE_WORDS], out: *mut u8, out_len: usize, answer: *mut [usize; 3]);
+
+    pub fn sp_extents(tape: *const [u64; TAPE_WORDS], reach: *mut [i32; 2], fonts: *mut [u64; 2]);
 }

@@ -21,6 +21,12 @@ pub struct Character {
     pub code: i32,
 }
 
+/// A font in a size, by its font number, as DVI files name it: C, the font, and the points in two digits.
+pub fn font_name(font_number: i32) -> String {
+    let character = Character { x: 0, height: 0, font_number, code: 1 };
+    format!("C{}{:02}", character.font(), character.points())
+}
+
 /// Point sizes by size index.
 const POINTS: [i32; 15] = [7, 8, 10, 11, 12, 14, 18, 9, 6, 16, 20, 22, 24, 28, 36];
 

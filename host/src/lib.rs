@@ -4,6 +4,7 @@
 //! The operations are those of the proved library `libspatecanter.a`; this package adds safe calls,
 //! readers of galleys and sheets for people, and the command `spatecanter`.
 
+mod extents;
 pub mod ffi;
 pub mod galley;
 mod machine;
@@ -13,6 +14,7 @@ mod running;
 pub mod sample;
 pub mod sheet;
 
+pub use extents::Extents;
 pub use machine::Machine;
 pub use operations::{
     check_galley, galley_to_new, galley_to_new_into, galley_to_old, galley_to_old_into, read_back, read_dvi,

@@ -1,5 +1,6 @@
 //! A tape that comes in pieces.
 
+use crate::extents::Extents;
 use crate::ffi;
 use crate::machine::Machine;
 use crate::operations::outcome;
@@ -87,6 +88,17 @@ impl RunningTape {
     pub fn close(&mut self) -> Result<[u8; END], Refusal> {
         let mut end = [0; END];
         self.close_into(&mut end).map(|_| end)
+    }
+}
+
+impl RunningTape {
+    /// The extents of the characters gone out since the start.
+    pub fn extents(&self) -> Extents {
+        let (mut reach, mut marks) = ([0; 2], [0; 2]);
+        // SAFETY: the pointers come from live arrays.
+        unsafe { ffi::sp_extents(&self.words, &mut reach, &mut marks) };
+        let [x, height] = reach;
+        Extents { x, height, marks }
     }
 }
 

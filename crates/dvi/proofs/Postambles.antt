@@ -14,7 +14,9 @@ use Rattle.octets.specs.OctetsLaws.{by-cond, signed-first}
 use Rattle.galley_file.specs.Font.{fontOf, pointSize}
 use Rattle.galley_file.specs.declared.character.Character.{Character}
 use Rattle.dvi.specs.Postamble.{all223, trailer, atId, definitions, postamble}
-use Rattle.dvi.specs.Writer.{xTargetOf, yTargetOf, largest, uses, usedFonts, nameOf, definition, definitionBytes, trailerBytes, postambleBytes}
+use Rattle.extents.specs.FontMarks.{uses, usedFonts}
+use Rattle.extents.specs.Extents.{largest}
+use Rattle.dvi.specs.Writer.{xTargetOf, yTargetOf, nameOf, definition, definitionBytes, trailerBytes, postambleBytes}
 use Rattle.dvi.specs.WriterLaws.{definitions-append}
 
 module _ (pst : ℕ) where

@@ -9,6 +9,4 @@ pub mod Sheet
 pub mod SheetLaws
 pub mod Writer
 pub mod WriterLaws
-pub mod FontMarks
-pub mod FontMarksLaws
 pub mod Demand3

@@ -7,19 +7,17 @@
 --     itemBytes                the bytes of an item after this press, and pressAfter the press after them
 --     itemsBytes               those of a list of items, and pressAll the press after them
 --     pagesBytes               all pages
---     largest                  the largest of some numbers, and at least 0
---     usedFonts                the fonts that are used, ascending
 --     definition               a font's definition
 --     postambleBytes           the postamble
 --     dviFile                  the file
-use Prim.Native.Nat.{ℕ, zero, suc, _+_, _-_, _/_, _%_}
-use mathlib.Core.Bool.{Bool, false, cond, _||_}
-use mathlib.Core.List.{List, [], _∷_, _++_, map, foldl}
+use Prim.Native.Nat.{ℕ, suc, _+_, _-_, _/_, _%_}
+use mathlib.Core.Bool.{cond}
+use mathlib.Core.List.{List, [], _∷_, _++_, map}
 use mathlib.Core.Option.{Option, none, some}
 use lib.Dec.{ltb, eqb}
 use lib.IntN.{ℤ, pos, negsuc, _-ℤ_}
 use lib.ListN.{length}
-use Rattle.integers.specs.Parts.{eqZ, maxZ}
+use Rattle.integers.specs.Parts.{eqZ}
 use Rattle.octets.specs.Octets.{signedBytes, widthOf}
 use Rattle.measure.specs.Target.{xTarget, yTarget}
 use Rattle.galley_file.specs.Font.{fontOf, pointSize}
@@ -27,6 +25,8 @@ use Rattle.galley_file.specs.declared.character.Character.{Character}
 use Rattle.galley_file.specs.declared.item.Item.{Item}
 use Rattle.galley_file.specs.declared.item.Item.the-variants.{Placed, Cut}
 use Rattle.galley_file.specs.Item.{charactersOf}
+use Rattle.extents.specs.FontMarks.{usedFonts}
+use Rattle.extents.specs.Extents.{largest}
 use Rattle.dvi.specs.Command.{BOP, EOP, PST, HORZCHAR, FONT, X4, Y4, FONTNUM}
 
 -- ---- the commands of a character
@@ -115,19 +115,6 @@ unfoldable pub pagesBytes : List Item → List ℕ
 pagesBytes is = bopBytes 1 (negsuc 0) ++ (itemsBytes firstPress is ++ (EOP ∷ []))
 
 -- ---- the postamble
-
-unfoldable pub largest : List ℤ → ℤ
-largest zs = foldl maxZ (pos 0) zs
-
--- some character has the font f
-unfoldable pub uses : ℕ → List Character → Bool
-uses f [] = false
-uses f (c ∷ cs) = eqb (c .font) f || uses f cs
-
--- those below n
-unfoldable pub usedFonts : ℕ → List Character → List ℕ
-usedFonts zero cs = []
-usedFonts (suc n) cs = usedFonts n cs ++ cond (uses n cs) (n ∷ []) []
 
 -- C (67), the font digit, the point size in two digits (0 is 48)
 unfoldable pub nameOf : ℕ → List ℕ

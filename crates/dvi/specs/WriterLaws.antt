@@ -5,7 +5,6 @@
 --     press-at               the offset after a run of items
 --     press-page             the most that the page's number is then
 --     Small, press-small     no number of the press is too large for four bytes
---     largest-more           the largest of one number more
 --     definitions-append     the definitions of two runs of fonts
 --     length-pages           the length of all pages
 --     length-file            the length of the file
@@ -29,9 +28,10 @@ use Rattle.galley_file.specs.declared.item.Item.{Item}
 use Rattle.galley_file.specs.declared.item.Item.the-variants.{Placed, Cut}
 use Rattle.galley_file.specs.Item.{charactersOf}
 use Rattle.galley_file.specs.Galley.{maxItems}
+use Rattle.extents.specs.FontMarks.{uses, usedFonts}
 use Rattle.dvi.specs.Command.{EOP, X4, Y4}
 use Rattle.dvi.specs.Sheet.{maxDvi}
-use Rattle.dvi.specs.Writer.{xTargetOf, yTargetOf, Pen, fontCommand, fontChange, shortest, move, commandsOf, bopBytes, Press, firstPress, itemBytes, pressAfter, itemsBytes, pressAll, pagesBytes, largest, uses, usedFonts, nameOf, definition, definitionBytes, trailerBytes, postambleBytes, dviFile}
+use Rattle.dvi.specs.Writer.{xTargetOf, yTargetOf, Pen, fontCommand, fontChange, shortest, move, commandsOf, bopBytes, Press, firstPress, itemBytes, pressAfter, itemsBytes, pressAll, pagesBytes, nameOf, definition, definitionBytes, trailerBytes, postambleBytes, dviFile}
 
 -- ---- the commands of a character
 
@@ -160,10 +160,6 @@ unfolding pagesBytes bopBytes bytes signedBytes
 length-pages is = rw (length-append (itemsBytes firstPress is) (EOP ∷ [])) (omega arith)
 
 -- ---- the postamble
-
-pub largest-more : (zs : List ℤ) (z : ℤ) → largest (zs ++ (z ∷ [])) ≡ maxZ (largest zs) z
-unfolding largest
-largest-more zs z = foldl-append maxZ (pos 0) zs (z ∷ [])
 
 pub usedFonts-most : (n : ℕ) (cs : List Character) → length (usedFonts n cs) ≤ n
 unfolding usedFonts

@@ -6,7 +6,7 @@ use mathlib.Core.List.{List, [], _∷_, _++_}
 use Prim.Native.Nat.{ℕ, _+_, _≤_, _<_}
 use lib.ListN.{length}
 use Rattle.octets.specs.Answer.{accepted}
-use Rattle.measure.specs.Place.{lowEnd}
+use Rattle.measure.specs.Place.{lowEnd, heightEnd}
 use Rattle.galley_file.specs.declared.form.Form.the-variants.{New}
 use Rattle.galley_file.specs.Form.{maxGalley}
 use Rattle.galley_file.specs.declared.item.Item.{Item}
@@ -16,7 +16,7 @@ use Rattle.galley_file.specs.Galley as galley
 use Rattle.galley_file.specs.GalleyLaws.{checked, read-as}
 use Rattle.galley_file.specs.Walk.{Midway, midway-start, midway-next}
 use Rattle.galley_file.specs.Low.{lowOutcome}
-use Rattle.galley_file.specs.LowLaws.{low-checked}
+use Rattle.galley_file.specs.LowLaws.{low-checked, raised}
 
 module _ (g : List ℕ) (count : ℕ) (a : accepted count ≡ lowOutcome g) where
   pub within : length g ≤ maxGalley New
@@ -43,3 +43,10 @@ pub low-next : (g : List ℕ) (done : List Item) (at : ℕ) → AllValid lowEnd 
 low-next g done at v m h =
     let n = midway-next New g (itemsOf New g) done at m h .next in
     valid-in done (itemAt New g at) (n .rest) (subst (AllValid lowEnd) (n .all) v)
+
+-- an item of a low height is valid
+valid-first : {top : _} (i : Item) (is : List Item) → AllValid top (i ∷ is) → validItem top i ≡ true
+valid-first i is (galley.more v vs) = v
+
+pub raised-one : (i : Item) → validItem lowEnd i ≡ true → validItem heightEnd i ≡ true
+raised-one i v = valid-first i [] (raised (galley.more {i = i} v galley.nil))

@@ -7,7 +7,6 @@ use Prim.Native.Nat.{ℕ, _+_, _*_, _≤_, _<_}
 use native.Mathlib.Omega.{arith}
 use lib.IntN.{ℤ, pos}
 use lib.ListN.{length, length-append}
-use Rattle.integers.specs.Parts.{maxZ}
 use Rattle.octets.specs.Answer.{accepted}
 use Rattle.octets.specs.Octets.{bytes, signedBytes}
 use Rattle.octets.specs.Write.{Wrote, wrote-none, then, named}
@@ -18,63 +17,47 @@ use Rattle.galley_file.specs.declared.item.Item.the-variants.{Placed, Cut}
 use Rattle.measure.specs.Place.{lowEnd}
 use Rattle.galley_file.specs.Item.{validItem, itemSize, itemAt, WholeAt, charactersOf}
 use Rattle.galley_file.specs.Galley.{maxItems, AllValid, itemsOf}
-use Rattle.galley_file.specs.ItemLaws.{characters-append}
 use Rattle.galley_file.specs.Walk.{Midway, Onward, midway-inside, midway-end, midway-next, midway-whole}
 use Rattle.galley_file.specs.Low.{lowOutcome}
-use Rattle.dvi.specs.Writer.{xTargetOf, yTargetOf, newPen, commandsOf, bopBytes, Press, firstPress, itemBytes, pressAfter, itemsBytes, pressAll, largest}
-use Rattle.dvi.specs.WriterLaws.{itemsBytes-most, itemsBytes-append, itemsBytes-more, itemsBytes-part, pressAll-more, press-small, largest-more}
-use Rattle.dvi.specs.FontMarks.{FontsAre}
-use Rattle.dvi.specs.FontMarksLaws.{fonts-more}
+use Rattle.extents.specs.declared.Extents.{Extents}
+use Rattle.extents.specs.Extents.{noExtents, withCharacters, extentsOf, withItem}
+use Rattle.extents.specs.ExtentsLaws.{with-item}
+use Rattle.dvi.specs.Writer.{newPen, bopBytes, Press, firstPress, itemBytes, pressAfter, itemsBytes, pressAll}
+use Rattle.dvi.specs.WriterLaws.{itemsBytes-most, itemsBytes-append, itemsBytes-more, itemsBytes-part, pressAll-more, press-small}
+use Rattle.dvi.specs.Writer as P
 use Rattle.dvi_writer.specs.declared.pen.Pen.{Pen}
 use Rattle.dvi_writer.specs.declared.press.Press.{Press as CodePress}
-use Rattle.dvi_writer.specs.declared.extents.Extents.{Extents}
+use Rattle.dvi_writer.specs.declared.plan.Plan.{Plan}
 use Rattle.dvi_writer.specs.Pen.{penOf, OnPage, PenIs, penPast}
 use Rattle.dvi_writer.specs.Press.{pressOf, PressIs}
-use Rattle.dvi_writer.specs.Extents.{Extended, ExtentsAre}
+use Rattle.dvi_writer.specs.Plan.{itemLength, PlanIs}
 use Rattle.dvi_writer.proofs.Galleys.{begun, low-next}
 
-pub extents-none : (e : Extents) → e .length ≡ 0 → e .x .0 ≡ pos 0 → e .y .0 ≡ pos 0 → FontsAre (e .fonts .low) (e .fonts .high) [] → ExtentsAre e []
-unfolding itemsBytes charactersOf largest
-extents-none e l x y f = record { length-is = l; x-is = x; y-is = y; fonts-are = f }
-
--- the largest target of one character more
-largest-map : (target : Character → ℤ) (cs : List Character) (c : Character) → largest (map target (cs ++ (c ∷ []))) ≡ maxZ (largest (map target cs)) (target c)
-largest-map target cs c = ap largest (map-append target cs (c ∷ [])) ∙ largest-more (map target cs) (target c)
+pub plan-none : (p : Plan) → p .length ≡ 0 → p .extents ≡ noExtents → PlanIs p []
+unfolding itemsBytes charactersOf extentsOf withCharacters
+plan-none p l e = record { length-is = l; extents-are = e }
 
 pub length-cut : (p : Press) → length (itemBytes p Cut) ≡ 10
 unfolding itemBytes bopBytes signedBytes bytes
 length-cut p = refl
 
--- ---- extents with one item more
+-- ---- the plan of one item more
 
-module _ (is : List Item) (e r : Extents) (a : ExtentsAre e is) where
-  longer : (i : Item) (n : ℕ) → r .length ≡ e .length + n → n ≡ length (itemBytes (pressAll firstPress is) i) → r .length ≡ length (itemsBytes firstPress (is ++ (i ∷ [])))
-  longer i n l k =
-      let m = ap length (itemsBytes-more firstPress is i) in
-      omega (arith, l, k, a .length-is, m, length-append (itemsBytes firstPress is) (itemBytes (pressAll firstPress is) i))
+pub length-item : (p : Press) (i : Item) → itemLength (p .pen) i ≡ length (itemBytes p i)
+unfolding itemBytes
+length-item p (Placed c) = refl
+length-item p Cut = sym (length-cut p)
 
-  pub extents-character : (last : Pen) (c : Character) → c .font < 120 → pressAll firstPress is .pen ≡ penOf last → Extended e (penOf last) c r → ExtentsAre r (is ++ (Placed c ∷ []))
-  unfolding charactersOf itemBytes
-  extents-character last c h q x =
-      let cs = charactersOf is in
-      let all : charactersOf (is ++ (Placed c ∷ [])) ≡ cs ++ (c ∷ []) = characters-append is (Placed c ∷ []) in
-      record {
-        length-is = longer (Placed c) _ (x .length-is) (ap (λ p. length (commandsOf p c)) (sym q));
-        x-is = x .x-is ∙ ap (λ (z : ℤ). maxZ z (xTargetOf c)) (a .x-is) ∙ sym (largest-map xTargetOf cs c) ∙ ap (λ (l : List Character). largest (map xTargetOf l)) (sym all);
-        y-is = x .y-is ∙ ap (λ (z : ℤ). maxZ z (yTargetOf c)) (a .y-is) ∙ sym (largest-map yTargetOf cs c) ∙ ap (λ (l : List Character). largest (map yTargetOf l)) (sym all);
-        fonts-are = rw (all, x .low-is, x .high-is) (fonts-more (e .fonts .low) (e .fonts .high) cs c (a .fonts-are) h);
-      }
-
-  pub extents-cut : r .length ≡ e .length + 10 → r .x .0 ≡ e .x .0 → r .y .0 ≡ e .y .0 → r .fonts .low ≡ e .fonts .low → r .fonts .high ≡ e .fonts .high → ExtentsAre r (is ++ (Cut ∷ []))
-  unfolding charactersOf
-  extents-cut l x y low high =
-      let all : charactersOf (is ++ (Cut ∷ [])) ≡ charactersOf is = characters-append is (Cut ∷ []) ∙ append-nil (charactersOf is) in
-      record {
-        length-is = longer Cut 10 l (sym (length-cut (pressAll firstPress is)));
-        x-is = x ∙ a .x-is ∙ ap (λ (l : List Character). largest (map xTargetOf l)) (sym all);
-        y-is = y ∙ a .y-is ∙ ap (λ (l : List Character). largest (map yTargetOf l)) (sym all);
-        fonts-are = rw (all, low, high) (a .fonts-are);
-      }
+plan-more : (is : List Item) (p r : Plan) → PlanIs p is → (last : Pen) (i : Item) → pressAll firstPress is .pen ≡ penOf last
+    → (r .length ≡ p .length + itemLength (penOf last) i) × (r .extents ≡ withItem (p .extents) i) → PlanIs r (is ++ (i ∷ []))
+unfolding extentsOf
+plan-more is p r a last i q x =
+    let n = ap (λ (k : P.Pen). itemLength k i) (sym q) ∙ length-item (pressAll firstPress is) i in
+    let m = ap length (itemsBytes-more firstPress is i) in
+    record {
+      length-is = omega (arith, x .0, n, a .length-is, m, length-append (itemsBytes firstPress is) (itemBytes (pressAll firstPress is) i));
+      extents-are = x .1 ∙ ap (λ (e : Extents). withItem e i) (a .extents-are) ∙ sym (with-item noExtents is i);
+    }
 
 -- ---- the press
 
@@ -84,9 +67,6 @@ past-item p (Placed c) = refl
 past-item p Cut = refl
 
 -- the same of an item that is another
-pub extents-kind : (r : Extents) (is : List Item) {i j : Item} → i ≡ j → ExtentsAre r (is ++ (i ∷ [])) → ExtentsAre r (is ++ (j ∷ []))
-extents-kind r is e a = subst (λ (k : Item). ExtentsAre r (is ++ (k ∷ []))) e a
-
 pub wrote-kind : (o : List ℕ) (p : CodePress) (o′ : List ℕ) (r : CodePress) {i j : Item} → i ≡ j
     → (Wrote o (p .at) (itemBytes (pressOf p) i) o′ (r .at)) × PressIs r (pressAfter (pressOf p) i)
     → (Wrote o (p .at) (itemBytes (pressOf p) j) o′ (r .at)) × PressIs r (pressAfter (pressOf p) j)
@@ -94,18 +74,18 @@ wrote-kind o p o′ r e w = subst (λ (k : Item). (Wrote o (p .at) (itemBytes (p
 
 -- ---- the first pass
 
--- the galley g up to `at`: the extents of the items behind, and the pen after them
-pub record Measured (g : List ℕ) (at : ℕ) (e : Extents) (last : Pen) : Type 0 where
+-- the galley g up to `at`: the plan of the items behind, and the pen after them
+pub record Measured (g : List ℕ) (at : ℕ) (p : Plan) (last : Pen) : Type 0 where
   pub done : List Item
   pub midway : Midway New g (itemsOf New g) done at
-  pub extents : ExtentsAre e done
+  pub plan : PlanIs p done
   pub pen : PenIs last (pressAll firstPress done .pen)
 
-pub measured-start : (g : List ℕ) (count : ℕ) → accepted count ≡ lowOutcome g → (e : Extents) (p : Pen) → ExtentsAre e [] → PenIs p newPen → Measured g 0 e p
+pub measured-start : (g : List ℕ) (count : ℕ) → accepted count ≡ lowOutcome g → (p : Plan) (q : Pen) → PlanIs p [] → PenIs q newPen → Measured g 0 p q
 unfolding pressAll firstPress
-measured-start g count a e p x n = record { done = []; midway = begun g count a; extents = x; pen = n }
+measured-start g count a p q x n = record { done = []; midway = begun g count a; plan = x; pen = n }
 
-module _ (g : List ℕ) (at : ℕ) (e : Extents) (last : Pen) (m : Measured g at e last) where
+module _ (g : List ℕ) (at : ℕ) (p : Plan) (last : Pen) (m : Measured g at p last) where
   pub measured-whole : at + 7 < length g → WholeAt New g at
   measured-whole h = midway-whole New g (itemsOf New g) (m .done) at (m .midway) h
 
@@ -118,28 +98,28 @@ module _ (g : List ℕ) (at : ℕ) (e : Extents) (last : Pen) (m : Measured g at
   pub measured-size : at + 7 < length g → at + itemSize New (itemAt New g at) + 7 ≤ length g
   measured-size h = midway-next New g (itemsOf New g) (m .done) at (m .midway) h .room
 
-  pub measured-short : length (itemsOf New g) ≤ maxItems → e .length ≤ 17825792
+  pub measured-short : length (itemsOf New g) ≤ maxItems → p .length ≤ 17825792
   measured-short f =
       let all = m .midway .all in
-      omega (arith, f, m .extents .length-is, itemsBytes-most firstPress (m .done), ap length all, length-append (m .done) (m .midway .rest))
+      omega (arith, f, m .plan .length-is, itemsBytes-most firstPress (m .done), ap length all, length-append (m .done) (m .midway .rest))
 
-  pub measured-next : at + 7 < length g → (i : Item) → i ≡ itemAt New g at → (r : Extents) (next : Pen)
-      → ((is : List Item) → ExtentsAre e is → pressAll firstPress is .pen ≡ penOf last → ExtentsAre r (is ++ (i ∷ []))) → PenIs next (penPast i)
+  pub measured-next : at + 7 < length g → (i : Item) → i ≡ itemAt New g at → (r : Plan) (next : Pen)
+      → (r .length ≡ p .length + itemLength (penOf last) i) × (r .extents ≡ withItem (p .extents) i) → PenIs next (penPast i)
       → Measured g (at + itemSize New i) r next
   measured-next h i q r next x n =
       let d = m .done in
       record {
         done = d ++ (i ∷ []);
         midway = subst (Onward New g (itemsOf New g) d at) (sym q) (midway-next New g (itemsOf New g) d at (m .midway) h) .next;
-        extents = x d (m .extents) (sym (m .pen .pen-is));
+        plan = plan-more d p r (m .plan) last i (sym (m .pen .pen-is)) x;
         pen = record {
           on-page = n .on-page;
           pen-is = n .pen-is ∙ sym (past-item (pressAll firstPress d) i) ∙ ap (λ (p : Press). p .pen) (sym (pressAll-more firstPress d i));
         };
       }
 
-  pub measured-end : length g ≤ at + 7 → ExtentsAre e (itemsOf New g)
-  measured-end h = subst (ExtentsAre e) (sym (midway-end New g (itemsOf New g) (m .done) at (m .midway) h)) (m .extents)
+  pub measured-end : length g ≤ at + 7 → PlanIs p (itemsOf New g)
+  measured-end h = subst (PlanIs p) (sym (midway-end New g (itemsOf New g) (m .done) at (m .midway) h)) (m .plan)
 
 -- ---- the second pass
 

@@ -1,6 +1,6 @@
 -- The whole file, and the result of a call.
 -- Assumes nothing.
-use mathlib.Core.Path.{_≡_, sym, ap, _∙_}
+use mathlib.Core.Path.{_≡_, sym, ap, subst, _∙_}
 use mathlib.Core.List.{List}
 use Prim.Native.Nat.{ℕ, _+_, _*_, _≤_, _<_}
 use native.Mathlib.Nat.{zero-add}
@@ -14,31 +14,45 @@ use Rattle.octets.specs.Write.{Wrote, then, named, sets-start}
 use Rattle.galley_file.specs.declared.form.Form.the-variants.{New}
 use Rattle.galley_file.specs.declared.item.Item.{Item}
 use Rattle.galley_file.specs.Item.{charactersOf}
-use Rattle.galley_file.specs.Galley.{itemsOf}
+use Rattle.galley_file.specs.Galley.{AllValid, itemsOf}
 use Rattle.galley_file.specs.Low.{lowOutcome}
 use Rattle.galley_file.specs.LowLaws.{low-made, low-refused}
 use Rattle.dvi.specs.Writer.{firstPress, pressAll, pagesBytes, postambleBytes, dviFile}
 use Rattle.dvi.specs.WriterLaws.{length-file}
-use Rattle.dvi.specs.FontMarksLaws.{fonts-count}
-use Rattle.dvi_writer.specs.declared.extents.Extents.{Extents}
+use Rattle.measure.specs.Place.{lowEnd}
+use Rattle.extents.specs.declared.Extents.{Extents}
+use Rattle.extents.specs.Extents.{ExtentsAre, extentsOf}
+use Rattle.extents.specs.ExtentsLaws.{extents-are}
+use Rattle.extents.specs.FontMarks.{FontsAre}
+use Rattle.extents.specs.FontMarksLaws.{fonts-count}
+use Rattle.dvi_writer.specs.declared.plan.Plan.{Plan}
 use Rattle.dvi_writer.specs.Result.{dviResult}
-use Rattle.dvi_writer.specs.Extents.{ExtentsAre}
-use Rattle.dvi_writer.specs.Postamble.{postambleOf}
-use Rattle.dvi_writer.proofs.Postambles.{post-is}
+use Rattle.dvi_writer.specs.Plan.{PlanIs}
+use Rattle.dvi_writer.specs.Postamble.{postambleOf, Held}
+use Rattle.dvi_writer.proofs.Postambles.{post-is, held}
 
 -- ---- the file
 
-module _ (e : Extents) (is : List Item) (a : ExtentsAre e is) where
-  -- the number of definitions is the ones of both marks
-  pub file-length : length (dviFile is) ≡ 36 + e .length + 14 * (ones (e .fonts .low) + ones (e .fonts .high))
-  file-length = omega (arith, length-file is, a .length-is, fonts-count (e .fonts .low) (e .fonts .high) (charactersOf is) (a .fonts-are))
+are : (e : Extents) (is : List Item) → AllValid lowEnd is → e ≡ extentsOf (charactersOf is) → ExtentsAre e (charactersOf is)
+are e is v q = subst (λ (x : Extents). ExtentsAre x (charactersOf is)) (sym q) (extents-are is v)
+
+-- the number of definitions is the ones of both marks
+pub file-length : (p : Plan) (is : List Item) → PlanIs p is → AllValid lowEnd is → length (dviFile is) ≡ 36 + p .length + 14 * (ones (p .extents .fonts .low) + ones (p .extents .fonts .high))
+file-length p is a v =
+    let e = p .extents in
+    let f : FontsAre (e .fonts .low) (e .fonts .high) (charactersOf is) = are e is v (a .extents-are) .fonts-are in
+    omega (arith, length-file is, a .length-is, fonts-count (e .fonts .low) (e .fonts .high) (charactersOf is) f)
+
+module _ (e : Extents) (is : List Item) (v : AllValid lowEnd is) (a : e ≡ extentsOf (charactersOf is)) where
+  pub holds : Held e
+  holds = held e is v (are e is v a)
 
   module _ (o₀ o₁ : List ℕ) (pst last : ℕ) (pages : Wrote o₀ 0 (pagesBytes is) o₁ pst) (l : last ≡ pressAll firstPress is .bop) where
     pub pst-is : pst ≡ length (pagesBytes is)
     pst-is = pages .next-is ∙ zero-add (length (pagesBytes is))
 
     post-bytes : postambleOf last pst e ≡ postambleBytes (pressAll firstPress is .bop) (length (pagesBytes is)) (charactersOf is)
-    post-bytes = post-is last pst e is a ∙ (λ i. postambleBytes (l i) (pst-is i) (charactersOf is))
+    post-bytes = post-is last pst e (charactersOf is) (are e is v a) ∙ (λ i. postambleBytes (l i) (pst-is i) (charactersOf is))
 
     pub post-room : pst + length (postambleOf last pst e) ≡ length (dviFile is)
     unfolding dviFile

@@ -2,5 +2,5 @@
 pub mod Result
 pub mod Pen
 pub mod Press
-pub mod Extents
+pub mod Plan
 pub mod Postamble

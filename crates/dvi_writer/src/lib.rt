@@ -1,12 +1,12 @@
 // The writer of DVI files (document 01, "DVI (002)"): a galley's characters become pages, one more than there are cuts, and a postamble.
-mod extents;
-mod fonts;
 mod page;
 mod pen;
+mod plan;
 mod postamble;
 mod press;
 
 use extents::Extents;
+use extents::fonts;
 use octets::answer;
 use octets::answer::Answer;
 ghost use mathlib.Core.Path.{_≡_};
@@ -15,18 +15,19 @@ ghost use lib.ListN.{length};
 ghost use lib.Seq.{sets};
 ghost use Rattle.octets.specs.Answer.{accepted, outcomeOf, Gives};
 ghost use Rattle.galley_file.specs.declared.form.Form.the-variants.{New};
+ghost use Rattle.galley_file.specs.Item.{charactersOf};
 ghost use Rattle.galley_file.specs.Galley.{itemsOf};
 ghost use Rattle.galley_file.specs.Low.{lowOutcome};
+ghost use Rattle.extents.specs.Extents.{extentsOf};
 ghost use Rattle.dvi.specs.Writer.{dviFile};
 ghost use Rattle.dvi_writer.specs.Result.{dviResult};
-ghost use Rattle.dvi_writer.specs.Extents.{ExtentsAre};
 
 // The bytes of a file without items and without definitions.
 const FRAME: usize = page::FRAME + postamble::FRAME;
 
 // Writes the file of a checked galley, for which there is room: the pages and the postamble.
 fn put_file(g: &[u8], count: usize, e: Extents, out: &mut [u8])
-    requires { ⌜ (accepted count ≡ lowOutcome (now g)) × (ExtentsAre e (itemsOf New (now g)) × (length (dviFile (itemsOf New (now g))) ≤ length (now out))) ⌝ }
+    requires { ⌜ (accepted count ≡ lowOutcome (now g)) × ((e ≡ extentsOf (charactersOf (itemsOf New (now g)))) × (length (dviFile (itemsOf New (now g))) ≤ length (now out))) ⌝ }
     ensures { λ _. ⌜ now (out .exit) ≡ sets (now (out .entry)) 0 (dviFile (itemsOf New (now (g .entry)))) ⌝ }
 {
     let p = page::put_pages(g, count, out);
@@ -38,12 +39,12 @@ fn write_checked(g: &[u8], count: usize, out: &mut [u8]) -> Answer
     requires { ⌜ accepted count ≡ lowOutcome (now g) ⌝ }
     ensures { λ r. ⌜ Gives (outcomeOf r) (dviResult (now (g .entry))) (now (out .entry)) (now (out .exit)) ⌝ }
 {
-    let e = extents::extents_of(g, count);
-    let needed = FRAME + e.length + postamble::DEFINITION * fonts::count(e.fonts);
+    let p = plan::plan_of(g, count);
+    let needed = FRAME + p.length + postamble::DEFINITION * fonts::count(p.extents.fonts);
     if out.len() < needed {
         return Answer::Refused(answer::NO_DVI_ROOM, needed);
     }
-    put_file(g, count, e, out);
+    put_file(g, count, p.extents, out);
     Answer::Accepted(needed)
 }
 

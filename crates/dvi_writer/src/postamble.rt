@@ -1,16 +1,19 @@
 // The postamble: the last BOP's offset, height and width, the font definitions, the trailer.
-use crate::extents::Extents;
-use crate::fonts;
-use crate::fonts::Fonts;
+use extents::Extents;
+use extents::fonts;
+use extents::fonts::Fonts;
 use galley_file::font;
 use measure::Rsu;
+use measure::ruler;
 use octets::number;
+ghost use mathlib.Core.Path.{_≡_};
 ghost use Prim.Native.Nat.{_+_, _≤_, _<_};
 ghost use lib.ListN.{length};
 ghost use Rattle.octets.specs.Write.{Wrote};
-ghost use Rattle.dvi.specs.FontMarks.{markedFonts};
+ghost use Rattle.measure.specs.Target.{xTarget, yTarget};
+ghost use Rattle.extents.specs.FontMarks.{markedFonts};
 ghost use Rattle.dvi.specs.Writer.{nameOf, definition, definitionBytes, trailerBytes};
-ghost use Rattle.dvi_writer.specs.Postamble.{markedFont, headBytes, postambleOf};
+ghost use Rattle.dvi_writer.specs.Postamble.{markedFont, headBytes, postambleOf, Held};
 
 // The bytes of a postamble without definitions.
 pub const FRAME: usize = 26;
@@ -24,6 +27,23 @@ const PST: u8 = 131;
 
 // Four bytes 223 end the file.
 const FOUR_223: u32 = 3_755_991_007;
+
+// The width and the height of a file.
+pub struct Sizes {
+    pub x: Rsu,
+    pub y: Rsu,
+}
+
+// The targets of the farthest x and the greatest height.
+fn sizes_of(e: Extents) -> Sizes
+    requires { ⌜ Held e ⌝ }
+    ensures { λ r. ⌜ (r .x .0 ≡ xTarget (e .x .0)) × (r .y .0 ≡ yTarget (e .height .0)) ⌝ }
+{
+    let ruler = ruler::targets();
+    let x = e.x.target(&ruler);
+    let y = e.height.target();
+    Sizes { x: x, y: y }
+}
 
 // Writes PST, the last BOP's offset, and the largest Y and X.
 fn put_head(out: &mut [u8], at: usize, last: u32, y: Rsu, x: Rsu) -> usize
@@ -99,10 +119,11 @@ fn put_trailer(out: &mut [u8], at: usize, pst: u32) -> usize
 
 // Writes the postamble of a file with these extents, and with its last BOP at `last`.
 pub fn put_postamble(out: &mut [u8], at: usize, last: u32, e: Extents) -> usize
-    requires { ⌜ (at + length (postambleOf last at e) ≤ length (now out)) × (at < 4294967296) ⌝ }
+    requires { ⌜ Held e × ((at + length (postambleOf last at e) ≤ length (now out)) × (at < 4294967296)) ⌝ }
     ensures { λ r. ⌜ Wrote (now (out .entry)) at (postambleOf last at e) (now (out .exit)) r ⌝ }
 {
-    let mut to = put_head(out, at, last, e.y, e.x);
+    let sizes = sizes_of(e);
+    let mut to = put_head(out, at, last, sizes.y, sizes.x);
     to = put_definitions(out, to, e.fonts);
     put_trailer(out, to, at as u32)
 }

@@ -17,8 +17,10 @@ use Rattle.galley_file.specs.declared.item.Item.the-variants.{Placed}
 use Rattle.galley_file.specs.Item.{isCut, nextItem, charactersOf}
 use Rattle.galley_file.specs.Galley.{Reading, whole, fields, galley, readEnd, reading, readGalley}
 use Rattle.integers.specs.Parts.{eqZ, maxZ}
+use Rattle.extents.specs.FontMarks.{uses, usedFonts}
+use Rattle.extents.specs.Extents.{largest}
 use Rattle.dvi.specs.Command.{Y4}
-use Rattle.dvi.specs.Writer.{newPen, penAt, fontCommand, fontChange, shortest, move, commandsOf, bopBytes, firstPress, itemBytes, pressAfter, itemsBytes, pressAll, pagesBytes, largest, uses, usedFonts, nameOf, definition, definitionBytes, trailerBytes, postambleBytes, dviFile}
+use Rattle.dvi.specs.Writer.{newPen, penAt, fontCommand, fontChange, shortest, move, commandsOf, bopBytes, firstPress, itemBytes, pressAfter, itemsBytes, pressAll, pagesBytes, nameOf, definition, definitionBytes, trailerBytes, postambleBytes, dviFile}
 use Rattle.galley_file.specs.Low.{firstHigh, lowResult}
 use Rattle.dvi_writer.specs.Result.{dviResult}
 use Rattle.typesetter.specs.Code.{codeOf}

@@ -11,6 +11,8 @@ use Rattle.octets.specs.Answer.{written, accepted, outcomeOf}
 use Rattle.octets.specs.Write.{sets-start}
 use Rattle.galley_file.specs.declared.item.Item.{Item}
 use Rattle.galley_file.specs.Item.{charactersOf}
+use Rattle.extents.specs.declared.Extents.{Extents}
+use Rattle.extents.specs.Extents.{withCharacters}
 use Rattle.typesetter.specs.declared.machine.State.{State}
 use Rattle.running.specs.declared.Phase.the-variants.{Open}
 use Rattle.running.specs.declared.Running.{Running}
@@ -34,6 +36,6 @@ module _ {f : Reply} {buffer later : List ℕ} {reply : ℕ → Replied} where
       leaves (record { tape = next; result = written bs }) q (ap (λ (g : Reply). outcomeOf (g .answer)) e ∙ ap accepted l) (ap (λ (g : Reply). g .tape) e) (w ∙ sets-start buffer bs (omega (arith, l)))
 
 -- the reply to a piece that is written
-pub grew : (r : Running) (t : State) (n m k : ℕ) (is : List Item) → k ≡ length (charactersOf is)
-    → _≡_ {A = Reply} (record { tape = record { phase = Open; state = t; total = r .total + n; count = r .count + k }; answer = Accepted m }) (record { tape = grown r t n is; answer = Accepted m })
-grew r t n m k is e = λ i. record { tape = record { phase = Open; state = t; total = r .total + n; count = r .count + e i }; answer = Accepted m }
+pub grew : (r : Running) (t : State) (n m k : ℕ) (is : List Item) (x : Extents) → k ≡ length (charactersOf is) → x ≡ withCharacters (r .extents) (charactersOf is)
+    → _≡_ {A = Reply} (record { tape = record { phase = Open; state = t; total = r .total + n; count = r .count + k; extents = x }; answer = Accepted m }) (record { tape = grown r t n is; answer = Accepted m })
+grew r t n m k is x e q = λ i. record { tape = record { phase = Open; state = t; total = r .total + n; count = r .count + e i; extents = q i }; answer = Accepted m }

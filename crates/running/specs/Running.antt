@@ -1,4 +1,4 @@
--- The running tape (document 02, "From the tape drive"): what each call gives, and the running tape that it leaves, for every value of the struct.
+-- The running tape (document 02, "From the tape drive" and "Extents at a glance"): what each call gives, and the running tape that it leaves, for every value of the struct.
 --     Replied       what a call gives: the running tape after it, and its result
 --     refusing      a refusal that leaves the running tape as it was, and failing one that it keeps
 --     putting       bytes for a buffer of so many: room comes last
@@ -22,6 +22,8 @@ use Rattle.galley_file.specs.declared.form.Form.the-variants.{New}
 use Rattle.galley_file.specs.declared.item.Item.{Item}
 use Rattle.galley_file.specs.Item.{charactersOf}
 use Rattle.galley_file.specs.Galley.{fields}
+use Rattle.extents.specs.declared.Extents.{Extents}
+use Rattle.extents.specs.Extents.{noExtents, withCharacters}
 use Rattle.typesetter.specs.declared.code.Machine.{Machine}
 use Rattle.typesetter.specs.declared.code.Machine.the-variants.{Eight}
 use Rattle.typesetter.specs.declared.machine.State.{State}
@@ -42,7 +44,7 @@ refusing r n place = record { tape = r; result = refusal n place }
 
 -- "After any other refusal of a piece or closing the running tape repeats that refusal and place"
 abbrev pub failed : Running → ℕ → ℕ → Running
-failed r n place = record { phase = Failed n place; state = r .state; total = r .total; count = r .count }
+failed r n place = record { phase = Failed n place; state = r .state; total = r .total; count = r .count; extents = r .extents }
 
 abbrev pub failing : Running → ℕ → ℕ → Replied
 failing r n place = record { tape = failed r n place; result = refusal n place }
@@ -64,10 +66,14 @@ inPhase r Open x = x
 -- ---- the start
 
 abbrev pub newTape : Running
-newTape = record { phase = AtRest; state = start Eight; total = 0; count = 0 }
+newTape = record { phase = AtRest; state = start Eight; total = 0; count = 0; extents = noExtents }
 
+abbrev pub begun : Machine → Extents → Running
+begun machine e = record { phase = Open; state = start machine; total = 0; count = 0; extents = e }
+
+-- "starting anew clears them"
 abbrev pub fresh : Machine → Running
-fresh machine = record { phase = Open; state = start machine; total = 0; count = 0 }
+fresh machine = begun machine noExtents
 
 -- "A start with a wrong machine gets 50 and changes nothing"
 abbrev pub startOn : Running → Option Machine → Replied
@@ -81,7 +87,7 @@ startOf r machine = startOn r (machineOf machine)
 
 -- after n bytes more that reached the state t and set these items
 abbrev pub grown : Running → State → ℕ → List Item → Running
-grown r t n is = record { phase = Open; state = t; total = r .total + n; count = r .count + length (charactersOf is) }
+grown r t n is = record { phase = Open; state = t; total = r .total + n; count = r .count + length (charactersOf is); extents = withCharacters (r .extents) (charactersOf is) }
 
 -- the tape's faults, at offsets from its start; 12 last, its place the bytes needed for the piece
 abbrev pub pieceEnds : Running → ℕ → List Item → Ending → ℕ → Replied
@@ -104,7 +110,7 @@ feedOf r piece room = inPhase r (r .phase) (feedOpen r piece room)
 -- ---- the close
 
 abbrev pub atRest : Running → Running
-atRest r = record { phase = AtRest; state = r .state; total = r .total; count = r .count }
+atRest r = record { phase = AtRest; state = r .state; total = r .total; count = r .count; extents = r .extents }
 
 -- 10 after a cut, 9 without stop, at the total; 12 last, at 7; "closing writes End"
 unfoldable pub closeOpen : Running → ℕ → Replied

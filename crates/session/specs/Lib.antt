@@ -2,3 +2,4 @@
 pub mod Session
 pub mod SessionLaws
 pub mod PiecesLaws
+pub mod ExtentsLaws

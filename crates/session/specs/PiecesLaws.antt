@@ -3,6 +3,7 @@
 --     in-pieces     number and place of the close are those of the whole tape, and an accepted tape's joined output is its galley
 --     earlier-out   the fields of the pieces before a fault are out
 --     past-limit    1 at place 0 as soon as the total passes the limit, and past-limit-kept from then on
+--     extents-whole the extents after some pieces
 --     made          what every running tape is that the calls have made
 --     not-started   13 is given exactly before any start and after an accepted closing
 -- Assumes nothing.
@@ -26,6 +27,8 @@ use Rattle.galley_file.specs.Item.{charactersOf, cutsOf}
 use Rattle.galley_file.specs.ItemLaws.{all-counted, characters-append}
 use Rattle.galley_file.specs.Galley.{fields, galley}
 use Rattle.galley_file.specs.GalleyLaws.{fields-append, length-galley}
+use Rattle.extents.specs.Extents.{withCharacters, extentsOf}
+use Rattle.extents.specs.ExtentsLaws.{extents-append}
 use Rattle.typesetter.specs.declared.code.Machine.{Machine}
 use Rattle.typesetter.specs.declared.machine.State.{State}
 use Rattle.typesetter.specs.Machine.{start}
@@ -53,7 +56,7 @@ module _ (kind : Machine) where
 
   -- open, after the bytes xs, at the state t
   abbrev pub goingAt : List ℕ → State → Running
-  goingAt xs t = record { phase = Open; state = t; total = length xs; count = length (charactersOf (itemsOn kind xs)) }
+  goingAt xs t = record { phase = Open; state = t; total = length xs; count = length (charactersOf (itemsOn kind xs)); extents = extentsOf (charactersOf (itemsOn kind xs)) }
 
   pub data Stands : Running → List ℕ → Type 0 where
     going : {xs : List ℕ} {t : State} → run (start kind) 0 xs .ending ≡ Reached t → length xs ≤ maxTape → Stands (goingAt xs t) xs
@@ -87,7 +90,8 @@ module _ (kind : Machine) where
       grows u =
           let n = length-append xs p in
           let c = ap (λ (is : List Item). length (charactersOf is)) on-items ∙ ap length (characters-append (itemsOn kind xs) (run t (length xs) p .items)) ∙ length-append (charactersOf (itemsOn kind xs)) (charactersOf (run t (length xs) p .items)) in
-          sym (λ j. record { phase = Open; state = u; total = n j; count = c j })
+          let x = ap (λ (is : List Item). extentsOf (charactersOf is)) on-items ∙ ap extentsOf (characters-append (itemsOn kind xs) (run t (length xs) p .items)) ∙ extents-append (charactersOf (itemsOn kind xs)) (charactersOf (run t (length xs) p .items)) in
+          sym (λ j. record { phase = Open; state = u; total = n j; count = c j; extents = x j })
 
       pub limit : (room : ℕ) → maxTape < length (xs ++ p) → feedOf (goingAt xs t) p room ≡ failing (goingAt xs t) tapeTooLong 0
       limit room h = feed-phase (goingAt xs t) p room refl ∙ feed-long (goingAt xs t) p room going-sound (omega (arith, length-append xs p))
@@ -208,7 +212,7 @@ module _ (kind : Machine) where
   -- ---- after an accepted start
 
   pub fresh-stands : Stands (fresh kind) []
-  unfolding run charactersOf
+  unfolding run charactersOf extentsOf withCharacters
   fresh-stands = going {xs = []} {t = start kind} refl (omega arith)
 
   pub stands-open : {r : Running} {xs : List ℕ} → Stands r xs → {t : State} → run (start kind) 0 xs .ending ≡ Reached t → r ≡ goingAt xs t
@@ -253,6 +257,10 @@ module _ (r : Running) (machine : ℕ) (kind : Machine) (named : machineOf machi
       → {cs : List Call} → AllLater cs → Repeated (feedOf fedTape p room .tape) cs tapeTooLong 0
   past-limit-kept h p room long ls = repeats fedTape (a-piece {bs = p} {room = room}) (past-limit h p room long) (λ e. omega (arith, e)) ls
 
+  -- the extents are those of the whole tape's characters so far
+  pub extents-whole : {t : State} → run (start kind) 0 (joined ps) .ending ≡ Reached t → fedTape .extents ≡ extentsOf (charactersOf (itemsOn kind (joined ps)))
+  extents-whole h = ap (λ (q : Running). q .extents) (stands-open kind after-pieces h)
+
   pub record InPieces (room whole : ℕ) : Type 0 where
     pub number-is : numberOf (outcome (closeOf (tapeAfter r (starting machine ∷ pieces ps)) room .result)) ≡ numberOf (outcome (tapeResult (joined ps) machine whole))
     pub place-is : placeOf (outcome (closeOf (tapeAfter r (starting machine ∷ pieces ps)) room .result)) ≡ placeOf (outcome (tapeResult (joined ps) machine whole))
@@ -290,7 +298,7 @@ standing-cond true x y f g = f refl
 standing-cond false x y f g = g refl
 
 standing-start : {r : Running} → Standing r → (k : Option Machine) → Standing (startOn r k .tape)
-unfolding run charactersOf
+unfolding run charactersOf extentsOf withCharacters
 standing-start s (some kind) = opened kind [] (start kind) refl (omega arith)
 standing-start s none = s
 

@@ -1,7 +1,8 @@
--- A running tape in 19 words, which a C caller keeps between two calls.
+-- A running tape in 23 words, which a C caller keeps between two calls.
 --     wordOf       a signed 32-bit number as a word, and signedIn the number that a word holds
 --     wordsOf      the words of a running tape
 --     tapeIn       the running tape that words hold: all words hold one
+--     reachOf, marksOf     extents as the numbers that a caller's arrays are given
 --     Holds        words are those of a running tape, and hold it
 --     LeavesWords  what a call promises whose running tape is in words
 use Prim.Native.Nat.{ℕ, _%_}
@@ -12,6 +13,7 @@ use lib.Dec.{eqb}
 use lib.IntN.{ℤ, pos, natAbs, _+ℤ_, _-ℤ_}
 use lib.ListN.{length, getD}
 use Rattle.octets.specs.Answer.{GivesNumbers}
+use Rattle.extents.specs.declared.Extents.{Extents}
 use Rattle.typesetter.specs.declared.code.Machine.{Machine}
 use Rattle.typesetter.specs.declared.code.Machine.the-variants.{Four, Eight}
 use Rattle.typesetter.specs.declared.machine.Modes.{Modes}
@@ -67,7 +69,7 @@ wordsOf r =
     ∷ flagWord (r .state .modes .«escape_back») ∷ flagWord (r .state .modes .«lead_back») ∷ flagWord (r .state .modes .«upper_half»)
     ∷ flagWord (r .state .modes .«upper_rail») ∷ flagWord (r .state .modes .«upper_mag») ∷ flagWord (r .state .modes .«tilt_down»)
     ∷ r .state .size ∷ wordOf (r .state .carriage .0) ∷ wordOf (r .state .height .0)
-    ∷ r .total ∷ r .count ∷ []
+    ∷ r .total ∷ r .count ∷ wordOf (r .extents .x .0) ∷ wordOf (r .extents .height .0) ∷ r .extents .fonts .low ∷ r .extents .fonts .high ∷ []
 
 abbrev pub modesIn : List ℕ → Modes
 modesIn w =
@@ -94,8 +96,28 @@ stateIn w =
       height = record { 0 = signedIn (getD w 16 0) };
     }
 
+abbrev pub extentsIn : List ℕ → Extents
+extentsIn w =
+    record {
+      x = record { 0 = signedIn (getD w 19 0) };
+      height = record { 0 = signedIn (getD w 20 0) };
+      fonts = record { low = getD w 21 0; high = getD w 22 0 };
+    }
+
 unfoldable pub tapeIn : List ℕ → Running
-tapeIn w = record { phase = phaseIn (getD w 0 0) (getD w 1 0) (getD w 2 0); state = stateIn w; total = getD w 17 0; count = getD w 18 0 }
+tapeIn w = record { phase = phaseIn (getD w 0 0) (getD w 1 0) (getD w 2 0); state = stateIn w; total = getD w 17 0; count = getD w 18 0; extents = extentsIn w }
+
+-- ---- extents as numbers
+
+-- x and height
+abbrev pub reachOf : Extents → List ℤ
+reachOf e = e .x .0 ∷ e .height .0 ∷ []
+
+-- fonts 0 to 63, and 64 to 119
+abbrev pub marksOf : Extents → List ℕ
+marksOf e = e .fonts .low ∷ e .fonts .high ∷ []
+
+-- ---- what a call promises
 
 pub record Holds (words : List ℕ) (r : Running) : Type 0 where
   pub words-are : words ≡ wordsOf r

@@ -1,4 +1,6 @@
 // A running tape as an array of words, and back: every array holds one.
+use extents::Extents;
+use extents::fonts::Fonts;
 use measure::Quanta;
 use measure::Units;
 use running::Phase;
@@ -8,7 +10,7 @@ use typesetter::machine::Modes;
 use typesetter::machine::State;
 ghost use mathlib.Core.Path.{_≡_};
 ghost use Prim.Native.Nat.{_%_};
-ghost use Rattle.spatecanter_running.specs.Words.{wordOf, signedIn, flagWord, machineWord, machineIn, phaseWord, numberWord, placeWord, phaseIn, stateIn, wordsOf, tapeIn, Holds};
+ghost use Rattle.spatecanter_running.specs.Words.{wordOf, signedIn, flagWord, machineWord, machineIn, phaseWord, numberWord, placeWord, phaseIn, stateIn, extentsIn, wordsOf, tapeIn, Holds};
 
 // A signed number as a word.
 fn word_of(z: i32) -> u64
@@ -113,7 +115,7 @@ fn phase_in(w: u64, n: u64, place: u64) -> Phase
 }
 
 // The words of a running tape, which hold it.
-pub fn words_of(r: Running) -> [u64; 19]
+pub fn words_of(r: Running) -> [u64; 23]
     ensures { λ w. ⌜ Holds w r ⌝ }
 {
     let phase = r.phase;
@@ -139,11 +141,15 @@ pub fn words_of(r: Running) -> [u64; 19]
         quanta_word(state.height),
         r.total as u64,
         r.count as u64,
+        units_word(r.extents.x),
+        quanta_word(r.extents.height),
+        r.extents.fonts.low,
+        r.extents.fonts.high,
     ]
 }
 
 // The machine's state that words hold.
-fn state_in(w: [u64; 19]) -> State
+fn state_in(w: [u64; 23]) -> State
     ensures { λ r. ⌜ r ≡ stateIn w ⌝ }
 {
     let machine = machine_in(w[3]);
@@ -170,12 +176,29 @@ fn state_in(w: [u64; 19]) -> State
     }
 }
 
+// The extents that words hold.
+pub fn extents_in(w: [u64; 23]) -> Extents
+    ensures { λ r. ⌜ r ≡ extentsIn w ⌝ }
+{
+    let x = signed_in(w[19]);
+    let height = signed_in(w[20]);
+    Extents {
+        x: Units(x),
+        height: Quanta(height),
+        fonts: Fonts {
+            low: w[21],
+            high: w[22],
+        },
+    }
+}
+
 // The running tape that words hold.
-pub fn tape_in(w: [u64; 19]) -> Running
+pub fn tape_in(w: [u64; 23]) -> Running
     ensures { λ r. ⌜ r ≡ tapeIn w ⌝ }
 {
     let phase = phase_in(w[0], w[1], w[2]);
     let state = state_in(w);
+    let extents = extents_in(w);
     let total = w[17] as usize;
     let count = w[18] as usize;
     Running {
@@ -183,5 +206,6 @@ pub fn tape_in(w: [u64; 19]) -> Running
         state: state,
         total: total,
         count: count,
+        extents: extents,
     }
 }

@@ -9,6 +9,9 @@ pub struct RunningTape {
     phase: Phase,
     total: usize,
     count: usize,
+    /// Farthest x, greatest height and the marks of the fonts met.
+    reach: [i32; 2],
+    fonts: [u64; 2],
 }
 
 #[derive(Clone, Copy)]
@@ -42,7 +45,7 @@ struct Piece {
 
 impl RunningTape {
     pub fn new() -> RunningTape {
-        RunningTape { phase: Phase::AtRest, total: 0, count: 0 }
+        RunningTape { phase: Phase::AtRest, total: 0, count: 0, reach: [0; 2], fonts: [0; 2] }
     }
 
     pub fn start(&mut self, machine: u32) -> [usize; 3] {
@@ -50,7 +53,7 @@ impl RunningTape {
             return refused((50, 0));
         };
         let reached = Reached { machine: Machine::new(effects), stage: Stage::BeforeInitialize };
-        *self = RunningTape { phase: Phase::Open(reached), total: 0, count: 0 };
+        *self = RunningTape { phase: Phase::Open(reached), ..RunningTape::new() };
         accepted(0)
     }
 
@@ -73,6 +76,7 @@ impl RunningTape {
         }
         let Machine { effects, modes, .. } = reached.machine;
         write_fields(effects, modes, reached.machine.body(), piece, &mut out[..needed]);
+        self.look_at(&out[..needed]);
         self.phase = Phase::Open(next.reached);
         self.total += piece.len();
         self.count += next.count;
@@ -92,6 +96,29 @@ impl RunningTape {
             }
             Phase::Open(_) => self.fail((9, self.total)),
         }
+    }
+
+    pub fn extents(&self) -> ([i32; 2], [u64; 2]) {
+        (self.reach, self.fonts)
+    }
+
+    /// Takes the extents of fields.
+    fn look_at(&mut self, fields: &[u8]) {
+        let ([mut x, mut height], mut fonts) = (self.reach, self.fonts);
+        let mut rest = fields;
+        while let [tag, _, _, after @ ..] = rest {
+            rest = after;
+            if *tag == 7 {
+                let (body, after) = rest.split_first_chunk().unwrap();
+                let body = u64::from_be_bytes(*body);
+                x = x.max(i32::from((body >> 48) as i16));
+                height = height.max((body >> 16) as i32);
+                let font = (body >> 8) as u8;
+                fonts[usize::from(font >> 6)] |= 1 << (font & 63);
+                rest = after;
+            }
+        }
+        (self.reach, self.fonts) = ([x, height], fonts);
     }
 
     fn fail(&mut self, refusal: (usize, usize)) -> [usize; 3] {

@@ -289,6 +289,12 @@ impl Comparison {
         self.same_bytes(operation, input, &buffer.bytes, &after);
         out.extend(expected.as_deref().unwrap_or_default());
         self.agree(operation, input, answer, answer_of(expected));
+        assert_eq!(
+            running.theirs.extents(),
+            running.plain.extents(),
+            "extents after {operation} {}",
+            shown(input)
+        );
         answer
     }
 

@@ -81,6 +81,8 @@ static void cut_tape(size_t cut)
 {
     uint64_t words[SP_TAPE_WORDS + 2];
     uint8_t joined[sizeof galley + 1] = {0};
+    int32_t reach[2] = {7, 7};
+    uint64_t fonts[2] = {7, 7};
     size_t at = 0;
     words[0] = words[SP_TAPE_WORDS + 1] = 7;
     sp_new_tape(words + 1);
@@ -96,6 +98,8 @@ static void cut_tape(size_t cut)
     expect("room for End", SP_GALLEY_ROOM, 7, 0);
     sp_close(words + 1, joined + at, 7, answer);
     expect("close", SP_ACCEPTED, 0, 7);
+    sp_extents(words + 1, reach, fonts);
+    expect_true("the extents", reach[0] == 3 && reach[1] == 0 && fonts[0] == 4 && fonts[1] == 0);
     expect_true("the joined galley", memcmp(joined, galley, sizeof galley) == 0 && joined[sizeof galley] == 0);
     expect_true("the words beside", words[0] == 7 && words[SP_TAPE_WORDS + 1] == 7);
 }

@@ -32,6 +32,13 @@ pub trait RunningTape {
     fn start(&mut self, machine: u32) -> Answer;
     fn feed(&mut self, piece: &[u8], out: &mut [u8]) -> Answer;
     fn close(&mut self, out: &mut [u8]) -> Answer;
+    /// Farthest x and greatest height, and the font numbers met, ascending.
+    fn extents(&self) -> ([i32; 2], Vec<i32>);
+}
+
+/// The font numbers that two marks name.
+fn marked([low, high]: [u64; 2]) -> Vec<i32> {
+    (0..128).filter(|&font| (if font < 64 { low } else { high }) >> (font % 64) & 1 == 1).collect()
 }
 
 /// The plain reading, with buffers.
@@ -74,6 +81,10 @@ impl RunningTape for plain::RunningTape {
     fn close(&mut self, out: &mut [u8]) -> Answer {
         filled(self.close(out.len()), out, 12)
     }
+
+    fn extents(&self) -> ([i32; 2], Vec<i32>) {
+        self.extents()
+    }
 }
 
 /// Puts bytes into a buffer; `no_room` is the refusal's number where they don't fit.
@@ -111,6 +122,11 @@ impl RunningTape for quick::RunningTape {
 
     fn close(&mut self, out: &mut [u8]) -> Answer {
         self.close(out)
+    }
+
+    fn extents(&self) -> ([i32; 2], Vec<i32>) {
+        let (reach, marks) = self.extents();
+        (reach, marked(marks))
     }
 }
 
@@ -221,6 +237,15 @@ impl RunningTape for Words {
 
     fn close(&mut self, out: &mut [u8]) -> Answer {
         self.call(|tape, answer| unsafe { ffi::sp_close(tape, out.as_mut_ptr(), out.len(), answer) })
+    }
+
+    fn extents(&self) -> ([i32; 2], Vec<i32>) {
+        let (mut reach, mut marks) = ([0x5A5A_5A5A_i32; 4], [GUARD; 4]);
+        let tape = self.0[1..].as_ptr().cast();
+        unsafe { ffi::sp_extents(tape, reach[1..].as_mut_ptr().cast(), marks[1..].as_mut_ptr().cast()) };
+        assert_eq!([reach[0], reach[3]], [0x5A5A_5A5A; 2], "written beside the reach");
+        assert_eq!([marks[0], marks[3]], [GUARD; 2], "written beside the marks");
+        ([reach[1], reach[2]], marked([marks[1], marks[2]]))
     }
 }
 

@@ -1,4 +1,4 @@
--- `dvi_writer::write_checked` meets its contract: the extents give the length of the file, and the room decides.
+-- `dvi_writer::write_checked` meets its contract: the plan gives the length of the file, and the room decides.
 -- Assumes nothing.
 use mathlib.Core.Path.{_≡_, refl}
 use Prim.Native.Nat.{_+_, _*_, _≤_}
@@ -10,21 +10,21 @@ use Rattle.dvi.specs.Writer.{firstPress, dviFile}
 use Rattle.dvi.specs.WriterLaws.{itemsBytes-most}
 use Rattle.galley_file.specs.declared.form.Form.the-variants.{New}
 use Rattle.galley_file.specs.Galley.{itemsOf}
-use Rattle.dvi_writer.proofs.Galleys.{few}
+use Rattle.dvi_writer.proofs.Galleys.{few, all-low}
 use Rattle.dvi_writer.proofs.Results.{file-length, no-room, with-room}
 use Rattle.dvi_writer.proofs.write_checked.Statement.{statement}
 use Rattle.dvi_writer.proofs.write_checked.Tie as tie
 
-small : (c : tie.After-extents-of) → c .extents-of .result .length ≤ 17825792
+small : (c : tie.After-plan-of) → c .plan-of .result .length ≤ 17825792
 small c =
     let s = c .before .before .before in
-    omega (arith, c .extents-of .ensures .length-is, itemsBytes-most firstPress (itemsOf New (s .args .g .now)), few _ _ (s .pre))
+    omega (arith, c .plan-of .ensures .length-is, itemsBytes-most firstPress (itemsOf New (s .args .g .now)), few _ _ (s .pre))
 
-needed-is : (c : tie.After-count) → 36 + c .before .before .extents-of .result .length + 14 * c .count .result ≡ length (dviFile (itemsOf New (c .before .before .before .before .before .args .g .now)))
-needed-is c = omega (arith, c .count .ensures .0, file-length _ _ (c .before .before .extents-of .ensures))
+needed-is : (c : tie.After-count) → 36 + c .before .before .plan-of .result .length + 14 * c .count .result ≡ length (dviFile (itemsOf New (c .before .before .before .before .before .args .g .now)))
+needed-is c = omega (arith, c .count .ensures .0, file-length _ _ (c .before .before .plan-of .ensures) (all-low _ _ (c .before .before .before .before .before .pre)))
 
-extents-of-requires : tie.Need-extents-of-requires
-extents-of-requires c κs = search needs
+plan-of-requires : tie.Need-plan-of-requires
+plan-of-requires c κs = search needs
 
 add-needed : tie.Need-add-needed
 add-needed c = omega (arith, small (c .before))
@@ -46,7 +46,7 @@ returns c =
     gives q refl refl
 
 put-file-requires : tie.Need-put-file-requires
-put-file-requires c κs = (c .before .before .before .before .before .before .before .pre, (c .before .before .before .before .extents-of .ensures, omega (arith, needed-is (c .before .before), c .before .if1 .left)))
+put-file-requires c κs = (c .before .before .before .before .before .before .before .pre, (c .before .before .before .before .plan-of .ensures .extents-are, omega (arith, needed-is (c .before .before), c .before .if1 .left)))
 
 same-length : tie.Need-same-length
 same-length c = search needs
@@ -58,7 +58,7 @@ pub write-checked-spec : {M : Type 1} → statement M
 write-checked-spec =
     tie.close
     (tie.spec
-    extents-of-requires
+    plan-of-requires
     add-needed
     count-requires
     mul-needed

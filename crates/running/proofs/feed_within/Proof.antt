@@ -24,10 +24,10 @@ use Rattle.running.proofs.feed_within.Tie as tie
 -- what the first pass has found of the piece
 module _ (c : tie.After-pass) where
   abbrev tape : Running
-  tape = c .before .before .before .before .before .args .tape
+  tape = c .before .before .before .before .before .before .args .tape
 
   abbrev piece : List ℕ
-  piece = c .before .before .before .before .before .args .piece .now
+  piece = c .before .before .before .before .before .before .args .piece .now
 
   abbrev items : List Item
   items = run (tape .state) (tape .total) piece .items
@@ -37,11 +37,11 @@ module _ (c : tie.After-pass) where
   counted = fields-counted _ _ _ (c .pass .ensures .counted) (c .pass .ensures .parted)
 
   sound : SoundTape tape
-  sound = sound-tape tape (c .before .before .before .before .before .pre .0)
+  sound = sound-tape tape (c .before .before .before .before .before .before .pre .0)
 
 pass-requires : tie.Need-pass-requires
 pass-requires c κs =
-    let s = c .before .before .before .before in
+    let s = c .before .before .before .before .before in
     ((sound-tape (s .args .tape) (s .pre .0) .state-sound, omega (arith, s .pre .1)), λ h. absurd (true≢false (sym h)))
 
 mul-needed : tie.Need-mul-needed
@@ -59,10 +59,10 @@ failing-requires c κs = search needs
 enum-known-ending-2 : tie.Need-enum-known-ending-2
 enum-known-ending-2 c = search needs
 
-add-total : tie.Need-add-t20
-add-total c = omega (arith, c .before .before .before .before .before .before .before .before .before .before .before .pre .1)
+add-total : tie.Need-add-t22
+add-total c = omega (arith, c .before .before .before .before .before .before .before .before .before .before .before .before .pre .1)
 
-add-count : tie.Need-add-t21
+add-count : tie.Need-add-t23
 add-count c = let s = sound (c .before .before .before .before .before .before .before) in omega (arith, s .short, s .few, c .before .before .before .before .before .before .before .pass .ensures .few)
 
 refusing-requires : tie.Need-refusing-requires
@@ -74,17 +74,15 @@ same-length c = search needs
 returns : tie.Need-returns
 returns c =
     let f = c .before .before .before .before .before .before .before .before .before in
-    let a = f .before .before .before .before .before .args in
+    let a = f .before .before .before .before .before .before .args in
     let n = length (a .piece .now) in
     let room = length (a .out .now) in
     let e = sym (f .pass .ensures .ended) ∙ c .before .before .before .before .ending2 .given .1 in
     let short : room < length (fields New (items f)) = omega (arith, counted f, c .before .if1 .taken, ap length (f .pass .ensures .buffer)) in
     refuses (tape f) (piece-short (tape f) n (items f) room e short ∙ ap (refusing (tape f) noGalleyRoom) (sym (counted f))) (c .refusing .ensures) (f .pass .ensures .buffer)
 
-pass-requires-2 : tie.Need-pass-requires-2
-pass-requires-2 c κs =
-    let f = c .before .before .before .before .before .before .before .before .before in
-    ((sound f .state-sound, omega (arith, f .before .before .before .before .before .pre .1)), λ _. omega (arith, counted f, c .before .if1 .left, ap length (f .pass .ensures .buffer)))
+put-piece-requires : tie.Need-put-piece-requires
+put-piece-requires c κs = let f = c .before .before .before .before .before .before .before .before .before in (f .before .before .before .before .before .before .pre, (counted f, omega (arith, c .before .if1 .left)))
 
 same-length-2 : tie.Need-same-length-2
 same-length-2 c = search needs
@@ -92,7 +90,7 @@ same-length-2 c = search needs
 returns-2 : tie.Need-returns-2
 returns-2 c =
     let f = c .before .before .before .before .before .before .before in
-    let a = f .before .before .before .before .before .args in
+    let a = f .before .before .before .before .before .before .args in
     let e = sym (f .pass .ensures .ended) ∙ c .before .before .ending .given .1 in
     fails (tape f) (piece-fault (tape f) (length (a .piece .now)) (items f) (length (a .out .now)) e) (c .failing .ensures) (f .pass .ensures .buffer)
 
@@ -102,13 +100,14 @@ same-length-3 c = search needs
 returns-3 : tie.Need-returns-3
 returns-3 c =
     let f = c .before .before .before .before .before .before .before .before .before .before .before .before in
-    let a = f .before .before .before .before .before .args in
+    let a = f .before .before .before .before .before .before .args in
     let n = length (a .piece .now) in
     let is = items f in
     let e = sym (f .pass .ensures .ended) ∙ c .before .before .before .before .before .before .before .ending2 .given .1 in
     let room : length (fields New is) ≤ length (a .out .now) = omega (arith, counted f, c .before .before .before .before .if1 .left, ap length (f .pass .ensures .buffer)) in
-    let w = c .before .before .pass2 .ensures .buffer ∙ ap (λ (o : List ℕ). sets o 0 (fields New is)) (f .pass .ensures .buffer) in
-    puts (grown (tape f) _ n is) (fields New is) (piece-whole (tape f) n is (length (a .out .now)) e room) (grew (tape f) _ n _ _ is (f .pass .ensures .counted)) (counted f) (omega (arith, counted f, room)) w
+    let q = c .before .before .put-piece .ensures in
+    let w = q .1 ∙ ap (λ (o : List ℕ). sets o 0 (fields New is)) (f .pass .ensures .buffer) in
+    puts (grown (tape f) _ n is) (fields New is) (piece-whole (tape f) n is (length (a .out .now)) e room) (grew (tape f) _ n _ _ is _ (f .pass .ensures .counted) (q .0)) (counted f) (omega (arith, counted f, room)) w
 
 pub feed-within-spec : {M : Type 1} → statement M
 feed-within-spec =
@@ -125,7 +124,7 @@ feed-within-spec =
     refusing-requires
     same-length
     returns
-    pass-requires-2
+    put-piece-requires
     same-length-2
     returns-2
     same-length-3

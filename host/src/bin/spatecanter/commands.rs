@@ -12,7 +12,8 @@ use crate::text::{self, counted};
 use crate::{help, options, pieces, progress};
 use spatecanter::galley::characters;
 use spatecanter::{
-    sheet, Machine, Reprint, DVI_LIMIT, GALLEY_LIMIT, OLD_GALLEY_LIMIT, SHEET_LIMIT, TAPE_LIMIT,
+    sheet, Extents, Machine, Refusal, Reprint, RunningTape, DVI_LIMIT, GALLEY_LIMIT, OLD_GALLEY_LIMIT,
+    SHEET_LIMIT, TAPE_LIMIT,
 };
 use std::ffi::OsStr;
 use std::io::{self, Write};
@@ -88,15 +89,15 @@ fn read(arguments: &Arguments) -> Result<(), Failure> {
     let place = place(arguments, &[name], "galley")?;
     if name != "-" && longest.is_none() {
         let tape = input::read(name, TAPE_LIMIT)?;
-        let galley = galley_of(name, &tape, named)?;
+        let (galley, extents) = galley_of(name, &tape, named)?;
         place.write(&galley)?;
-        place.tell(&counted(characters(&galley).count(), "character"));
+        place.tell(&text::reach(characters(&galley).count(), extents));
         return Ok(());
     }
     let machine = named.unwrap_or(Machine::Eight);
     let reading = pieces::read(name, machine, longest.unwrap_or(pieces::LONGEST), &place)?;
     hint_at_four_fonts(name, named, reading.characters, reading.has_tilt);
-    place.tell(&counted(reading.characters, "character"));
+    place.tell(&text::reach(reading.characters, reading.extents()));
     Ok(())
 }
 
@@ -175,7 +176,7 @@ fn reprint(arguments: &Arguments) -> Result<(), Failure> {
     };
     let places = [in_folder("galley")?, in_folder("dvi")?, in_folder("sheet")?];
     let tape = input::read(&arguments.input, TAPE_LIMIT)?;
-    let galley = galley_of(&arguments.input, &tape, machine)?;
+    let (galley, extents) = galley_of(&arguments.input, &tape, machine)?;
     let Reprint { dvi, sheet } = progress::during("reprinting", || spatecanter::reprint(&galley, &[]))
         .map_err(|refusal| explain::galley(&arguments.input, &galley, refusal))?;
     let mut drafts = Vec::new();
@@ -185,7 +186,7 @@ fn reprint(arguments: &Arguments) -> Result<(), Failure> {
         drafts.push(draft);
     }
     output::finish(drafts)?;
-    output::print(&Summary::of(&galley, &sheet, &fonts).to_string())
+    output::print(&Summary::of(&galley, &sheet, extents, &fonts).to_string())
 }
 
 fn draw(arguments: &Arguments) -> Result<(), Failure> {
@@ -218,7 +219,7 @@ fn galley_to_draw(name: &OsStr, named: Option<Machine>) -> Result<(Vec<u8>, Opti
             spatecanter::check_galley(&bytes).map_err(|refusal| explain::galley(name, &bytes, refusal))?;
             Ok((bytes, named))
         }
-        _ => Ok((galley_of(name, &bytes, named)?, named.or(Some(Machine::Eight)))),
+        _ => Ok((galley_of(name, &bytes, named)?.0, named.or(Some(Machine::Eight)))),
     }
 }
 
@@ -252,14 +253,23 @@ fn print(write: impl FnOnce(&mut dyn Write) -> io::Result<()>) -> Result<(), Fai
     output::finish(vec![draft])
 }
 
-/// The galley of a tape of this machine, or of the 8-font machine where none is named. Nothing on a tape
-/// tells its machine but a tilt.
-fn galley_of(name: &OsStr, tape: &[u8], named: Option<Machine>) -> Result<Vec<u8>, Failure> {
+/// The galley and the extents of a tape of this machine, or of the 8-font machine where none is named. Nothing
+/// on a tape tells its machine but a tilt.
+fn galley_of(name: &OsStr, tape: &[u8], named: Option<Machine>) -> Result<(Vec<u8>, Extents), Failure> {
     let machine = named.unwrap_or(Machine::Eight);
-    let galley = progress::during("reading the tape", || spatecanter::read_tape(tape, machine))
+    let (galley, extents) = progress::during("reading the tape", || read_whole(tape, machine))
         .map_err(|refusal| explain::tape(name, tape, machine, refusal))?;
     hint_at_four_fonts(name, named, characters(&galley).count(), explain::has_tilt(tape));
-    Ok(galley)
+    Ok((galley, extents))
+}
+
+/// Reads a tape as one piece.
+fn read_whole(tape: &[u8], machine: Machine) -> Result<(Vec<u8>, Extents), Refusal> {
+    let mut running = RunningTape::new();
+    running.start(machine);
+    let mut galley = running.feed(tape)?;
+    galley.extend(running.close()?);
+    Ok((galley, running.extents()))
 }
 
 /// A tape that the 8-font machine accepts may be one of the 4-font machine, if it flashes and never tilts.

@@ -67,6 +67,10 @@ Numbers, at the place of the byte unless another is said:
   10  after a cut, a code other than 00 and initialize; or the tape ends there, then at its
       length
 
+Where the galley goes to a file, standard error tells how many characters it has, the farthest
+x and the greatest height, over all pages, and the fonts met, by name: C, the font, and the
+points in two digits.
+
 Standard input is read in pieces as they come, of at most 65,536 bytes: however long the tape
 takes, only one piece is kept, and on a terminal a line tells how far it is. --pieces N does
 the same for any input, with pieces of at most N bytes. The galley is the same, and so are
@@ -156,9 +160,10 @@ Takes a tape all the way: TAPE to TAPE.galley, TAPE.dvi and TAPE.sheet in a fold
 
 Usage: spatecanter reprint TAPE [--machine 4|8] [--fonts NAMES] -d FOLDER [--force]
 
-Prints a summary: characters, pages, fonts, and how many characters are in font 1 and in
-font 2, since measured and estimated values differ in nothing else. These two differ by tilt
-on the 8-font machine, by rail on the 4-font machine.
+Prints a summary: characters, pages, the farthest x and the greatest height over all pages,
+fonts, and how many characters are in font 1 and in font 2, since measured and estimated
+values differ in nothing else. These two differ by tilt on the 8-font machine, by rail on the
+4-font machine.
 
 The yearbooks of the 8-font machine set measured values in font 1 and estimates in font 2,
 and the summary says so. For other books --fonts names one or two fonts that are told apart,

@@ -7,7 +7,7 @@ use crate::output::{self, Draft, Place};
 use crate::progress;
 use crate::text::counted;
 use spatecanter::galley::{items, Item};
-use spatecanter::{Machine, Refusal, RunningTape};
+use spatecanter::{Extents, Machine, Refusal, RunningTape};
 use std::ffi::OsStr;
 
 /// The longest piece, where --pieces names none.
@@ -54,6 +54,10 @@ impl Reading<'_> {
         let mut tape = RunningTape::new();
         tape.start(machine);
         Reading { name, machine, tape, fields: vec![], bytes: 0, characters: 0, cuts: 0, has_tilt: false }
+    }
+
+    pub fn extents(&self) -> Extents {
+        self.tape.extents()
     }
 
     /// The fields of what a piece sets.

@@ -1,27 +1,29 @@
 //! What a reprinted tape holds, in numbers.
 
 use crate::fonts::Fonts;
-use crate::text::grouped;
-use spatecanter::galley::{characters, Character};
+use crate::text::{farthest_x, greatest_height, grouped};
+use spatecanter::galley::{characters, font_name, Character};
 use spatecanter::sheet::{fields, Field};
+use spatecanter::Extents;
 use std::collections::BTreeMap;
 use std::fmt;
 
 pub struct Summary<'a> {
     fonts: &'a Fonts,
     pages: usize,
+    extents: Extents,
     /// How many characters there are of each font number.
     by_font: BTreeMap<i32, usize>,
 }
 
 impl Summary<'_> {
-    pub fn of<'a>(galley: &[u8], sheet: &[u8], fonts: &'a Fonts) -> Summary<'a> {
+    pub fn of<'a>(galley: &[u8], sheet: &[u8], extents: Extents, fonts: &'a Fonts) -> Summary<'a> {
         let pages = fields(sheet).filter(|field| matches!(field, Field::Page(_))).count();
         let mut by_font = BTreeMap::new();
         for character in characters(galley) {
             *by_font.entry(character.font_number).or_default() += 1;
         }
-        Summary { fonts, pages, by_font }
+        Summary { fonts, pages, extents, by_font }
     }
 
     /// The characters of a font, in all its sizes.
@@ -46,13 +48,18 @@ impl fmt::Display for Summary<'_> {
         };
         row(f, "characters", self.by_font.values().sum())?;
         row(f, "pages", self.pages)?;
+        let (x, height) = (farthest_x(self.extents), greatest_height(self.extents));
+        for (what, reach) in [("farthest x", x), ("greatest height", height)] {
+            let (number, measures) = reach.split_once(' ').unwrap_or_default();
+            writeln!(f, "{what:<28}{number:>10} {measures}")?;
+        }
         for font in self.fonts.iter() {
             row(f, &format!("in {}", font.label()), self.in_font(font.number))?;
         }
         row(f, "fonts, by size", self.by_font.len())?;
         for (&number, &count) in &self.by_font {
             let (font, points) = (of_number(number).font(), of_number(number).points());
-            row(f, &format!("  C{font}{points:02}: font {font}, {points} points"), count)?;
+            row(f, &format!("  {}: font {font}, {points} points", font_name(number)), count)?;
         }
         Ok(())
     }

@@ -1,7 +1,8 @@
-//! Galleys and sheets as lines of text.
+//! Galleys, sheets and extents as text.
 
-use spatecanter::galley::{items, Item};
+use spatecanter::galley::{font_name, items, Item};
 use spatecanter::sheet::{fields, Field};
+use spatecanter::Extents;
 use std::io::{self, Write};
 
 /// A number with its thousands apart.
@@ -21,6 +22,33 @@ pub fn grouped(number: usize) -> String {
 pub fn counted(number: usize, thing: &str) -> String {
     let plural = if number == 1 { "" } else { "s" };
     format!("{} {thing}{plural}", grouped(number))
+}
+
+/// The farthest x, in units and in inches.
+pub fn farthest_x(extents: Extents) -> String {
+    format!("{}, {:.2} inches", counted(extents.x as usize, "unit"), f64::from(extents.x) / 432.0)
+}
+
+/// The greatest height, in quanta and in inches.
+pub fn greatest_height(extents: Extents) -> String {
+    let quanta = if extents.height == 1 { "quantum" } else { "quanta" };
+    let inches = f64::from(extents.height) / 144.0;
+    format!("{} {quanta}, {inches:.2} inches", grouped(extents.height as usize))
+}
+
+/// How many characters there are, how far they reach, and their fonts by name.
+pub fn reach(characters: usize, extents: Extents) -> String {
+    let characters_in_words = counted(characters, "character");
+    if characters == 0 {
+        return characters_in_words;
+    }
+    let fonts: Vec<String> = extents.font_numbers().map(font_name).collect();
+    format!(
+        "{characters_in_words}\n  farthest x {}\n  greatest height {}\n  fonts {}",
+        farthest_x(extents),
+        greatest_height(extents),
+        fonts.join(" ")
+    )
 }
 
 /// Lists a galley that the check accepts.

@@ -15,6 +15,9 @@ use std::process::{Command, Stdio};
 
 const P3_TAPE: &str = "40 EF 52 4E 01 FC 02 49";
 
+/// What is told of P3's galley.
+const P3_TOLD: &str = "2 characters\n  farthest x 3 units, 0.01 inches\n  greatest height 0 quanta, 0.00 inches\n  fonts C110\n";
+
 /// What a run gave: exit status, standard output, standard error.
 struct Run {
     status: i32,

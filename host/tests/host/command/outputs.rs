@@ -122,7 +122,7 @@ fn names_keep_the_whole_name_of_the_input() {
     let folder = folder("names");
     for name in ["reel.001", "reel.002", "reel"] {
         fs::write(folder.join(name), hex(P3_TAPE)).unwrap();
-        assert_eq!(run(&folder, &["read", name]).err, format!("{name}.galley: 2 characters\n"));
+        assert_eq!(run(&folder, &["read", name]).err, format!("{name}.galley: {P3_TOLD}"));
         assert_eq!(run(&folder, &["plot", name]).err, format!("{name}.svg: 2 characters\n"));
         assert_eq!(
             run(&folder, &["set", &format!("{name}.galley")]).err,

@@ -1,6 +1,6 @@
 //! Tapes read in pieces, as they come.
 
-use super::{folder, names, run, run_on, P3_TAPE};
+use super::{folder, names, run, run_on, P3_TAPE, P3_TOLD};
 use crate::hex;
 use spatecanter::sample::yearbook;
 use spatecanter::Machine;
@@ -106,7 +106,7 @@ fn a_slow_drive_is_waited_for() {
     assert!(child.wait().unwrap().success());
     let mut told = String::new();
     child.stderr.take().unwrap().read_to_string(&mut told).unwrap();
-    assert_eq!(told, "a.galley: 2 characters\n");
+    assert_eq!(told, format!("a.galley: {P3_TOLD}"));
     assert_eq!(names(&folder), ["a.galley"]);
 }
 
@@ -119,4 +119,29 @@ fn a_piece_has_some_bytes() {
         assert_eq!(wrong.status, 2, "{length}");
         assert!(wrong.err.contains("is no length of a piece"), "{}", wrong.err);
     }
+}
+
+/// The extents are over all pages, whether the tape is read at once or in pieces.
+#[test]
+fn extents_are_told() {
+    let folder = folder("extents");
+    let tape = hex("40 EF 52 4E 60 01 4B 40 EF 80 80 42 43 5E 02 46 03 49");
+    fs::write(folder.join("a.tape"), &tape).unwrap();
+    let told =
+        "a.galley: 3 characters\n  farthest x 199 units, 0.46 inches\n  greatest height 31 quanta, 0.22 \
+                inches\n  fonts C110 C836\n";
+    assert_eq!(run(&folder, &["read", "a.tape", "-o", "a.galley"]).err, told);
+    assert_eq!(run(&folder, &["read", "a.tape", "-o", "a.galley", "--force", "--pieces", "2"]).err, told);
+    assert_eq!(run_on(&folder, &["read", "-", "-o", "a.galley", "--force"], &tape).err, told);
+    let summary = run(&folder, &["reprint", "a.tape", "-d", "out"]).text();
+    for row in [
+        "farthest x                         199 units, 0.46 inches\n",
+        "greatest height                     31 quanta, 0.22 inches\n",
+        "  C110: font 1, 10 points            1\n",
+        "  C836: font 8, 36 points            2\n",
+    ] {
+        assert!(summary.contains(row), "{summary}");
+    }
+    fs::write(folder.join("b.tape"), hex("40 49")).unwrap();
+    assert_eq!(run(&folder, &["read", "b.tape"]).err, "b.tape.galley: 0 characters\n");
 }

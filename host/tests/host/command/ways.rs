@@ -60,7 +60,8 @@ fn the_way_of_a_tape_with_cuts() {
     let folder = folder("pages");
     fs::write(folder.join("a.tape"), hex("40 EF 52 4E 01 4B 00 40 4B 40 EF 02 49")).unwrap();
     let read = run(&folder, &["read", "a.tape"]);
-    assert_eq!((read.status, read.err.as_str()), (0, "a.tape.galley: 2 characters\n"));
+    assert_eq!(read.status, 0);
+    assert!(read.err.starts_with("a.tape.galley: 2 characters\n"), "{}", read.err);
     assert_eq!(run(&folder, &["check", "a.tape.galley"]).text(), "accepted, 2 characters\n");
     let list = "x y font size char\n0 0 1 10 1\ncut\ncut\n0 0 2 10 2\n2 glyphs\n";
     assert_eq!(run(&folder, &["list", "a.tape.galley"]).text(), list);

@@ -1,26 +1,27 @@
 //! A tape that comes in pieces (document 02, "From the tape drive").
 
-use super::galley::{Item, NEW};
+use super::galley::{Character, Item, NEW};
 use super::tape::Machine;
 use super::{field, with_room, Refused};
 
 pub struct RunningTape {
     /// The tape that was started, and not closed since.
     open: Option<Open>,
+    /// The characters gone out since the start.
+    out: Vec<Character>,
 }
 
 struct Open {
     machine: Machine,
-    /// The bytes and the characters of the pieces so far.
+    /// The bytes of the pieces so far.
     total: usize,
-    characters: u32,
     /// The refusal that is repeated.
     refusal: Option<Refused>,
 }
 
 impl RunningTape {
     pub fn new() -> RunningTape {
-        RunningTape { open: None }
+        RunningTape { open: None, out: vec![] }
     }
 
     /// 50 changes nothing.
@@ -28,7 +29,8 @@ impl RunningTape {
         if fonts != 4 && fonts != 8 {
             return Err((50, 0));
         }
-        self.open = Some(Open { machine: Machine::at_start(fonts), total: 0, characters: 0, refusal: None });
+        self.out.clear();
+        self.open = Some(Open { machine: Machine::at_start(fonts), total: 0, refusal: None });
         Ok(vec![])
     }
 
@@ -49,7 +51,11 @@ impl RunningTape {
         let fields = with_room(Ok(fields), room, 12)?;
         open.machine = machine;
         open.total += piece.len();
-        open.characters += items.iter().filter(|item| matches!(item, Item::Character(_))).count() as u32;
+        let characters = items.into_iter().filter_map(|item| match item {
+            Item::Character(character) => Some(character),
+            Item::Cut => None,
+        });
+        self.out.extend(characters);
         Ok(fields)
     }
 
@@ -61,9 +67,20 @@ impl RunningTape {
         if !open.machine.stopped {
             return open.keep((9, open.total));
         }
-        let end = with_room(Ok(field(2, &open.characters.to_be_bytes())), room, 12)?;
+        let count = self.out.len() as u32;
+        let end = with_room(Ok(field(2, &count.to_be_bytes())), room, 12)?;
         self.open = None;
         Ok(end)
+    }
+
+    /// Farthest x and greatest height, at least 0, and the fonts met (document 02, "Extents at a glance").
+    pub fn extents(&self) -> ([i32; 2], Vec<i32>) {
+        let x = self.out.iter().map(|character| character.x).max().unwrap_or(0).max(0);
+        let height = self.out.iter().map(|character| character.height as i32).max().unwrap_or(0);
+        let mut fonts: Vec<i32> = self.out.iter().map(|character| character.font_number).collect();
+        fonts.sort();
+        fonts.dedup();
+        ([x, height], fonts)
     }
 
     /// 13 before any start and after an accepted closing, then the repeated refusal.

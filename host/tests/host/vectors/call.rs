@@ -28,6 +28,7 @@ impl Call {
                 Call::on_tape(&["out"], move |tape, lent| tape.feed(&piece, lent[0]))
             }
             "close" => Call::on_tape(&["out"], |tape, lent| tape.close(lent[0])),
+            "extents" => Ok(Call { buffers: &[], run: Box::new(|_, tape, _| tape.extents().into()) }),
             "check_galley" => {
                 let galley = inputs.take("galley", bytes)?;
                 Call::of(&[], move |them, _| (them.check_galley)(&galley))
@@ -78,11 +79,12 @@ impl Call {
     }
 }
 
-/// What a call gives back beside what it writes: its answer, and reading back a character too.
+/// What a call gives back beside what it writes: its answer, and reading back a character, or extents, too.
 #[derive(PartialEq, Debug)]
 pub struct Given {
     answer: Answer,
     character: Option<[i32; 4]>,
+    extents: Option<([i32; 2], Vec<i32>)>,
 }
 
 impl Given {
@@ -90,6 +92,10 @@ impl Given {
     pub fn read(operation: &str, answer: Answer, outputs: &mut Words) -> Result<Given, String> {
         match operation {
             "read_back" => Ok((answer, outputs.find("character", character)?.unwrap_or_default()).into()),
+            "extents" => {
+                let reach = outputs.find("reach", reach)?.unwrap_or_default();
+                Ok((reach, outputs.find("fonts", numbers)?.unwrap_or_default()).into())
+            }
             _ => Ok(answer.into()),
         }
     }
@@ -97,14 +103,25 @@ impl Given {
 
 impl From<Answer> for Given {
     fn from(answer: Answer) -> Given {
-        Given { answer, character: None }
+        Given { answer, character: None, extents: None }
     }
 }
 
 impl From<(Answer, [i32; 4])> for Given {
     fn from((answer, character): (Answer, [i32; 4])) -> Given {
-        Given { answer, character: Some(character) }
+        Given { answer, character: Some(character), extents: None }
     }
+}
+
+impl From<([i32; 2], Vec<i32>)> for Given {
+    fn from(extents: ([i32; 2], Vec<i32>)) -> Given {
+        Given { answer: [0; 3], character: None, extents: Some(extents) }
+    }
+}
+
+/// Two numbers: x, height.
+fn reach(text: &str) -> Result<[i32; 2], String> {
+    numbers(text)?.try_into().map_err(|_| "two numbers are wanted".into())
 }
 
 /// Four numbers: x, height, font number, character.

@@ -7,7 +7,7 @@ use native.Mathlib.Omega.{arith}
 use borrow.Author.Needs.{needs}
 use lib.ListN.{length}
 use Rattle.octets.specs.Write.{Wrote, wrote-none, then, named}
-use Rattle.dvi.specs.FontMarks.{markedFonts}
+use Rattle.extents.specs.FontMarks.{markedFonts}
 use Rattle.dvi.specs.Writer.{definitionBytes}
 use Rattle.dvi_writer.proofs.Postambles.{define-more, define-room}
 use Rattle.dvi_writer.proofs.postamble.put_definitions.Statement.{statement}

@@ -21,6 +21,9 @@ phase-in-requires c κs = search needs
 state-in-requires : tie.Need-state-in-requires
 state-in-requires c κs = search needs
 
+extents-in-requires : tie.Need-extents-in-requires
+extents-in-requires c κs = search needs
+
 array-read-total : tie.Need-array-read-total
 array-read-total c = search needs
 
@@ -30,10 +33,11 @@ array-read-count c = search needs
 returns : tie.Need-returns
 unfolding tapeIn
 returns c =
-    let w = c .before .before .args .t1 in
-    let p = c .before .phase-in .ensures in
-    let s = c .state-in .ensures in
-    (λ i. record { phase = p i; state = s i; total = getD w 17 0; count = getD w 18 0 })
+    let w = c .before .before .before .args .t1 in
+    let p = c .before .before .phase-in .ensures in
+    let s = c .before .state-in .ensures in
+    let x = c .extents-in .ensures in
+    (λ i. record { phase = p i; state = s i; total = getD w 17 0; count = getD w 18 0; extents = x i })
 
 pub tape-in-spec : {M : Type 1} → statement M
 tape-in-spec =
@@ -44,6 +48,7 @@ tape-in-spec =
     array-read-phase-in-3
     phase-in-requires
     state-in-requires
+    extents-in-requires
     array-read-total
     array-read-count
     returns)

@@ -59,30 +59,38 @@ units-word-requires c κs = search needs
 quanta-word-requires : tie.Need-quanta-word-requires
 quanta-word-requires c κs = search needs
 
+units-word-requires-2 : tie.Need-units-word-requires-2
+units-word-requires-2 c κs = search needs
+
+quanta-word-requires-2 : tie.Need-quanta-word-requires-2
+quanta-word-requires-2 c κs = search needs
+
 returns : tie.Need-returns
 unfolding wordsOf tapeIn
 returns c =
-    let r = c .before .before .before .before .before .before .before .before .before .before .before .before .before .before .before .before .before .before .args .r in
+    let r = c .before .before .before .before .before .before .before .before .before .before .before .before .before .before .before .before .before .before .before .before .args .r in
     let s = r .state in
-    let p = c .before .before .before .before .before .before .before .before .before .before .before .before .before .before .before .before .phase-word .ensures in
-    let n = c .before .before .before .before .before .before .before .before .before .before .before .before .before .before .before .number-word .ensures in
-    let q = c .before .before .before .before .before .before .before .before .before .before .before .before .before .before .place-word .ensures in
-    let m = c .before .before .before .before .before .before .before .before .before .before .before .before .before .machine-word .ensures in
-    let f0 = c .before .before .before .before .before .before .before .before .before .before .before .before .flag-word .ensures in
-    let f1 = c .before .before .before .before .before .before .before .before .before .before .before .flag-word2 .ensures in
-    let f2 = c .before .before .before .before .before .before .before .before .before .before .flag-word3 .ensures in
-    let f3 = c .before .before .before .before .before .before .before .before .before .flag-word4 .ensures in
-    let f4 = c .before .before .before .before .before .before .before .before .flag-word5 .ensures in
-    let f5 = c .before .before .before .before .before .before .before .flag-word6 .ensures in
-    let f6 = c .before .before .before .before .before .before .flag-word7 .ensures in
-    let f7 = c .before .before .before .before .before .flag-word8 .ensures in
-    let f8 = c .before .before .before .before .flag-word9 .ensures in
-    let f9 = c .before .before .before .flag-word10 .ensures in
-    let z = c .before .before .byte-word .ensures in
-    let x = c .before .units-word .ensures in
-    let h = c .quanta-word .ensures in
+    let p = c .before .before .before .before .before .before .before .before .before .before .before .before .before .before .before .before .before .before .phase-word .ensures in
+    let n = c .before .before .before .before .before .before .before .before .before .before .before .before .before .before .before .before .before .number-word .ensures in
+    let q = c .before .before .before .before .before .before .before .before .before .before .before .before .before .before .before .before .place-word .ensures in
+    let m = c .before .before .before .before .before .before .before .before .before .before .before .before .before .before .before .machine-word .ensures in
+    let f0 = c .before .before .before .before .before .before .before .before .before .before .before .before .before .before .flag-word .ensures in
+    let f1 = c .before .before .before .before .before .before .before .before .before .before .before .before .before .flag-word2 .ensures in
+    let f2 = c .before .before .before .before .before .before .before .before .before .before .before .before .flag-word3 .ensures in
+    let f3 = c .before .before .before .before .before .before .before .before .before .before .before .flag-word4 .ensures in
+    let f4 = c .before .before .before .before .before .before .before .before .before .before .flag-word5 .ensures in
+    let f5 = c .before .before .before .before .before .before .before .before .before .flag-word6 .ensures in
+    let f6 = c .before .before .before .before .before .before .before .before .flag-word7 .ensures in
+    let f7 = c .before .before .before .before .before .before .before .flag-word8 .ensures in
+    let f8 = c .before .before .before .before .before .before .flag-word9 .ensures in
+    let f9 = c .before .before .before .before .before .flag-word10 .ensures in
+    let z = c .before .before .before .before .byte-word .ensures in
+    let x = c .before .before .before .units-word .ensures in
+    let h = c .before .before .quanta-word .ensures in
+    let far = c .before .units-word2 .ensures in
+    let high = c .quanta-word2 .ensures in
     record {
-      words-are = (λ i. p i ∷ n .0 i ∷ q i ∷ m i ∷ f0 i ∷ f1 i ∷ f2 i ∷ f3 i ∷ f4 i ∷ f5 i ∷ f6 i ∷ f7 i ∷ f8 i ∷ f9 i ∷ z .0 i ∷ x .0 i ∷ h .0 i ∷ r .total ∷ r .count ∷ []);
+      words-are = (λ i. p i ∷ n .0 i ∷ q i ∷ m i ∷ f0 i ∷ f1 i ∷ f2 i ∷ f3 i ∷ f4 i ∷ f5 i ∷ f6 i ∷ f7 i ∷ f8 i ∷ f9 i ∷ z .0 i ∷ x .0 i ∷ h .0 i ∷ r .total ∷ r .count ∷ far .0 i ∷ high .0 i ∷ r .extents .fonts .low ∷ r .extents .fonts .high ∷ []);
       tape-is = (λ i. record {
         phase = phase-back (r .phase) _ p (n .1) q i;
         state = record {
@@ -105,6 +113,7 @@ returns c =
         };
         total = r .total;
         count = r .count;
+        extents = record { x = record { 0 = far .1 i }; height = record { 0 = high .1 i }; fonts = r .extents .fonts };
       });
     }
 
@@ -129,4 +138,6 @@ words-of-spec =
     byte-word-requires
     units-word-requires
     quanta-word-requires
+    units-word-requires-2
+    quanta-word-requires-2
     returns)

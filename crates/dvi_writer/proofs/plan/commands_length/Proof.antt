@@ -1,0 +1,59 @@
+-- `dvi_writer::plan::commands_length` meets its contract: the sum of the lengths of its parts.
+-- Assumes nothing.
+use mathlib.Core.Path.{ap, _∙_}
+use native.Mathlib.Omega.{arith}
+use borrow.Author.Needs.{needs}
+use lib.IntN.{ℤ}
+use lib.ListN.{length}
+use Rattle.dvi.specs.Writer.{move}
+use Rattle.dvi_writer.specs.Pen.{penOf}
+use Rattle.dvi_writer.proofs.Pens.{font-valid, x-fits, y-fits, x-move, y-move}
+use Rattle.dvi_writer.proofs.Moves.{length-sum}
+use Rattle.dvi_writer.proofs.plan.commands_length.Statement.{statement}
+use Rattle.dvi_writer.proofs.plan.commands_length.Tie as tie
+
+less-requires : tie.Need-less-requires
+less-requires c κs = x-fits _ _ (c .pre .1) _ (c .pre .0)
+
+less-requires-2 : tie.Need-less-requires-2
+less-requires-2 c κs = y-fits _ _ (c .before .pre .1) _ (c .before .pre .0)
+
+font-length-requires : tie.Need-font-length-requires
+font-length-requires c κs = font-valid _ (c .before .before .pre .1 .is-valid)
+
+move-length-requires : tie.Need-move-length-requires
+move-length-requires c κs = search needs
+
+add-result : tie.Need-add-result
+add-result c = search needs
+
+move-length-requires-2 : tie.Need-move-length-requires-2
+move-length-requires-2 c κs = search needs
+
+add-result-2 : tie.Need-add-result-2
+add-result-2 c = search needs
+
+add-result-3 : tie.Need-add-result-3
+add-result-3 c = search needs
+
+returns : tie.Need-returns
+unfolding penOf
+returns c =
+    let s = c .before .before .before .before .before in
+    let x = c .before .move-length .ensures .0 ∙ ap (λ (z : ℤ). length (move 0 z)) (c .before .before .before .before .less .ensures ∙ x-move _ _ (s .pre .1) _ (s .pre .0)) in
+    let y = c .move-length2 .ensures .0 ∙ ap (λ (z : ℤ). length (move 0 z)) (c .before .before .before .less2 .ensures ∙ y-move _ _ (s .pre .1) _ (s .pre .0)) in
+    (length-sum (penOf (s .args .last)) (s .args .c) _ _ _ (c .before .before .font-length .ensures .0) x y, omega (arith, c .before .before .font-length .ensures .1, c .before .move-length .ensures .1, c .move-length2 .ensures .1))
+
+pub commands-length-spec : {M : Type 1} → statement M
+commands-length-spec =
+    tie.close
+    (tie.spec
+    less-requires
+    less-requires-2
+    font-length-requires
+    move-length-requires
+    add-result
+    move-length-requires-2
+    add-result-2
+    add-result-3
+    returns)
