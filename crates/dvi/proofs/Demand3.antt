@@ -10,7 +10,7 @@ use mathlib.Core.List.{List, [], _∷_}
 use mathlib.Core.Option.{some}
 use Prim.Native.Nat.{ℕ, zero, suc, _+_, _*_, _%_, _≤_}
 use native.Mathlib.Omega.{arith}
-use borrow.Author.Tests.{le-ltb, eq-eqb}
+use borrow.Author.Tests.{le-ltb}
 use lib.IntN.{ℤ, pos}
 use lib.ListN.{length, getElem?, length-append}
 use Rattle.integers.specs.Parts.{integers}
@@ -23,10 +23,13 @@ use Rattle.galley_file.specs.declared.item.Item.{Item}
 use Rattle.galley_file.specs.declared.item.Item.the-variants.{Placed, Cut}
 use Rattle.galley_file.specs.Item.{charactersOf, cutsOf}
 use Rattle.galley_file.specs.Galley.{maxItems, AllValid}
-use Rattle.dvi.specs.Page.{fontChars, Mark, pageMark, charMark}
-use Rattle.dvi.specs.File.{shows, readDvi}
-use Rattle.dvi.specs.Sheet.{maxDvi, markField, markFields, sheet, shownResult, sheetResult}
-use Rattle.dvi.specs.SheetLaws.{length-markField, length-sheet}
+use Rattle.sheet.specs.Sheet.{Mark, pageMark, charMark, markField, markFields, sheet}
+use Rattle.dvi.specs.Page.{fontChars}
+use Rattle.sheet.specs.Shown.{Shown, shows, shownResult}
+use Rattle.dvi.specs.File.{readDvi}
+use Rattle.dvi.specs.Sheet.{sheetResult}
+use Rattle.dvi.specs.SheetLaws.{readable}
+use Rattle.sheet.specs.SheetLaws.{length-markField, length-sheet}
 use Rattle.dvi.specs.Writer.{dviFile}
 use Rattle.dvi.specs.WriterLaws.{file-fits}
 use Rattle.dvi.specs.Demand3.{ShowsCharacter, ShowsAll, shows-none, shows-next, shows-cut, markOf, marksOf, Faithful, shownFont, shownPlace, Alike, Compared}
@@ -81,7 +84,7 @@ pub file-result : (widths : List ℤ) {is : List Item} → length widths % fontC
     → sheetResult (dviFile is) widths room ≡ ifRoom noSheetRoom room (written (sheet (pageMark (pos 1) ∷ marksOf 1 is)))
 unfolding sheetResult shownResult
 file-result widths {is} w v h room =
-    rw (le-ltb maxDvi (length (dviFile is)) (file-fits is h), eq-eqb (length widths % fontChars) 0 w, file-shows widths v h)
+    readable (dviFile is) widths _ (file-fits is h) w ∙ ap (λ (x : Shown). ifRoom noSheetRoom room (shownResult x)) (file-shows widths v h)
 
 pub demand3 : (widths : List ℤ) {is : List Item} → length widths % fontChars ≡ 0 → AllValid lowEnd is → length is ≤ maxItems → Faithful widths is
 unfolding ifRoom

@@ -21,7 +21,8 @@ use Rattle.galley_file.specs.CharacterLaws.{Valid, valid-parts}
 use Rattle.galley_file.specs.Galley.{AllValid}
 use Rattle.galley_file.specs.Galley as galley
 use Rattle.dvi.specs.Command.{BOP, EOP, forms, formOf, withParameters, decode}
-use Rattle.dvi.specs.Page.{Page, newPage, Mark, pageMark, endPage, effect}
+use Rattle.sheet.specs.Sheet.{Mark, pageMark}
+use Rattle.dvi.specs.Page.{Page, newPage, endPage, effect}
 use Rattle.dvi.specs.File.{between, inside, goOn, afterEffect, inPage, beginPage, step}
 use Rattle.dvi.specs.Writer.{newPen, bopBytes, Press, itemBytes, pressAfter, itemsBytes, pressAll}
 use Rattle.dvi.specs.WriterLaws.{Small, small-next, press-next}

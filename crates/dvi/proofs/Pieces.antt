@@ -16,7 +16,8 @@ use Rattle.octets.specs.Octets.{bytes, signedBytes, widthOf}
 use Rattle.octets.specs.OctetsLaws.{by-cond, signedBytes-pos, width-holds, width-range, true-fits32}
 use Rattle.measure.specs.TargetLaws.{move-ends}
 use Rattle.dvi.specs.Command.{HORZCHAR, FONT, X4, Y4, FONTNUM, Command, horzChar, setFont, moveX, moveY, bare, takes, forms, formOf}
-use Rattle.dvi.specs.Page.{Numbers, Page, Mark, charMark, moved, marked, withNumbers, withFont, rightBy, downBy, setX, setY, ifFits, goTo, charHere, setStill, effect}
+use Rattle.sheet.specs.Sheet.{Mark, charMark}
+use Rattle.dvi.specs.Page.{Numbers, Page, moved, marked, withNumbers, withFont, rightBy, downBy, setX, setY, ifFits, goTo, charHere, setStill, effect}
 use Rattle.dvi.specs.File.{inside}
 use Rattle.dvi.specs.Writer.{Pen, fontCommand, fontChange, shortest, move}
 use Rattle.dvi.proofs.Runs.{Goes, goes-nil, goes-append, goes-moved, goes-marked, decode-takes, decode-bare}

@@ -12,9 +12,12 @@ use lib.Seq.{drop-append-seam}
 use Rattle.octets.specs.Octets.{signedBytes, Holds}
 use Rattle.octets.specs.OctetsLaws.{length-signedBytes, signed-first}
 use Rattle.dvi.specs.Command.{Command, bare, takes, formOf, command, withParameters, decode}
-use Rattle.dvi.specs.Page.{Page, Mark, moved, marked, effect}
-use Rattle.dvi.specs.File.{State, inside, goOn, afterEffect, inPage, step, showsFirst, follow, run}
-use Rattle.dvi.specs.FileLaws.{showsFirst-nil, showsFirst-append, run-pass}
+use Rattle.sheet.specs.Sheet.{Mark}
+use Rattle.dvi.specs.Page.{Page, moved, marked, effect}
+use Rattle.sheet.specs.Shown.{showsFirst}
+use Rattle.dvi.specs.File.{State, inside, goOn, afterEffect, inPage, step, follow, runAs, marksAlone, run}
+use Rattle.sheet.specs.ShownLaws.{showsFirst-nil, showsFirst-append}
+use Rattle.dvi.specs.FileLaws.{run-pass}
 
 -- from state q at offset `at` the bytes bs show ms and lead to state r
 pub record Goes (ws : List ℤ) (at : ℕ) (q : State) (bs : List ℕ) (ms : List Mark) (r : State) : Type 0 where
@@ -31,13 +34,13 @@ module _ (ws : List ℤ) (at : ℕ) where
 
   pub goes-step : (q r : State) (op : ℕ) (ps : List ℕ) (ms : List Mark) → ((rest : List ℕ) → step ws at q op (ps ++ rest) ≡ goOn r ms (length ps))
       → Goes ws at q (op ∷ ps) ms r
-  unfolding run follow
+  unfolding runAs follow
   goes-step q r op ps ms e = record { goes = λ rest. rw (e rest) (ap (showsFirst ms) (over rest)) }
     where
       -- the parameters are passed over
       over : (rest : List ℕ) → run ws (suc at) r (length ps) (ps ++ rest) ≡ run ws (at + suc (length ps)) r 0 rest
       over rest =
-          run-pass ws (suc at) (length ps) r (ps ++ rest) (omega (arith, length-append ps rest))
+          run-pass marksAlone ws (suc at) (length ps) r (ps ++ rest) (omega (arith, length-append ps rest))
           ∙ ap (run ws (suc at + length ps) r 0) (drop-append-seam ps rest)
           ∙ ap (λ (n : ℕ). run ws n r 0 rest) (omega arith)
 

@@ -14,8 +14,10 @@ use Rattle.galley_file.specs.declared.character.Character.{Character}
 use Rattle.galley_file.specs.declared.item.Item.{Item}
 use Rattle.galley_file.specs.Item.{charactersOf}
 use Rattle.galley_file.specs.Galley.{maxItems, AllValid}
-use Rattle.dvi.specs.Page.{newPage, pageMark}
-use Rattle.dvi.specs.File.{between, endFile, step, shows, showsFirst, follow, run, readDvi}
+use Rattle.sheet.specs.Sheet.{pageMark}
+use Rattle.dvi.specs.Page.{newPage}
+use Rattle.sheet.specs.Shown.{shows, showsFirst}
+use Rattle.dvi.specs.File.{between, endFile, step, follow, runAs, run, readAs, readDvi}
 use Rattle.dvi.specs.Writer.{bopBytes, firstPress, itemsBytes, pressAll, pagesBytes, postambleBytes, dviFile}
 use Rattle.dvi.specs.WriterLaws.{itemsBytes-most, Small, small-first, press-small, length-pages}
 use Rattle.dvi.specs.Demand3.{marksOf}
@@ -39,11 +41,11 @@ module _ (ws : List ℤ) where
 
   -- PST at offset `at`
   end-file : (at last : ℕ) (cs : List Character) → last < 2147483648 → at < 2147483648 → run ws at (between (pos last)) 0 (postambleBytes last at cs) ≡ shows []
-  unfolding run step endFile follow postambleBytes
+  unfolding runAs step endFile follow postambleBytes
   end-file at last cs h k = rw (postamble-right at last cs h k)
 
   pub file-shows : {is : List Item} → AllValid lowEnd is → length is ≤ maxItems → readDvi ws (dviFile is) ≡ shows (pageMark (pos 1) ∷ marksOf 1 is)
-  unfolding readDvi dviFile showsFirst
+  unfolding readAs dviFile showsFirst
   file-shows {is} v h =
       pages-go v h .goes (postambleBytes last n (charactersOf is))
       ∙ ap (showsFirst (pageMark (pos 1) ∷ marksOf 1 is))

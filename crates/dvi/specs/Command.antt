@@ -1,6 +1,7 @@
 -- The commands of 002 and how they stand in bytes. BOP and PST stand between pages, and `File` reads them.
 --     BOP, EOP ..     the numbers of commands, as 002 names them
 --     Command         a command inside a page
+--     NoBracket       neither PUSH nor POP
 --     Form            how the parameters of a command stand after its first byte
 --     formOf          the form of each first byte
 --     Decoded         the command that some bytes start with, or why there is none
@@ -13,7 +14,7 @@ use lib.IntN.{ℤ, pos}
 use lib.ListN.{length, getD, take}
 use Rattle.octets.specs.Octets.{signed, signedAt}
 
--- ---- the numbers of the commands that stand between pages, and of those that our writer makes
+-- ---- the numbers of the commands that stand between pages, of brackets, and of those that our writer makes
 
 abbrev pub BOP : ℕ
 BOP = 129
@@ -23,6 +24,12 @@ EOP = 130
 
 abbrev pub PST : ℕ
 PST = 131
+
+abbrev pub PUSH : ℕ
+PUSH = 132
+
+abbrev pub POP : ℕ
+POP = 133
 
 abbrev pub HORZCHAR : ℕ
 HORZCHAR = 136
@@ -65,6 +72,25 @@ pub data Command : Type 0 where
   moveY0 : Command
   moveZ : ℤ → Command
   moveZ0 : Command
+
+abbrev pub NoBracket : Command → Type 0
+NoBracket (setChar c) = Unit {0}
+NoBracket nop = Unit {0}
+NoBracket eop = Unit {0}
+NoBracket push = ⊥
+NoBracket pop = ⊥
+NoBracket (vertRule h w) = Unit {0}
+NoBracket (horzRule h w) = Unit {0}
+NoBracket (horzChar c) = Unit {0}
+NoBracket (setFont f) = Unit {0}
+NoBracket (moveW m) = Unit {0}
+NoBracket moveW0 = Unit {0}
+NoBracket (moveX m) = Unit {0}
+NoBracket moveX0 = Unit {0}
+NoBracket (moveY m) = Unit {0}
+NoBracket moveY0 = Unit {0}
+NoBracket (moveZ m) = Unit {0}
+NoBracket moveZ0 = Unit {0}
 
 pub data Form : Type 0 where
   -- undefined, or not allowed inside a page

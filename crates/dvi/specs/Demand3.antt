@@ -20,9 +20,10 @@ use Rattle.galley_file.specs.declared.character.Character.{Character}
 use Rattle.galley_file.specs.declared.item.Item.{Item}
 use Rattle.galley_file.specs.declared.item.Item.the-variants.{Placed, Cut}
 use Rattle.galley_file.specs.Item.{charactersOf, cutsOf}
-use Rattle.dvi.specs.Page.{Mark, pageMark, charMark, ruleMark}
-use Rattle.dvi.specs.File.{shows, readDvi}
-use Rattle.dvi.specs.Sheet.{maxDvi, sheet, sheetResult}
+use Rattle.sheet.specs.Sheet.{Mark, pageMark, charMark, ruleMark, sheet}
+use Rattle.sheet.specs.Shown.{shows}
+use Rattle.dvi.specs.File.{readDvi}
+use Rattle.dvi.specs.Sheet.{maxDvi, sheetResult}
 use Rattle.dvi.specs.Writer.{dviFile}
 
 pub record ShowsCharacter (c : Character) (m : Mark) : Type 0 where

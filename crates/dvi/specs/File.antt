@@ -2,12 +2,13 @@
 --     State        where a reader of the file stands
 --     Step         what the command there leads to
 --     step         the step that each command makes
---     Shown        what the file shows, or its refusal
---     run          what the rest of a file shows
---     readDvi      what a file shows, with these widths
+--     runAs        what the rest of a file shows, where `tell` is what is told of a command's marks; run: the marks alone
+--     readAs       what a file shows, with these widths, as told
+--     readDvi      the marks alone
+--     readPlaced   each mark with the offset of its command
 use Prim.Native.Nat.{ℕ, zero, suc}
 use mathlib.Core.Bool.{cond, _&&_}
-use mathlib.Core.List.{List, [], _∷_, _++_}
+use mathlib.Core.List.{List, [], _∷_, map}
 use lib.Dec.{leb, eqb}
 use lib.IntN.{ℤ, pos, negsuc}
 use lib.ListN.{length, take}
@@ -15,8 +16,10 @@ use lib.Signed.{nonNeg}
 use Rattle.integers.specs.Parts.{eqZ}
 use Rattle.octets.specs.Octets.{signed, signedAt}
 use Rattle.octets.specs.Answer.{badCommand, dviEndsEarly, wrongOffset, badPostamble}
+use Rattle.sheet.specs.Sheet.{Mark, pageMark}
+use Rattle.sheet.specs.Shown.{ShownAs, Shown, refusedAt, shows, showsFirst}
 use Rattle.dvi.specs.Command.{BOP, PST, Decoded, noCommand, cutShort, command, decode}
-use Rattle.dvi.specs.Page.{Page, newPage, Mark, pageMark, Effect, fault, moved, marked, ended, effect}
+use Rattle.dvi.specs.Page.{Page, newPage, Effect, fault, moved, marked, ended, effect}
 use Rattle.dvi.specs.Postamble.{postamble}
 
 -- between pages or inside one; the integer is the offset of the last BOP, -1 before the first
@@ -62,28 +65,49 @@ step ws at (between last) op ps =
     cond (eqb op BOP) (beginPage last at ps)
     (cond (eqb op PST && nonNeg last) (endFile last at ps) (refuse badCommand))
 
-pub data Shown : Type 0 where
-  -- the number and the place
-  refusedAt : ℕ → ℕ → Shown
-  -- pages, characters and rules in file order
-  shows : List Mark → Shown
-
-unfoldable pub showsFirst : List Mark → Shown → Shown
-showsFirst ms (refusedAt r at) = refusedAt r at
-showsFirst ms (shows ns) = shows (ms ++ ns)
-
--- what a step at offset `at` shows, with what the rest shows
-unfoldable pub follow : ℕ → Step → (State → ℕ → Shown) → Shown
-follow at (refuse r) rest = refusedAt r at
-follow at (goOn q ms n) rest = showsFirst ms (rest q n)
-follow at finish rest = shows []
+-- what a step at offset `at` shows, with what the rest shows; `tell` is what is told of a command's offset and marks
+unfoldable pub follow : {A : Type 0} → (ℕ → List Mark → List A) → ℕ → Step → (State → ℕ → ShownAs A) → ShownAs A
+follow tell at (refuse r) rest = refusedAt r at
+follow tell at (goOn q ms n) rest = showsFirst (tell at ms) (rest q n)
+follow tell at finish rest = shows []
 
 -- the rest of the file from offset `at`, after n bytes that are passed over; 22: it ends inside a page, or before PST
-unfoldable pub run : List ℤ → ℕ → State → ℕ → List ℕ → Shown
-run ws at q n [] = refusedAt dviEndsEarly at
-run ws at q (suc n) (b ∷ bs) = run ws (suc at) q n bs
-run ws at q zero (b ∷ bs) = follow at (step ws at q b bs) (λ r n. run ws (suc at) r n bs)
+unfoldable pub runAs : {A : Type 0} → (ℕ → List Mark → List A) → List ℤ → ℕ → State → ℕ → List ℕ → ShownAs A
+runAs tell ws at q n [] = refusedAt dviEndsEarly at
+runAs tell ws at q (suc n) (b ∷ bs) = runAs tell ws (suc at) q n bs
+runAs tell ws at q zero (b ∷ bs) = follow tell at (step ws at q b bs) (λ r n. runAs tell ws (suc at) r n bs)
 
 -- the first byte is a BOP
-unfoldable pub readDvi : List ℤ → List ℕ → Shown
-readDvi ws dvi = run ws 0 (between (negsuc 0)) 0 dvi
+unfoldable pub readAs : {A : Type 0} → (ℕ → List Mark → List A) → List ℤ → List ℕ → ShownAs A
+readAs tell ws dvi = runAs tell ws 0 (between (negsuc 0)) 0 dvi
+
+-- the marks alone
+abbrev pub marksAlone : ℕ → List Mark → List Mark
+marksAlone at ms = ms
+
+abbrev pub run : List ℤ → ℕ → State → ℕ → List ℕ → Shown
+run ws at q n bs = runAs marksAlone ws at q n bs
+
+abbrev pub readDvi : List ℤ → List ℕ → Shown
+readDvi ws dvi = readAs marksAlone ws dvi
+
+-- a mark with the offset of its command
+pub record PlacedMark : Type 0 where
+  pub place : ℕ
+  pub mark : Mark
+
+abbrev pub markIn : PlacedMark → Mark
+markIn p = p .mark
+
+-- the marks of the command at `at`, with that offset
+unfoldable pub placedAt : ℕ → List Mark → List PlacedMark
+placedAt at [] = []
+placedAt at (m ∷ ms) = record { place = at; mark = m } ∷ placedAt at ms
+
+abbrev pub readPlaced : List ℤ → List ℕ → ShownAs PlacedMark
+readPlaced ws dvi = readAs placedAt ws dvi
+
+-- the marks alone of what is shown so
+abbrev pub unplaced : ShownAs PlacedMark → Shown
+unplaced (refusedAt k at) = refusedAt k at
+unplaced (shows ps) = shows (map markIn ps)

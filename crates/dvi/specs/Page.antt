@@ -1,8 +1,7 @@
--- The state of a page, what is shown on it, and the effect of each command (002; document 01, "DVI").
+-- The state of a page, and the effect of each command (002; document 01, "DVI").
 --     Numbers      the six numbers that PUSH and POP keep
 --     Page         the numbers, the font and the stack
 --     newPage      the page after BOP
---     Mark         what is shown: the start of a page, a character, a rule
 --     Effect       what a command does
 --     effect       the effect of each command, with these widths, on this page
 use Prim.Native.Nat.{ℕ, _+_, _*_}
@@ -14,6 +13,7 @@ use lib.IntN.{ℤ, pos, negsuc, _+ℤ_}
 use lib.ListN.{length, getD}
 use Rattle.octets.specs.Octets.{fits32}
 use Rattle.octets.specs.Answer.{stackFull, stackEmpty, entriesLeft, cannotSet, outOf32Bits}
+use Rattle.sheet.specs.Sheet.{Mark, charMark, ruleMark}
 use Rattle.dvi.specs.Command.{Command, setChar, nop, eop, push, pop, vertRule, horzRule, horzChar, setFont, moveW, moveW0, moveX, moveX0, moveY, moveY0, moveZ, moveZ0}
 
 -- the entries of the stack
@@ -48,16 +48,6 @@ newPage =
       font = none;
       stack = [];
     }
-
--- ---- what is shown
-
-pub data Mark : Type 0 where
-  -- the start of the page with this number
-  pageMark : ℤ → Mark
-  -- x, y, font, character
-  charMark : ℤ → ℤ → ℤ → ℕ → Mark
-  -- 0 vertical or 1 horizontal; x, y before the rule; height, width
-  ruleMark : ℕ → ℤ → ℤ → ℤ → ℤ → Mark
 
 -- ---- the effect of a command
 

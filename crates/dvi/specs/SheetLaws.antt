@@ -1,44 +1,25 @@
--- How long a sheet is, and one field more.
+-- The whole-call tests of a reader, one by one.
 -- Assumes nothing.
-use mathlib.Core.Path.{_≡_, refl, sym, ap, _∙_}
-use mathlib.Core.List.{List, [], _∷_, _++_, append-assoc, append-nil}
-use Prim.Native.Nat.{ℕ, _+_, _≤_}
-use native.Mathlib.Omega.{arith}
-use lib.ListN.{length, length-append}
-use Rattle.octets.specs.Octets.{bytes, signedBytes}
-use Rattle.octets.specs.Field.{field, endField}
-use Rattle.octets.specs.FieldLaws.{length-end}
-use Rattle.dvi.specs.Page.{Mark, pageMark, charMark, ruleMark}
-use Rattle.dvi.specs.Sheet.{markField, markFields, sheet}
+use mathlib.Core.Path.{_≡_}
+use mathlib.Core.List.{List}
+use Prim.Native.Nat.{ℕ, _%_, _≤_, _<_}
+use borrow.Author.Tests.{lt-ltb, le-ltb, eq-eqb, ne-eqb}
+use lib.IntN.{ℤ}
+use lib.ListN.{length}
+use Rattle.octets.specs.Answer.{Result, refusal, dviTooLong, widthsNotWhole}
+use Rattle.dvi.specs.Page.{fontChars}
+use Rattle.dvi.specs.Sheet.{maxDvi, ifReadable}
 
--- the bytes of a field: 7 for a page, 16 for a character, 20 for a rule
-abbrev pub fieldSize : Mark → ℕ
-fieldSize (pageMark n) = 7
-fieldSize (charMark x y f c) = 16
-fieldSize (ruleMark kind x y h w) = 20
+module _ (dvi : List ℕ) (widths : List ℤ) (r : Result) where
+  pub too-long : maxDvi < length dvi → ifReadable dvi widths r ≡ refusal dviTooLong 0
+  unfolding ifReadable
+  too-long h = rw (lt-ltb maxDvi (length dvi) h)
 
-pub length-markField : (m : Mark) → length (markField m) ≡ fieldSize m
-unfolding markField field signedBytes bytes
-length-markField (pageMark n) = refl
-length-markField (charMark x y f c) = refl
-length-markField (ruleMark kind x y h w) = refl
+  module _ (h : length dvi ≤ maxDvi) where
+    pub not-whole : (length widths % fontChars ≡ 0 → ⊥) → ifReadable dvi widths r ≡ refusal widthsNotWhole 0
+    unfolding ifReadable
+    not-whole e = rw (le-ltb maxDvi (length dvi) h, ne-eqb (length widths % fontChars) 0 e)
 
-pub fieldSize-most : (m : Mark) → fieldSize m ≤ 20
-fieldSize-most (pageMark n) = omega arith
-fieldSize-most (charMark x y f c) = omega arith
-fieldSize-most (ruleMark kind x y h w) = omega arith
-
-pub markFields-append : (ms ns : List Mark) → markFields (ms ++ ns) ≡ markFields ms ++ markFields ns
-unfolding markFields
-markFields-append [] ns = refl
-markFields-append (m ∷ ms) ns =
-    ap (λ (l : List ℕ). markField m ++ l) (markFields-append ms ns)
-    ∙ sym (append-assoc (markField m) (markFields ms) (markFields ns))
-
-pub markFields-more : (ms : List Mark) (m : Mark) → markFields (ms ++ (m ∷ [])) ≡ markFields ms ++ markField m
-unfolding markFields
-markFields-more ms m = markFields-append ms (m ∷ []) ∙ ap (λ (l : List ℕ). markFields ms ++ l) (append-nil (markField m))
-
-pub length-sheet : (ms : List Mark) → length (sheet ms) ≡ length (markFields ms) + 7
-unfolding sheet
-length-sheet ms = let l = length-end (length ms) in length-append (markFields ms) (endField (length ms)) ∙ (omega arith)
+    pub readable : length widths % fontChars ≡ 0 → ifReadable dvi widths r ≡ r
+    unfolding ifReadable
+    readable e = rw (le-ltb maxDvi (length dvi) h, eq-eqb (length widths % fontChars) 0 e)

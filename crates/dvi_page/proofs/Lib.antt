@@ -1,3 +1,2 @@
 mod Stacks
-mod Commands
 mod Pages

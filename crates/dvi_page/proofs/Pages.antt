@@ -1,7 +1,7 @@
 -- The effects of commands, by the outcomes of the code's tests.
 -- Assumes nothing.
-use mathlib.Core.Path.{_≡_, refl, sym, ap, _∙_}
-use mathlib.Core.Bool.{Bool, true, false, true≢false}
+use mathlib.Core.Path.{_≡_, refl, ap, _∙_}
+use mathlib.Core.Bool.{true, false, true≢false}
 use mathlib.Core.List.{List, _∷_}
 use mathlib.Core.Option.{Option, none, some}
 use Prim.Native.Nat.{ℕ, _+_, _*_, _≤_, _<_}
@@ -11,38 +11,13 @@ use lib.IntN.{ℤ, pos, negsuc, natAbs, _+ℤ_}
 use lib.ListN.{length, getD}
 use lib.Signed.{ltZ}
 use mir.Syntax.{w32}
-use mir.Val.{SFits, toZ, ofZ}
-use Rattle.integers.specs.Parts.{plain}
+use mir.Val.{SFits}
 use Rattle.octets.specs.Octets.{fits32}
 use Rattle.octets.specs.OctetsLaws.{true-fits32}
 use Rattle.octets.specs.Answer.{stackFull, cannotSet, outOf32Bits}
 use Rattle.dvi.specs.Page.{maxStack, fontChars, Numbers, Page, Effect, fault, moved, marked, withNumbers, rightBy, downBy, ifFits, widthIn, charHere, setStill, pushed, popped}
-use Rattle.dvi_page.specs.Reach.{reachIf, reach}
-use Rattle.dvi_page.specs.declared.reach.Reach.{Reach}
-use Rattle.dvi_page.specs.declared.reach.Reach.the-variants.{To, Off}
 
 -- ---- moves that stay in signed 32 bits, and moves that leave them
-
-to-is : (b : Bool) (z v : ℤ) → reachIf b z ≡ To v → (b ≡ true) × (v ≡ z)
-to-is true z v e = (refl, (cc))
-to-is false z v e = let d : _≡_ {A = ℕ} 0 1 = cc in absurd (omega arith)
-
-off-is : (b : Bool) (z : ℤ) → reachIf b z ≡ Off → b ≡ false
-off-is true z e = let d : _≡_ {A = ℕ} 0 1 = cc in absurd (omega arith)
-off-is false z e = refl
-
--- what `sum` answers on the numbers a and b
-module _ (a b : ℤ) {r : Reach} (e : r ≡ reach (toZ w32 (ofZ w32 a) +ℤ toZ w32 (ofZ w32 b))) (p : SFits w32 a) (q : SFits w32 b) where
-  plain-sum : reach (a +ℤ b) ≡ r
-  plain-sum = (λ i. reach (sym (plain p) i +ℤ sym (plain q) i)) ∙ sym e
-
-  pub sum-to : {v : ℤ} → r ≡ To v → (fits32 (a +ℤ b) ≡ true) × (v ≡ a +ℤ b)
-  unfolding reach
-  sum-to {v} t = to-is (fits32 (a +ℤ b)) (a +ℤ b) v (plain-sum ∙ t)
-
-  pub sum-off : r ≡ Off → fits32 (a +ℤ b) ≡ false
-  unfolding reach
-  sum-off t = off-is (fits32 (a +ℤ b)) (a +ℤ b) (plain-sum ∙ t)
 
 -- the effect f of a page that goes on at the numbers n moved by m
 module _ (f : Page → Effect) (p : Page) (n : Numbers) (m : ℤ) where

@@ -1,6 +1,4 @@
--- The code's commands, sums, stack and page as those of the format.
-pub mod Reach
+-- The code's stack and page as those of the format.
 pub mod Stack
 pub mod StackLaws
-pub mod Command
 pub mod Page

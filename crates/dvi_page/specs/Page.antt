@@ -6,8 +6,7 @@ use lib.IntN.{ℤ}
 use Rattle.dvi.specs.Page as S
 use Rattle.dvi_page.specs.Stack.{numbersOf, stackOf}
 use Rattle.dvi_page.specs.declared.page.Page.{Page}
-use Rattle.dvi_page.specs.declared.page.Mark.{Mark}
-use Rattle.dvi_page.specs.declared.page.Mark.the-variants.{Start, Char, Rule}
+use Rattle.sheet.specs.Mark.{markOf}
 use Rattle.dvi_page.specs.declared.page.Effect.{Effect}
 use Rattle.dvi_page.specs.declared.page.Effect.the-variants.{Fault, Moved, Marked, Ended}
 use Rattle.dvi_page.specs.declared.page.Width.{Width}
@@ -19,11 +18,6 @@ fontOf true f = some f
 
 abbrev pub pageOf : Page → List ℤ → S.Page
 pageOf p l = record { numbers = numbersOf (p .numbers); font = fontOf (p .«has_font») (p .font); stack = stackOf l (p .depth) }
-
-abbrev pub markOf : Mark → S.Mark
-markOf (Start n) = S.pageMark n
-markOf (Char c x y f) = S.charMark x y f c
-markOf (Rule k x y h w) = S.ruleMark k x y h w
 
 abbrev pub effectOf : Effect → List ℤ → S.Effect
 effectOf (Fault n) l = S.fault n

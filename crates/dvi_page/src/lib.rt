@@ -1,5 +1,3 @@
-// A page of a DVI file of 1980 (002): its commands, and what each does.
-pub mod command;
+// A page of a DVI file of 1980 (002), and what each command does to it.
 pub mod page;
-pub mod reach;
 pub mod stack;

@@ -1,19 +1,22 @@
 // The state of a page, and the effect of each command on it.
-use crate::command::Command;
-use crate::reach;
-use crate::reach::Reach;
 use crate::stack;
 use crate::stack::Numbers;
+use dvi_command::Command;
 use octets::answer;
+use octets::reach;
+use octets::reach::Reach;
+use sheet::Mark;
 ghost use mathlib.Core.Path.{_≡_};
 ghost use mathlib.Core.List.{List};
 ghost use Prim.Native.Nat.{_≤_};
 ghost use lib.IntN.{ℤ};
 ghost use lib.ListN.{length};
+ghost use Rattle.dvi.specs.Command.{NoBracket};
 ghost use Rattle.dvi.specs.Page as S;
-ghost use Rattle.dvi_page.specs.Command.{commandOf};
+ghost use Rattle.dvi_command.specs.Command.{commandOf};
 ghost use Rattle.dvi_page.specs.Stack.{stackSize, numbersOf, stackOf};
-ghost use Rattle.dvi_page.specs.Page.{pageOf, markOf, effectOf, widthOf};
+ghost use Rattle.sheet.specs.Mark.{markOf};
+ghost use Rattle.dvi_page.specs.Page.{pageOf, effectOf, widthOf};
 
 // The characters of a font.
 pub const FONT_CHARS: usize = 128;
@@ -27,24 +30,6 @@ pub struct Page {
     pub numbers: Numbers,
     pub font: i32,
     pub depth: usize,
-}
-
-// What is shown: the start of a page, a character, a rule.
-pub enum Mark {
-    Start(i32),
-    Char {
-        ch: u8,
-        x: i32,
-        y: i32,
-        font: i32,
-    },
-    Rule {
-        kind: u8,
-        x: i32,
-        y: i32,
-        height: i32,
-        width: i32,
-    },
 }
 
 // What a command does.
@@ -80,7 +65,8 @@ pub fn new_page() -> Page
     }
 }
 
-fn with_numbers(p: Page, n: Numbers) -> Page
+// The page with other numbers.
+pub fn with_numbers(p: Page, n: Numbers) -> Page
     ensures { λ r. ⌜ ((l : List ℤ) → pageOf r l ≡ S.withNumbers (pageOf p l) (numbersOf n)) ⌝ }
 {
     let mut q = p;
@@ -301,18 +287,18 @@ fn end_page(p: Page) -> Effect
     Effect::Fault(answer::ENTRIES_LEFT)
 }
 
-// The effect of a command.
-pub fn effect_of(widths: &[i32], entries: &mut [i32], p: Page, c: Command) -> Effect
-    requires { ⌜ (length (now entries) ≡ stackSize) × (p .depth ≤ S.maxStack) ⌝ }
-    ensures { λ r. ⌜ effectOf r (now (entries .exit)) ≡ S.effect (now (widths .entry)) (pageOf p (now (entries .entry))) (commandOf c) ⌝ }
+// The effect of a command other than PUSH and POP, which alone know the stack.
+pub fn plain_effect(widths: &[i32], p: Page, c: Command) -> Effect
+    requires { ⌜ NoBracket (commandOf c) ⌝ }
+    ensures { λ r. ⌜ ((l : List ℤ) → effectOf r l ≡ S.effect (now (widths .entry)) (pageOf p l) (commandOf c)) ⌝ }
 {
     let mut n = p.numbers;
     match c {
         Command::SetChar(k) => set_char(widths, p, k),
         Command::Nop => Effect::Moved(p),
         Command::Eop => end_page(p),
-        Command::Push => push(entries, p),
-        Command::Pop => pop(entries, p),
+        Command::Push => Effect::Moved(p),
+        Command::Pop => Effect::Moved(p),
         Command::VertRule(h, w) => vert_rule(p, h, w),
         Command::HorzRule(h, w) => horz_rule(p, h, w),
         Command::HorzChar(k) => horz_char(p, k),
@@ -337,5 +323,17 @@ pub fn effect_of(widths: &[i32], entries: &mut [i32], p: Page, c: Command) -> Ef
             down(p, n, m)
         }
         Command::MoveZ0 => down(p, n, n.za),
+    }
+}
+
+// The effect of a command.
+pub fn effect_of(widths: &[i32], entries: &mut [i32], p: Page, c: Command) -> Effect
+    requires { ⌜ (length (now entries) ≡ stackSize) × (p .depth ≤ S.maxStack) ⌝ }
+    ensures { λ r. ⌜ effectOf r (now (entries .exit)) ≡ S.effect (now (widths .entry)) (pageOf p (now (entries .entry))) (commandOf c) ⌝ }
+{
+    match c {
+        Command::Push => push(entries, p),
+        Command::Pop => pop(entries, p),
+        _ => plain_effect(widths, p, c),
     }
 }

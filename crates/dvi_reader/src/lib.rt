@@ -1,48 +1,26 @@
 // DVI files of 1980 (002), read into sheets with a lent table of widths.
-mod postamble;
-mod sheet;
-mod step;
-
 use dvi_page::page;
+use dvi_step::State;
+use dvi_step::Stepped;
 use octets::answer;
 use octets::answer::Answer;
 use octets::field;
-use step::State;
-use step::Stepped;
+use octets::pass::Reading;
 ghost use mathlib.Core.Path.{_≡_};
 ghost use mathlib.Core.Bool.{true};
-ghost use Prim.Native.Nat.{_+_, _≤_};
+ghost use Prim.Native.Nat.{_≤_};
 ghost use lib.ListN.{length};
 ghost use Rattle.octets.specs.Answer.{outcomeOf, Gives};
-ghost use Rattle.octets.specs.Field.{endField};
+ghost use Rattle.octets.specs.Pass.{Roomy, Passed};
+ghost use Rattle.sheet.specs.Shown.{shownResult};
 ghost use Rattle.dvi.specs.File.{readDvi};
 ghost use Rattle.dvi.specs.Sheet.{maxDvi, sheetResult};
-ghost use Rattle.octets.specs.Write.{putIf};
-ghost use Rattle.dvi_reader.specs.Pass.{Roomy, Passed};
-
-pub const MAX_DVI: usize = 33_554_432;
-
-// What a pass finds: the bytes that the sheet needs, or a refusal at a place.
-pub enum Reading {
-    Needs(usize),
-    Fault(u8, usize),
-}
-
-// Writes End, if writing.
-fn show_end(out: &mut [u8], to: usize, count: u32, writing: bool)
-    requires { ⌜ (writing ≡ true → to + 7 ≤ length (now out)) ⌝ }
-    ensures { λ _. ⌜ now (out .exit) ≡ putIf writing (now (out .entry)) to (endField count) ⌝ }
-{
-    if writing {
-        field::put_end(out, to, count);
-    }
-}
 
 // One pass over a file within the limit. It writes the sheet, if writing.
 fn pass(dvi: &[u8], widths: &[i32], out: &mut [u8], writing: bool) -> Reading
     requires { ⌜ length (now dvi) ≤ maxDvi ⌝ }
-    requires { ⌜ (writing ≡ true → Roomy (readDvi (now widths) (now dvi)) (length (now out))) ⌝ }
-    ensures { λ r. ⌜ Passed (readDvi (now (widths .entry)) (now (dvi .entry))) writing (now (out .entry)) r (now (out .exit)) ⌝ }
+    requires { ⌜ (writing ≡ true → Roomy (shownResult (readDvi (now widths) (now dvi))) (length (now out))) ⌝ }
+    ensures { λ r. ⌜ Passed (shownResult (readDvi (now (widths .entry)) (now (dvi .entry)))) writing (now (out .entry)) r (now (out .exit)) ⌝ }
 {
     let mut stack = [0i32; 1200];
     let mut q = State::Between(-1);
@@ -50,7 +28,7 @@ fn pass(dvi: &[u8], widths: &[i32], out: &mut [u8], writing: bool) -> Reading
     let mut to: usize = 0;
     let mut count: u32 = 0;
     while at < dvi.len() {
-        let r = step::step(dvi, widths, &mut stack, at, q);
+        let r = dvi_step::step(dvi, widths, &mut stack, at, q);
         match r {
             Stepped::Refuse(k) => {
                 return Reading::Fault(k, at);
@@ -67,7 +45,7 @@ fn pass(dvi: &[u8], widths: &[i32], out: &mut [u8], writing: bool) -> Reading
                 at = at + 1 + n;
             }
             Stepped::Finish => {
-                show_end(out, to, count, writing);
+                field::show_end(out, to, count, writing);
                 return Reading::Needs(to + field::END_FIELD);
             }
         }
@@ -79,7 +57,7 @@ fn pass(dvi: &[u8], widths: &[i32], out: &mut [u8], writing: bool) -> Reading
 pub fn read_dvi(dvi: &[u8], widths: &[i32], sheet: &mut [u8]) -> Answer
     ensures { λ r. ⌜ Gives (outcomeOf r) (sheetResult (now (dvi .entry)) (now (widths .entry))) (now (sheet .entry)) (now (sheet .exit)) ⌝ }
 {
-    if MAX_DVI < dvi.len() {
+    if dvi_step::MAX_DVI < dvi.len() {
         return Answer::Refused(answer::DVI_TOO_LONG, 0);
     }
     if widths.len() % page::FONT_CHARS != 0 {

@@ -70,7 +70,7 @@ fn valid_beside_x(c: Character, across: bool) -> bool
 }
 
 // Whether c is valid but for its height.
-fn valid_but_height(c: Character) -> bool
+pub fn valid_but_height(c: Character) -> bool
     ensures { λ r. ⌜ r ≡ (ltb (c .font) 120 && leb 1 (c .code) && leb (c .code) 108 && validX (isDouble (sizeIndex (c .font))) (c .x .0)) ⌝ }
 {
     valid_beside_x(

@@ -106,6 +106,9 @@ noDviRoom = 42
 abbrev pub noConvertedRoom : ℕ
 noConvertedRoom = 44
 
+abbrev pub noGalley : ℕ
+noGalley = 45
+
 abbrev pub noMachine : ℕ
 noMachine = 50
 

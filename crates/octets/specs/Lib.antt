@@ -1,4 +1,4 @@
--- Numbers in bytes, fields, and what an operation answers.
+-- Numbers in bytes, fields, sums in 32 bits, and what an operation answers.
 pub mod Octets
 pub mod OctetsLaws
 pub mod Write
@@ -6,3 +6,7 @@ pub mod Field
 pub mod FieldLaws
 pub mod Answer
 pub mod AnswerLaws
+pub mod Reach
+pub mod ReachLaws
+pub mod Pass
+pub mod PassLaws

@@ -57,3 +57,40 @@ room-after w n k e h = omega (arith, w .next-is, length-wrote w)
 -- the same bytes, named otherwise
 pub named : {o₀ : List ℕ} {at : ℕ} {xs ys o₁ : List ℕ} {i : ℕ} → xs ≡ ys → Wrote o₀ at xs o₁ i → Wrote o₀ at ys o₁ i
 named {o₀} {at} {xs} {ys} {o₁} {i} e w = subst (λ (l : List ℕ). Wrote o₀ at l o₁ i) e w
+
+-- ---- written, or only counted
+
+-- the buffer `before` is now `later`, with xs at `to` if writing, and `next` is the place after them
+pub record Put (w : Bool) (before : List ℕ) (to : ℕ) (xs later : List ℕ) (next : ℕ) : Type 0 where
+  pub buffer : later ≡ putIf w before to xs
+  pub place : next ≡ to + length xs
+
+pub put-written : {w : Bool} {before : List ℕ} {to : ℕ} {xs later : List ℕ} {next : ℕ} → w ≡ true → Wrote before to xs later next → Put w before to xs later next
+put-written {w} {before} {to} {xs} e v =
+    record { buffer = v .buffer-is ∙ sym (ap (λ (u : Bool). putIf u before to xs) e); place = v .next-is }
+
+pub put-named : {w : Bool} {before : List ℕ} {to : ℕ} {xs ys later : List ℕ} {next : ℕ} → xs ≡ ys → Put w before to xs later next → Put w before to ys later next
+put-named {w} {before} {to} {xs} {ys} {later} {next} e p = subst (λ (l : List ℕ). Put w before to l later next) e p
+
+pub putIf-none : (w : Bool) (out : List ℕ) (to : ℕ) → out ≡ putIf w out to []
+putIf-none true out to = refl
+putIf-none false out to = refl
+
+pub putIf-append : (w : Bool) (before : List ℕ) (to : ℕ) (xs ys : List ℕ) {out later : List ℕ} {i : ℕ} → out ≡ putIf w before to xs → i ≡ to + length xs → later ≡ putIf w out i ys
+    → later ≡ putIf w before to (xs ++ ys)
+putIf-append false before to xs ys e t f = f ∙ e
+putIf-append true before to xs ys e t f = f ∙ (λ o. sets (e o) (t o) ys) ∙ sym (sets-append before to xs ys)
+
+pub put-none : (w : Bool) (before : List ℕ) (to : ℕ) → Put w before to [] before to
+put-none w before to = record { buffer = putIf-none w before to; place = omega arith }
+
+pub put-then : {w : Bool} {before : List ℕ} {to : ℕ} {xs later : List ℕ} {i : ℕ} {ys latest : List ℕ} {j : ℕ} → Put w before to xs later i → Put w later i ys latest j → Put w before to (xs ++ ys) latest j
+put-then {w} {before} {to} {xs} {ys = ys} u v =
+    record {
+      buffer = putIf-append w before to xs ys (u .buffer) (u .place) (v .buffer);
+      place = omega (arith, u .place, v .place, length-append xs ys);
+    }
+
+-- without writing nothing changes
+pub put-still : {w : Bool} {before : List ℕ} {to : ℕ} {xs later : List ℕ} {i : ℕ} → w ≡ false → Put w before to xs later i → later ≡ before
+put-still {w} {before} {to} {xs} e u = u .buffer ∙ ap (λ (v : Bool). putIf v before to xs) e

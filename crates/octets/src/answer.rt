@@ -78,4 +78,6 @@ pub const NO_DVI_ROOM: u8 = 42;
 
 pub const NO_CONVERTED_ROOM: u8 = 44;
 
+pub const NO_GALLEY: u8 = 45;
+
 pub const NO_MACHINE: u8 = 50;

@@ -1,12 +1,13 @@
 // Fields: one tag byte, a two-byte length, a body (document 01, "Galley").
 use crate::number;
 ghost use mathlib.Core.Path.{_≡_};
+ghost use mathlib.Core.Bool.{true};
 ghost use mathlib.Core.List.{_∷_};
 ghost use Prim.Native.Nat.{_+_, _≤_};
 ghost use lib.ListN.{length};
 ghost use Rattle.octets.specs.Octets.{bytes};
 ghost use Rattle.octets.specs.Field.{endField, startsField, startsEnd};
-ghost use Rattle.octets.specs.Write.{Wrote};
+ghost use Rattle.octets.specs.Write.{Wrote, putIf};
 
 // A tag and a length.
 pub const HEAD: usize = 3;
@@ -58,4 +59,14 @@ pub fn put_end(out: &mut [u8], at: usize, count: u32) -> usize
 {
     let next = put_head(out, at, END_TAG, END_LENGTH);
     number::put_nat4(out, next, count)
+}
+
+// Writes an End, if writing.
+pub fn show_end(out: &mut [u8], to: usize, count: u32, writing: bool)
+    requires { ⌜ (writing ≡ true → to + 7 ≤ length (now out)) ⌝ }
+    ensures { λ _. ⌜ now (out .exit) ≡ putIf writing (now (out .entry)) to (endField count) ⌝ }
+{
+    if writing {
+        put_end(out, to, count);
+    }
 }

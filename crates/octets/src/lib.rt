@@ -1,4 +1,6 @@
-// Numbers in bytes, fields, and what an operation answers.
+// Numbers in bytes, fields, sums in 32 bits, and what an operation answers.
 pub mod answer;
 pub mod field;
 pub mod number;
+pub mod pass;
+pub mod reach;

@@ -24,9 +24,11 @@ use Rattle.galley_file.specs.Item.{charactersOf, cutsOf}
 use Rattle.galley_file.specs.Galley.{AllValid, galley, whole, readGalley}
 use Rattle.galley_file.specs.Low.{lowResult}
 use Rattle.galley_file.specs.Outcome.{checkOutcome}
-use Rattle.dvi.specs.Page.{fontChars, Mark, pageMark}
-use Rattle.dvi.specs.File.{shows, readDvi}
-use Rattle.dvi.specs.Sheet.{sheet, sheetResult}
+use Rattle.sheet.specs.Sheet.{Mark, pageMark, sheet}
+use Rattle.dvi.specs.Page.{fontChars}
+use Rattle.sheet.specs.Shown.{shows}
+use Rattle.dvi.specs.File.{readDvi}
+use Rattle.dvi.specs.Sheet.{sheetResult}
 use Rattle.dvi.specs.Writer.{dviFile}
 use Rattle.dvi.specs.Demand3.{ShowsAll, Compared}
 use Rattle.dvi_writer.specs.Result.{dviResult}

@@ -19,9 +19,11 @@ use Rattle.galley_file.specs.Galley.{maxItems, AllValid, galley, whole, readGal
 use Rattle.galley_file.specs.GalleyLaws.{Accepted, accepted-is}
 use Rattle.galley_file.specs.Low.{lowOutcome, lowResult}
 use Rattle.galley_file.specs.LowLaws.{low-checked, low-made, low-refused, low-accepts}
-use Rattle.dvi.specs.Page.{fontChars, Mark, pageMark}
-use Rattle.dvi.specs.File.{shows, readDvi}
-use Rattle.dvi.specs.Sheet.{sheet, sheetResult}
+use Rattle.sheet.specs.Sheet.{Mark, pageMark, sheet}
+use Rattle.dvi.specs.Page.{fontChars}
+use Rattle.sheet.specs.Shown.{shows}
+use Rattle.dvi.specs.File.{readDvi}
+use Rattle.dvi.specs.Sheet.{sheetResult}
 use Rattle.dvi.specs.Writer.{dviFile}
 use Rattle.dvi.specs.Demand3.{ShowsAll, Faithful, Compared, markOf}
 use Rattle.dvi.proofs.Demand3.{demand3, file-result, shows-all-only, compared}

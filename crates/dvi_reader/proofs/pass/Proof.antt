@@ -1,5 +1,5 @@
--- `dvi_reader::pass` meets its contract. The invariant and its laws are in `Passes`: what the file shows so far (`Standing`), and the
--- buffer that holds it (`Filled`). The measure is what is left of the file.
+-- `dvi_reader::pass` meets its contract. The invariant: what the file shows so far (`Standing`), and the buffer that
+-- holds it (`Filled`). The measure is what is left of the file.
 -- Assumes nothing.
 use mathlib.Core.Path.{_≡_, refl, sym, ap, _∙_}
 use mathlib.Core.Bool.{true}
@@ -9,22 +9,23 @@ use native.Mathlib.Omega.{arith}
 use borrow.Author.Needs.{needs}
 use lib.IntN.{ℤ}
 use lib.ListN.{length, length-append}
-use Rattle.dvi.specs.Page.{Mark}
-use Rattle.dvi.specs.File.{goOn}
+use Rattle.sheet.specs.Sheet.{Mark, markFields}
+use Rattle.dvi.specs.File.{goOn, marksAlone}
 use Rattle.dvi.specs.FileLaws.{stepHere}
-use Rattle.dvi.specs.Sheet.{markField, markFields}
-use Rattle.dvi.specs.SheetLaws.{fieldSize, length-markField, markFields-more}
-use Rattle.dvi_page.specs.Page.{markOf}
-use Rattle.dvi_reader.specs.Step.{stateOf, stepOf}
-use Rattle.dvi_reader.specs.declared.step.State.{State}
-use Rattle.dvi_reader.specs.declared.step.Stepped.{Stepped}
-use Rattle.dvi_reader.proofs.Passes.{Standing, standing-start, standing-next, standing-refused, standing-finished, standing-ended, standing-room, Filled, filled-start, filled-still, filled-more, passed-refused, passed-finished}
+use Rattle.sheet.specs.SheetLaws.{fieldSize, length-markField, one-field, markFields-append}
+use Rattle.sheet.specs.ShownLaws.{shown-room}
+use Rattle.sheet.specs.Mark.{markOf}
+use Rattle.sheet.specs.Filled.{Filled, filled-start, filled-still, filled-mark, filled-refused, filled-finished}
+use Rattle.dvi_step.specs.Step.{stateOf, stepOf}
+use Rattle.dvi_step.specs.Standing.{Standing, standing-start, standing-next, standing-refused, standing-finished, standing-ended}
+use Rattle.dvi_step.specs.declared.State.{State}
+use Rattle.dvi_step.specs.declared.Stepped.{Stepped}
 use Rattle.dvi_reader.proofs.pass.Statement.{statement}
 use Rattle.dvi_reader.proofs.pass.Tie as tie
 
 abbrev Inv-loop : tie.InvT-loop
 Inv-loop dvi widths out₀ writing stack₀ q₀ at₀ to₀ count₀ out stack q at to count =
-    (ms : List Mark) × (Standing widths dvi stack q at ms × Filled writing out₀ out ms at to count)
+    (ms : List Mark) × (Standing marksAlone widths dvi stack q at ms × Filled writing out₀ out ms at to count)
 
 abbrev μ-loop : tie.MeasureT-loop
 μ-loop dvi widths out₀ writing stack₀ q₀ at₀ to₀ count₀ out stack q at to count = length dvi - at
@@ -40,7 +41,7 @@ module _ (c : tie.After-step Inv-loop μ-loop) where
   abbrev marks : List Mark
   marks = c .before .before .before .loop .inv .0
 
-  abbrev standing : Standing (start .args .widths .now) (start .args .dvi .now) (c .before .before .before .loop .stack) (c .before .before .before .loop .q) place marks
+  abbrev standing : Standing marksAlone (start .args .widths .now) (start .args .dvi .now) (c .before .before .before .loop .stack) (c .before .before .before .loop .q) place marks
   standing = c .before .before .before .loop .inv .1 .0
 
   abbrev filled : Filled (start .args .writing) (start .args .out .now) (c .before .before .before .loop .out) marks place (c .before .before .before .loop .to) (c .before .before .before .loop .count)
@@ -54,7 +55,7 @@ module _ (c : tie.After-step Inv-loop μ-loop) where
   stepped e = sym (c .step .ensures) ∙ ap (λ (r : Stepped). stepOf r entries) e
 
   abbrev Further : State → List Mark → ℕ → Type 0
-  Further t ms n = Standing (start .args .widths .now) (start .args .dvi .now) entries t (place + 1 + n) (marks ++ ms)
+  Further t ms n = Standing marksAlone (start .args .widths .now) (start .args .dvi .now) entries t (place + 1 + n) (marks ++ ms)
 
   further : (t : State) (ms : List Mark) (n : ℕ)
       → stepHere (start .args .widths .now) (start .args .dvi .now) place (stateOf (c .before .before .before .loop .q) (c .before .before .before .loop .stack)) ≡ goOn (stateOf t entries) ms n
@@ -79,20 +80,19 @@ room : (c : tie.After-known-told3 Inv-loop μ-loop) → start (c .before .before
 room c w =
     let k = c .before .before .before .before in
     let m = markOf (c .before .r3 .given .0 .1 .0) in
-    let r = start k .pre .1 w in
     omega (
       arith,
-      standing-room (showing c) (r .accepted),
-      r .enough,
-      ap length (markFields-more (marks k) m),
-      length-append (markFields (marks k)) (markField m),
+      shown-room (marks k ++ (m ∷ [])) _ (showing c .so-far) (start k .pre .1 w),
+      ap length (markFields-append (marks k) (m ∷ [])),
+      length-append (markFields (marks k)) (markFields (m ∷ [])),
+      ap length (one-field m),
       length-markField m,
     )
 
 loop-holds : tie.Need-loop-holds Inv-loop μ-loop
 loop-holds c =
     let a = c .before .before .args in
-    ([], (standing-start (a .widths .now) (a .dvi .now) _ refl, filled-start (a .writing) (a .out .now)))
+    ([], (standing-start marksAlone (a .widths .now) (a .dvi .now) _ refl, filled-start (a .writing) (a .out .now)))
 
 slice-aggregate-step : tie.Need-slice-aggregate-step Inv-loop μ-loop
 slice-aggregate-step c = search needs
@@ -112,7 +112,7 @@ returns : tie.Need-returns Inv-loop μ-loop
 returns c =
     let k = c .before .before .before .before in
     let g = c .before .r .given in
-    passed-refused (filled k) (start k .pre .1) (standing-refused (standing k) (k .before .before .loop-test .taken) (g .0 .0) (stepped k (g .1)))
+    filled-refused (filled k) (standing-refused (standing k) (k .before .before .loop-test .taken) (g .0 .0) (stepped k (g .1))) (start k .pre .1)
 
 enum-known-r-2 : tie.Need-enum-known-r-2 Inv-loop μ-loop
 enum-known-r-2 c = search needs
@@ -136,7 +136,7 @@ show-mark-requires : tie.Need-show-mark-requires Inv-loop μ-loop
 show-mark-requires c κs =
     let k = c .before .before .before .before .before in
     let p = filled k in
-    (omega (arith, p .near, standing k .within, start k .pre .0), λ w. omega (arith, room (c .before) w, p .place-is, p .same))
+    (omega (arith, p .near, standing k .within, start k .pre .0), λ w. omega (arith, room (c .before) w, p .put .place, p .same))
 
 add-count : tie.Need-add-count Inv-loop μ-loop
 add-count c =
@@ -162,7 +162,7 @@ loop-again-2 : tie.Need-loop-again-2 Inv-loop μ-loop
 loop-again-2 c =
     let t = c .before .before .before .before in
     let p = c .before .before .show-mark in
-    (_, (showing t, filled-more (filled (t .before .before .before .before)) _ (markOf (t .before .r3 .given .0 .1 .0)) (omega arith) (p .ensures) (p .kept .0)))
+    (_, (showing t, filled-mark (filled (t .before .before .before .before)) _ (markOf (t .before .r3 .given .0 .1 .0)) (omega arith) (p .ensures) (p .kept .0)))
 
 enum-told : tie.Need-enum-told Inv-loop μ-loop
 enum-told c = search needs
@@ -170,8 +170,7 @@ enum-told c = search needs
 show-end-requires : tie.Need-show-end-requires Inv-loop μ-loop
 show-end-requires c κs w =
     let k = c .before .before .before .before in
-    let r = start k .pre .1 w in
-    omega (arith, standing-room (standing k) (r .accepted), r .enough, filled k .place-is, filled k .same)
+    omega (arith, shown-room (marks k) _ (standing k .so-far) (start k .pre .1 w), filled k .put .place, filled k .same)
 
 add-t29 : tie.Need-add-t29 Inv-loop μ-loop
 add-t29 c =
@@ -185,7 +184,7 @@ returns-2 : tie.Need-returns-2 Inv-loop μ-loop
 returns-2 c =
     let k = c .before .before .before .before .before .before .before in
     let e = standing-finished (standing k) (k .before .before .loop-test .taken) (stepped k (c .before .before .before .before .enum-told .given .1)) in
-    passed-finished (filled k) e (c .before .before .show-end .ensures)
+    filled-finished (filled k) e (c .before .before .show-end .ensures)
 
 same-length-3 : tie.Need-same-length-3 Inv-loop μ-loop
 same-length-3 c = c .before .loop .inv .1 .1 .same
@@ -193,7 +192,7 @@ same-length-3 c = c .before .loop .inv .1 .1 .same
 returns-3 : tie.Need-returns-3 Inv-loop μ-loop
 returns-3 c =
     let i = c .before .loop .inv in
-    passed-refused (i .1 .1) (c .before .before .before .before .pre .1) (standing-ended (i .1 .0) (c .loop-test .left))
+    filled-refused (i .1 .1) (standing-ended (i .1 .0) (c .loop-test .left)) (c .before .before .before .before .pre .1)
 
 pub pass-spec : {M : Type 1} → statement M
 pass-spec =

@@ -2,9 +2,8 @@
 -- Assumes nothing.
 use mathlib.Core.Path.{ap, subst, _∙_}
 use borrow.Author.Needs.{needs}
-use Rattle.octets.specs.Answer.{Outcome}
+use Rattle.octets.specs.Answer.{Outcome, numbersOf}
 use Rattle.reprint.specs.Reprint.{ReprintedWhenever}
-use Rattle.octets.specs.Answer.{numbersOf}
 use Rattle.spatecanter.proofs.sp_reprint.Statement.{statement}
 use Rattle.spatecanter.proofs.sp_reprint.Tie as tie
 

@@ -7,7 +7,8 @@ use Rattle.integers.specs.Parts.{plain}
 use Rattle.dvi.specs.Page.{moved, goTo}
 use Rattle.dvi_page.specs.Stack.{numbersOf}
 use Rattle.dvi_page.specs.Page.{pageOf}
-use Rattle.dvi_page.proofs.Pages.{sum-to, sum-off, down-to, down-off}
+use Rattle.octets.specs.ReachLaws.{sum-to, sum-off}
+use Rattle.dvi_page.proofs.Pages.{down-to, down-off}
 use Rattle.dvi_page.proofs.page.down.Statement.{statement}
 use Rattle.dvi_page.proofs.page.down.Tie as tie
 

@@ -1,17 +1,43 @@
--- `dvi_page::page::effect_of` meets its contract: each command's effect is that of the function called.
+-- `dvi_page::page::effect_of` meets its contract: PUSH and POP by the stack, any other command by `plain_effect`.
 -- Assumes nothing.
 use mathlib.Core.Path.{_≡_, sym, ap, _∙_}
+use mathlib.Core.List.{List, [], _∷_}
+use Prim.Native.Nat.{ℕ}
 use borrow.Author.Needs.{needs}
-use mir.Syntax.{w32}
-use lib.IntN.{ℤ}
-use Rattle.integers.specs.Parts.{plain}
-use Rattle.dvi.specs.Command.{vertRule, horzRule, horzChar, setFont}
-use Rattle.dvi.specs.Page.{Page, rightBy, downBy, setW, setX, setY, setZ, goTo, effect}
-use Rattle.dvi_page.specs.Command.{commandOf}
+use denote.Enum.Declared.{tagOf}
+use types.Run.{OneOf, miss}
+use Rattle.dvi.specs.Command.{NoBracket}
+use Rattle.dvi.specs.Page.{Page, effect}
+use Rattle.dvi_command.specs.Command.{commandOf}
 use Rattle.dvi_page.specs.Page.{pageOf}
-use Rattle.dvi_page.specs.declared.command.Command.{Command}
+use Rattle.dvi_command.specs.declared.Command.{Command}
+use Rattle.dvi_command.proofs.Command.{the-type}
+use Rattle.dvi_command.specs.declared.Command.the-variants.{SetChar, Nop, Eop, Push, Pop, VertRule, HorzRule, HorzChar, SetFont, MoveW, MoveW0, MoveX, MoveX0, MoveY, MoveY0, MoveZ, MoveZ0}
 use Rattle.dvi_page.proofs.page.effect_of.Statement.{statement}
 use Rattle.dvi_page.proofs.page.effect_of.Tie as tie
+
+-- the tags of the commands other than PUSH and POP
+abbrev others : List ℕ
+others = 0 ∷ 1 ∷ 2 ∷ 5 ∷ 6 ∷ 7 ∷ 8 ∷ 9 ∷ 10 ∷ 11 ∷ 12 ∷ 13 ∷ 14 ∷ 15 ∷ 16 ∷ []
+
+no-bracket : (k : Command) → OneOf others (tagOf the-type k) → NoBracket (commandOf k)
+no-bracket (SetChar c) h = tt
+no-bracket Nop h = tt
+no-bracket Eop h = tt
+no-bracket Push h = miss others 3 tt h
+no-bracket Pop h = miss others 4 tt h
+no-bracket (VertRule a w) h = tt
+no-bracket (HorzRule a w) h = tt
+no-bracket (HorzChar c) h = tt
+no-bracket (SetFont f) h = tt
+no-bracket (MoveW m) h = tt
+no-bracket MoveW0 h = tt
+no-bracket (MoveX m) h = tt
+no-bracket MoveX0 h = tt
+no-bracket (MoveY m) h = tt
+no-bracket MoveY0 h = tt
+no-bracket (MoveZ m) h = tt
+no-bracket MoveZ0 h = tt
 
 -- the page before the command, and the effect of the command that the match found
 module _ (s : tie.Start) where
@@ -21,277 +47,49 @@ module _ (s : tie.Start) where
   found : {k : Command} → s .args .c ≡ k → effect (s .args .widths .now) page (commandOf k) ≡ effect (s .args .widths .now) page (commandOf (s .args .c))
   found e = ap (λ (k : Command). effect (s .args .widths .now) page (commandOf k)) (sym e)
 
-enum-known-c : tie.Need-enum-known-c
-enum-known-c c = search needs
-
-set-char-requires : tie.Need-set-char-requires
-set-char-requires c κs = search needs
-
 enum-told : tie.Need-enum-told
 enum-told c = search needs
-
-enum-told-2 : tie.Need-enum-told-2
-enum-told-2 c = search needs
-
-end-page-requires : tie.Need-end-page-requires
-end-page-requires c κs = search needs
-
-enum-told-3 : tie.Need-enum-told-3
-enum-told-3 c = search needs
 
 push-requires : tie.Need-push-requires
 push-requires c κs = search needs
 
-enum-told-4 : tie.Need-enum-told-4
-enum-told-4 c = search needs
+enum-told-2 : tie.Need-enum-told-2
+enum-told-2 c = search needs
 
 pop-requires : tie.Need-pop-requires
 pop-requires c κs = search needs
 
-enum-known-c-2 : tie.Need-enum-known-c-2
-enum-known-c-2 c = search needs
-
-vert-rule-requires : tie.Need-vert-rule-requires
-vert-rule-requires c κs = search needs
-
-enum-known-c-3 : tie.Need-enum-known-c-3
-enum-known-c-3 c = search needs
-
-horz-rule-requires : tie.Need-horz-rule-requires
-horz-rule-requires c κs = search needs
-
-enum-known-c-4 : tie.Need-enum-known-c-4
-enum-known-c-4 c = search needs
-
-horz-char-requires : tie.Need-horz-char-requires
-horz-char-requires c κs = search needs
-
-enum-known-c-5 : tie.Need-enum-known-c-5
-enum-known-c-5 c = search needs
-
-set-font-requires : tie.Need-set-font-requires
-set-font-requires c κs = search needs
-
-enum-known-c-6 : tie.Need-enum-known-c-6
-enum-known-c-6 c = search needs
-
-right-requires : tie.Need-right-requires
-right-requires c κs = search needs
-
-enum-told-5 : tie.Need-enum-told-5
-enum-told-5 c = search needs
-
-right-requires-2 : tie.Need-right-requires-2
-right-requires-2 c κs = search needs
-
-enum-known-c-7 : tie.Need-enum-known-c-7
-enum-known-c-7 c = search needs
-
-right-requires-3 : tie.Need-right-requires-3
-right-requires-3 c κs = search needs
-
-enum-told-6 : tie.Need-enum-told-6
-enum-told-6 c = search needs
-
-right-requires-4 : tie.Need-right-requires-4
-right-requires-4 c κs = search needs
-
-enum-known-c-8 : tie.Need-enum-known-c-8
-enum-known-c-8 c = search needs
-
-down-requires : tie.Need-down-requires
-down-requires c κs = search needs
-
-enum-told-7 : tie.Need-enum-told-7
-enum-told-7 c = search needs
-
-down-requires-2 : tie.Need-down-requires-2
-down-requires-2 c κs = search needs
-
-enum-known-c-9 : tie.Need-enum-known-c-9
-enum-known-c-9 c = search needs
-
-down-requires-3 : tie.Need-down-requires-3
-down-requires-3 c κs = search needs
-
-enum-told-8 : tie.Need-enum-told-8
-enum-told-8 c = search needs
-
-down-requires-4 : tie.Need-down-requires-4
-down-requires-4 c κs = search needs
-
-returns : tie.Need-returns
-returns c =
-    let s = c .before .before .before .before .before in
-    c .set-char .ensures (s .args .entries .now) ∙ found s (c .before .before .c .given .1)
-
-returns-2 : tie.Need-returns-2
-unfolding effect
-returns-2 c = found (c .before .before .before) (c .enum-told .given .1)
-
-returns-3 : tie.Need-returns-3
-unfolding effect
-returns-3 c =
-    let s = c .before .before .before .before in
-    c .end-page .ensures (s .args .entries .now) ∙ found s (c .before .enum-told2 .given .1)
+plain-effect-requires : tie.Need-plain-effect-requires
+plain-effect-requires c κs = no-bracket (c .before .args .c) (c .match .keys3)
 
 same-length : tie.Need-same-length
 same-length c = search needs
 
-returns-4 : tie.Need-returns-4
+returns : tie.Need-returns
 unfolding effect
-returns-4 c = c .before .push .ensures ∙ found (c .before .before .before .before .before .before) (c .before .before .before .enum-told3 .given .1)
+returns c = c .before .push .ensures ∙ found (c .before .before .before .before .before) (c .before .before .before .enum-told .given .1)
 
 same-length-2 : tie.Need-same-length-2
 same-length-2 c = search needs
 
-returns-5 : tie.Need-returns-5
+returns-2 : tie.Need-returns-2
 unfolding effect
-returns-5 c = c .pop .ensures ∙ found (c .before .before .before .before .before) (c .before .before .enum-told4 .given .1)
+returns-2 c = c .pop .ensures ∙ found (c .before .before .before .before) (c .before .before .enum-told2 .given .1)
 
-returns-6 : tie.Need-returns-6
-returns-6 c =
-    let s = c .before .before .before .before .before in
-    let g = c .before .before .c2 .given in
-    let h = plain {w = w32} {z = g .0 .0} (search needs) in
-    let w = plain {w = w32} {z = g .0 .1 .0} (search needs) in
-    c .vert-rule .ensures (s .args .widths .now) (s .args .entries .now) ∙ (λ i. effect (s .args .widths .now) (page s) (vertRule (h i) (w i))) ∙ found s (g .1)
-
-returns-7 : tie.Need-returns-7
-returns-7 c =
-    let s = c .before .before .before .before .before in
-    let g = c .before .before .c3 .given in
-    let h = plain {w = w32} {z = g .0 .0} (search needs) in
-    let w = plain {w = w32} {z = g .0 .1 .0} (search needs) in
-    c .horz-rule .ensures (s .args .widths .now) (s .args .entries .now) ∙ (λ i. effect (s .args .widths .now) (page s) (horzRule (h i) (w i))) ∙ found s (g .1)
-
-returns-8 : tie.Need-returns-8
-returns-8 c =
-    let s = c .before .before .before .before .before in
-    let g = c .before .before .c4 .given in
-    let e = plain {w = w32} {z = g .0 .0} (search needs) in
-    c .horz-char .ensures (s .args .widths .now) (s .args .entries .now) ∙ ap (λ (z : ℤ). effect (s .args .widths .now) (page s) (horzChar z)) e ∙ found s (g .1)
-
-returns-9 : tie.Need-returns-9
-returns-9 c =
-    let s = c .before .before .before .before .before in
-    let g = c .before .before .c5 .given in
-    let e = plain {w = w32} {z = g .0 .0} (search needs) in
-    c .set-font .ensures (s .args .widths .now) (s .args .entries .now) ∙ ap (λ (z : ℤ). effect (s .args .widths .now) (page s) (setFont z)) e ∙ found s (g .1)
-
-returns-10 : tie.Need-returns-10
-unfolding effect rightBy setW
-returns-10 c =
-    let s = c .before .before .before .before .before in
-    let g = c .before .before .c6 .given in
-    let e = plain {w = w32} {z = g .0 .0} (search needs) in
-    c .right .ensures (s .args .entries .now) ∙ (λ i. goTo (page s) (setW (e i) (rightBy (e i) (page s .numbers)))) ∙ found s (g .1)
-
-returns-11 : tie.Need-returns-11
-unfolding effect
-returns-11 c =
-    let s = c .before .before .before .before .before in
-    let e = plain {w = w32} {z = page s .numbers .amountW} (search needs) in
-    c .right2 .ensures (s .args .entries .now) ∙ ap (λ (z : ℤ). goTo (page s) (rightBy z (page s .numbers))) e ∙ found s (c .before .before .enum-told5 .given .1)
-
-returns-12 : tie.Need-returns-12
-unfolding effect rightBy setX
-returns-12 c =
-    let s = c .before .before .before .before .before in
-    let g = c .before .before .c7 .given in
-    let e = plain {w = w32} {z = g .0 .0} (search needs) in
-    c .right3 .ensures (s .args .entries .now) ∙ (λ i. goTo (page s) (setX (e i) (rightBy (e i) (page s .numbers)))) ∙ found s (g .1)
-
-returns-13 : tie.Need-returns-13
-unfolding effect
-returns-13 c =
-    let s = c .before .before .before .before .before in
-    let e = plain {w = w32} {z = page s .numbers .amountX} (search needs) in
-    c .right4 .ensures (s .args .entries .now) ∙ ap (λ (z : ℤ). goTo (page s) (rightBy z (page s .numbers))) e ∙ found s (c .before .before .enum-told6 .given .1)
-
-returns-14 : tie.Need-returns-14
-unfolding effect downBy setY
-returns-14 c =
-    let s = c .before .before .before .before .before in
-    let g = c .before .before .c8 .given in
-    let e = plain {w = w32} {z = g .0 .0} (search needs) in
-    c .down .ensures (s .args .entries .now) ∙ (λ i. goTo (page s) (setY (e i) (downBy (e i) (page s .numbers)))) ∙ found s (g .1)
-
-returns-15 : tie.Need-returns-15
-unfolding effect
-returns-15 c =
-    let s = c .before .before .before .before .before in
-    let e = plain {w = w32} {z = page s .numbers .amountY} (search needs) in
-    c .down2 .ensures (s .args .entries .now) ∙ ap (λ (z : ℤ). goTo (page s) (downBy z (page s .numbers))) e ∙ found s (c .before .before .enum-told7 .given .1)
-
-returns-16 : tie.Need-returns-16
-unfolding effect downBy setZ
-returns-16 c =
-    let s = c .before .before .before .before .before in
-    let g = c .before .before .c9 .given in
-    let e = plain {w = w32} {z = g .0 .0} (search needs) in
-    c .down3 .ensures (s .args .entries .now) ∙ (λ i. goTo (page s) (setZ (e i) (downBy (e i) (page s .numbers)))) ∙ found s (g .1)
-
-returns-17 : tie.Need-returns-17
-unfolding effect
-returns-17 c =
-    let s = c .before .before .before .before .before in
-    let e = plain {w = w32} {z = page s .numbers .amountZ} (search needs) in
-    c .down4 .ensures (s .args .entries .now) ∙ ap (λ (z : ℤ). goTo (page s) (downBy z (page s .numbers))) e ∙ found s (c .before .before .enum-told8 .given .1)
+returns-3 : tie.Need-returns-3
+returns-3 c = c .plain-effect .ensures (c .before .before .args .entries .now)
 
 pub effect-of-spec : {M : Type 1} → statement M
 effect-of-spec =
     tie.close
     (tie.spec
-    enum-known-c
-    set-char-requires
     enum-told
-    enum-told-2
-    end-page-requires
-    enum-told-3
     push-requires
-    enum-told-4
+    enum-told-2
     pop-requires
-    enum-known-c-2
-    vert-rule-requires
-    enum-known-c-3
-    horz-rule-requires
-    enum-known-c-4
-    horz-char-requires
-    enum-known-c-5
-    set-font-requires
-    enum-known-c-6
-    right-requires
-    enum-told-5
-    right-requires-2
-    enum-known-c-7
-    right-requires-3
-    enum-told-6
-    right-requires-4
-    enum-known-c-8
-    down-requires
-    enum-told-7
-    down-requires-2
-    enum-known-c-9
-    down-requires-3
-    enum-told-8
-    down-requires-4
-    returns
-    returns-2
-    returns-3
+    plain-effect-requires
     same-length
-    returns-4
+    returns
     same-length-2
-    returns-5
-    returns-6
-    returns-7
-    returns-8
-    returns-9
-    returns-10
-    returns-11
-    returns-12
-    returns-13
-    returns-14
-    returns-15
-    returns-16
-    returns-17)
+    returns-2
+    returns-3)

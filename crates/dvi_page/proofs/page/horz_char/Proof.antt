@@ -7,7 +7,8 @@ use lib.IntN.{pos, natAbs}
 use lib.Signed.{ltZ}
 use mir.Syntax.{w32}
 use Rattle.integers.specs.Parts.{integers, plain, bounds, abs-parts, nonNeg-by}
-use Rattle.dvi.specs.Page.{charMark, marked, charHere, setStill, effect}
+use Rattle.sheet.specs.Sheet.{charMark}
+use Rattle.dvi.specs.Page.{marked, charHere, setStill, effect}
 use Rattle.dvi_page.specs.Page.{pageOf, fontOf}
 use Rattle.dvi_page.proofs.Pages.{still-none, still-negative, still-above, still-there}
 use Rattle.dvi_page.proofs.page.horz_char.Statement.{statement}

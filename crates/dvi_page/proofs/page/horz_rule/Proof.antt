@@ -3,7 +3,8 @@
 use borrow.Author.Needs.{needs}
 use mir.Syntax.{w32}
 use Rattle.integers.specs.Parts.{plain}
-use Rattle.dvi.specs.Page.{ruleMark, marked, ruleHere, effect}
+use Rattle.sheet.specs.Sheet.{ruleMark}
+use Rattle.dvi.specs.Page.{marked, ruleHere, effect}
 use Rattle.dvi_page.specs.Page.{pageOf}
 use Rattle.dvi_page.proofs.page.horz_rule.Statement.{statement}
 use Rattle.dvi_page.proofs.page.horz_rule.Tie as tie

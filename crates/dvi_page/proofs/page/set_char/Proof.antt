@@ -6,7 +6,8 @@ use borrow.Author.Needs.{needs}
 use lib.IntN.{ℤ}
 use mir.Syntax.{w32}
 use Rattle.integers.specs.Parts.{plain}
-use Rattle.dvi.specs.Page.{charMark, rightBy, showAndGoTo, charHere, widthIn, setMoving, setInFont, effect}
+use Rattle.sheet.specs.Sheet.{charMark}
+use Rattle.dvi.specs.Page.{rightBy, showAndGoTo, charHere, widthIn, setMoving, setInFont, effect}
 use Rattle.dvi_page.specs.Page.{pageOf, fontOf, widthOf}
 use Rattle.dvi_page.proofs.page.set_char.Statement.{statement}
 use Rattle.dvi_page.proofs.page.set_char.Tie as tie

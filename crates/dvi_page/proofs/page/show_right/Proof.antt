@@ -6,8 +6,10 @@ use mir.Syntax.{w32}
 use Rattle.integers.specs.Parts.{plain}
 use Rattle.dvi.specs.Page.{Page, marked, showAndGoTo}
 use Rattle.dvi_page.specs.Stack.{numbersOf}
-use Rattle.dvi_page.specs.Page.{pageOf, markOf}
-use Rattle.dvi_page.proofs.Pages.{sum-to, sum-off, right-to, right-off}
+use Rattle.sheet.specs.Mark.{markOf}
+use Rattle.dvi_page.specs.Page.{pageOf}
+use Rattle.octets.specs.ReachLaws.{sum-to, sum-off}
+use Rattle.dvi_page.proofs.Pages.{right-to, right-off}
 use Rattle.dvi_page.proofs.page.show_right.Statement.{statement}
 use Rattle.dvi_page.proofs.page.show_right.Tie as tie
 

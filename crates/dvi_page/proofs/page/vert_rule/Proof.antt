@@ -4,7 +4,8 @@ use mathlib.Core.Path.{_∙_}
 use borrow.Author.Needs.{needs}
 use mir.Syntax.{w32}
 use Rattle.integers.specs.Parts.{plain}
-use Rattle.dvi.specs.Page.{ruleMark, rightBy, showAndGoTo, ruleHere, effect}
+use Rattle.sheet.specs.Sheet.{ruleMark}
+use Rattle.dvi.specs.Page.{rightBy, showAndGoTo, ruleHere, effect}
 use Rattle.dvi_page.specs.Page.{pageOf}
 use Rattle.dvi_page.proofs.page.vert_rule.Statement.{statement}
 use Rattle.dvi_page.proofs.page.vert_rule.Tie as tie

@@ -1,0 +1,194 @@
+// The commands inside a page of a DVI file of 1980 (002), read from bytes.
+use octets::number;
+ghost use mathlib.Core.Path.{_≡_};
+ghost use mathlib.Core.List.{List};
+ghost use Prim.Native.Nat.{ℕ, _+_, _≤_, _<_};
+ghost use lib.ListN.{length, drop};
+ghost use Rattle.dvi.specs.Command.{decode as decodeOf, withParameters, takes};
+ghost use Rattle.dvi_command.specs.Command.{commandOf, decodedOf, parameterOf, stillOf, movingOf};
+
+pub enum Command {
+    SetChar(u8),
+    Nop,
+    Eop,
+    Push,
+    Pop,
+    VertRule(i32, i32),
+    HorzRule(i32, i32),
+    HorzChar(i32),
+    SetFont(i32),
+    MoveW(i32),
+    MoveW0,
+    MoveX(i32),
+    MoveX0,
+    MoveY(i32),
+    MoveY0,
+    MoveZ(i32),
+    MoveZ0,
+}
+
+// A command with the number of its parameters' bytes, or why there is none.
+pub enum Decoded {
+    NoCommand,
+    CutShort,
+    Whole(Command, usize),
+}
+
+pub enum Parameter {
+    Value(i32),
+    Short,
+}
+
+// The parameter of n bytes from `at`.
+fn parameter_at(s: &[u8], at: usize, n: usize) -> Parameter
+    requires { ⌜ (at ≤ length (now s)) × ((0 < n) × (n < 5)) ⌝ }
+    ensures { λ r. ⌜ r ≡ parameterOf n (drop at (now (s .entry))) ⌝ }
+{
+    if s.len() - at < n {
+        return Parameter::Short;
+    }
+    match n {
+        1 => Parameter::Value(number::signed1_at(s, at)),
+        2 => Parameter::Value(number::signed2_at(s, at)),
+        3 => Parameter::Value(number::signed3_at(s, at)),
+        _ => Parameter::Value(number::signed4_at(s, at)),
+    }
+}
+
+// W0, X0, Y0 or Z0.
+fn still(amount: u8) -> Command
+    ensures { λ r. ⌜ commandOf r ≡ stillOf amount ⌝ }
+{
+    match amount {
+        0 => Command::MoveW0,
+        1 => Command::MoveX0,
+        2 => Command::MoveY0,
+        _ => Command::MoveZ0,
+    }
+}
+
+// A move by m that sets the amount W, X, Y or Z.
+fn moving(amount: u8, m: i32) -> Command
+    ensures { λ r. ⌜ commandOf r ≡ movingOf amount m ⌝ }
+{
+    match amount {
+        0 => Command::MoveW(m),
+        1 => Command::MoveX(m),
+        2 => Command::MoveY(m),
+        _ => Command::MoveZ(m),
+    }
+}
+
+// The same, by the parameter of n bytes from `at`.
+fn decode_move(s: &[u8], at: usize, amount: u8, n: usize) -> Decoded
+    requires { ⌜ (at ≤ length (now s)) × ((0 < n) × (n < 5)) ⌝ }
+    ensures { λ r. ⌜ decodedOf r ≡ withParameters (takes n (movingOf amount)) (drop at (now (s .entry))) ⌝ }
+{
+    let p = parameter_at(s, at, n);
+    match p {
+        Parameter::Value(m) => Decoded::Whole(moving(amount, m), n),
+        Parameter::Short => Decoded::CutShort,
+    }
+}
+
+// VERTRULE and HORZRULE.
+fn decode_rule(s: &[u8], at: usize, op: u8) -> Decoded
+    requires { ⌜ (at ≤ length (now s)) × ((134 ≤ op) × (op < 136)) ⌝ }
+    ensures { λ r. ⌜ decodedOf r ≡ decodeOf op (drop at (now (s .entry))) ⌝ }
+{
+    if s.len() - at < 8 {
+        return Decoded::CutShort;
+    }
+    let h = number::signed4_at(s, at);
+    let w = number::signed4_at(s, at + 4);
+    if op == 134 {
+        return Decoded::Whole(Command::VertRule(h, w), 8);
+    }
+    Decoded::Whole(Command::HorzRule(h, w), 8)
+}
+
+// HORZCHAR and FONT.
+fn decode_set(s: &[u8], at: usize, op: u8) -> Decoded
+    requires { ⌜ (at ≤ length (now s)) × ((136 ≤ op) × (op < 138)) ⌝ }
+    ensures { λ r. ⌜ decodedOf r ≡ decodeOf op (drop at (now (s .entry))) ⌝ }
+{
+    if op == 136 {
+        let p = parameter_at(s, at, 1);
+        match p {
+            Parameter::Value(c) => Decoded::Whole(Command::HorzChar(c), 1),
+            Parameter::Short => Decoded::CutShort,
+        }
+    } else {
+        let p = parameter_at(s, at, 4);
+        match p {
+            Parameter::Value(f) => Decoded::Whole(Command::SetFont(f), 4),
+            Parameter::Short => Decoded::CutShort,
+        }
+    }
+}
+
+// NOP, EOP, PUSH and POP; BOP and PST are not allowed inside a page.
+fn decode_bare(op: u8) -> Decoded
+    requires { ⌜ (128 ≤ op) × (op < 134) ⌝ }
+    ensures { λ r. ⌜ ((ps : List ℕ) → decodedOf r ≡ decodeOf op ps) ⌝ }
+{
+    match op {
+        128 => Decoded::Whole(Command::Nop, 0),
+        130 => Decoded::Whole(Command::Eop, 0),
+        132 => Decoded::Whole(Command::Push, 0),
+        133 => Decoded::Whole(Command::Pop, 0),
+        _ => Decoded::NoCommand,
+    }
+}
+
+// FONTNUM, and what is undefined.
+fn decode_other(op: u8) -> Decoded
+    requires { ⌜ 154 ≤ op ⌝ }
+    ensures { λ r. ⌜ ((ps : List ℕ) → decodedOf r ≡ decodeOf op ps) ⌝ }
+{
+    if 218 <= op {
+        return Decoded::NoCommand;
+    }
+    Decoded::Whole(Command::SetFont((op - 154) as i32), 0)
+}
+
+// The command with first byte op from 128 on, before the bytes from `at`. One match with single keys makes one jump.
+fn decode_high(s: &[u8], at: usize, op: u8) -> Decoded
+    requires { ⌜ (at ≤ length (now s)) × (128 ≤ op) ⌝ }
+    ensures { λ r. ⌜ decodedOf r ≡ decodeOf op (drop at (now (s .entry))) ⌝ }
+{
+    match op {
+        128 | 129 | 130 | 131 | 132 | 133 => decode_bare(op),
+        134 | 135 => decode_rule(s, at, op),
+        136 => decode_set(s, at, op),
+        137 => decode_set(s, at, op),
+        138 => decode_move(s, at, 0, 4),
+        139 => decode_move(s, at, 0, 3),
+        140 => decode_move(s, at, 0, 2),
+        141 => Decoded::Whole(still(0), 0),
+        142 => decode_move(s, at, 1, 4),
+        143 => decode_move(s, at, 1, 3),
+        144 => decode_move(s, at, 1, 2),
+        145 => Decoded::Whole(still(1), 0),
+        146 => decode_move(s, at, 2, 4),
+        147 => decode_move(s, at, 2, 3),
+        148 => decode_move(s, at, 2, 2),
+        149 => Decoded::Whole(still(2), 0),
+        150 => decode_move(s, at, 3, 4),
+        151 => decode_move(s, at, 3, 3),
+        152 => decode_move(s, at, 3, 2),
+        153 => Decoded::Whole(still(3), 0),
+        _ => decode_other(op),
+    }
+}
+
+// The command with first byte op. Characters come first, being the commonest.
+pub fn decode(s: &[u8], at: usize, op: u8) -> Decoded
+    requires { ⌜ at ≤ length (now s) ⌝ }
+    ensures { λ r. ⌜ decodedOf r ≡ decodeOf op (drop at (now (s .entry))) ⌝ }
+{
+    if op < 128 {
+        return Decoded::Whole(Command::SetChar(op), 0);
+    }
+    decode_high(s, at, op)
+}

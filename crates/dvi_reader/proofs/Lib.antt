@@ -1,5 +1,0 @@
-mod Postambles
-mod Steps
-mod Puts
-mod Passes
-mod Results

@@ -1,0 +1,2 @@
+mod Postambles
+mod Steps

@@ -1,0 +1,14 @@
+-- The code's marks as those of the sheet.
+use Prim.Native.Nat.{ℕ}
+use Rattle.sheet.specs.Sheet as S
+use Rattle.sheet.specs.declared.Mark.{Mark}
+use Rattle.sheet.specs.declared.Mark.the-variants.{Start, Char, Rule}
+
+abbrev pub markOf : Mark → S.Mark
+markOf (Start n) = S.pageMark n
+markOf (Char c x y f) = S.charMark x y f c
+markOf (Rule k x y h w) = S.ruleMark k x y h w
+
+-- a place in a sheet: a file of at most 33,554,432 bytes is read into one, and each byte makes at most one field of 20 bytes
+abbrev pub lastPlace : ℕ
+lastPlace = 671088640

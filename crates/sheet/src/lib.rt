@@ -1,0 +1,156 @@
+// The sheet: what is shown, and its fields.
+use octets::field;
+use octets::number;
+ghost use mathlib.Core.Path.{_≡_};
+ghost use mathlib.Core.Bool.{true};
+ghost use mathlib.Core.List.{_++_};
+ghost use Prim.Native.Nat.{_+_, _≤_};
+ghost use lib.ListN.{length};
+ghost use Rattle.octets.specs.Octets.{signedBytes};
+ghost use Rattle.octets.specs.Write.{Wrote, Put};
+ghost use Rattle.sheet.specs.Sheet.{pageMark, charMark, ruleMark, markField};
+ghost use Rattle.sheet.specs.SheetLaws.{fieldSize};
+ghost use Rattle.sheet.specs.Mark.{markOf, lastPlace};
+
+// What is shown: the start of a page, a character, a rule.
+pub enum Mark {
+    Start(i32),
+    Char {
+        ch: u8,
+        x: i32,
+        y: i32,
+        font: i32,
+    },
+    Rule {
+        kind: u8,
+        x: i32,
+        y: i32,
+        height: i32,
+        width: i32,
+    },
+}
+
+const PAGE_TAG: u8 = 5;
+
+const PAGE_LENGTH: u32 = 4;
+
+const CHAR_TAG: u8 = 3;
+
+const CHAR_LENGTH: u32 = 13;
+
+const RULE_TAG: u8 = 4;
+
+const RULE_LENGTH: u32 = 17;
+
+// The bytes of a whole field of each kind.
+const PAGE_FIELD: usize = 7;
+
+const CHAR_FIELD: usize = 16;
+
+const RULE_FIELD: usize = 20;
+
+// Writes a number. The test always holds: it keeps the four stores in a block of their own, where the compiler makes one of them.
+fn put_number(out: &mut [u8], at: usize, z: i32) -> usize
+    requires { ⌜ at + 4 ≤ length (now out) ⌝ }
+    ensures { λ r. ⌜ Wrote (now (out .entry)) at (signedBytes 4 z) (now (out .exit)) r ⌝ }
+{
+    if at + 4 <= out.len() {
+        return number::put_signed4(out, at, z);
+    }
+    at + 4
+}
+
+// Writes two numbers.
+fn put_two(out: &mut [u8], at: usize, a: i32, b: i32) -> usize
+    requires { ⌜ at + 8 ≤ length (now out) ⌝ }
+    ensures { λ r. ⌜ Wrote (now (out .entry)) at (signedBytes 4 a ++ signedBytes 4 b) (now (out .exit)) r ⌝ }
+{
+    let next = put_number(out, at, a);
+    put_number(out, next, b)
+}
+
+fn put_page(out: &mut [u8], at: usize, n: i32) -> usize
+    requires { ⌜ at + 7 ≤ length (now out) ⌝ }
+    ensures { λ r. ⌜ Wrote (now (out .entry)) at (markField (pageMark n)) (now (out .exit)) r ⌝ }
+{
+    let next = field::put_head(out, at, PAGE_TAG, PAGE_LENGTH);
+    put_number(out, next, n)
+}
+
+fn put_char(out: &mut [u8], at: usize, x: i32, y: i32, font: i32, ch: u8) -> usize
+    requires { ⌜ at + 16 ≤ length (now out) ⌝ }
+    ensures { λ r. ⌜ Wrote (now (out .entry)) at (markField (charMark x y font ch)) (now (out .exit)) r ⌝ }
+{
+    let body = field::put_head(out, at, CHAR_TAG, CHAR_LENGTH);
+    let placed = put_two(out, body, x, y);
+    let next = put_number(out, placed, font);
+    number::put_byte(out, next, ch)
+}
+
+fn put_rule(out: &mut [u8], at: usize, kind: u8, x: i32, y: i32, h: i32, w: i32) -> usize
+    requires { ⌜ at + 20 ≤ length (now out) ⌝ }
+    ensures { λ r. ⌜ Wrote (now (out .entry)) at (markField (ruleMark kind x y h w)) (now (out .exit)) r ⌝ }
+{
+    let body = field::put_head(out, at, RULE_TAG, RULE_LENGTH);
+    let next = number::put_byte(out, body, kind);
+    let placed = put_two(out, next, x, y);
+    put_two(out, placed, h, w)
+}
+
+// The same three, if writing; without writing, only the place after the field.
+fn show_page(out: &mut [u8], to: usize, n: i32, writing: bool) -> usize
+    requires { ⌜ (to ≤ lastPlace) × (writing ≡ true → to + 7 ≤ length (now out)) ⌝ }
+    ensures { λ r. ⌜ Put writing (now (out .entry)) to (markField (pageMark n)) (now (out .exit)) r ⌝ }
+{
+    if writing {
+        return put_page(out, to, n);
+    }
+    to + PAGE_FIELD
+}
+
+fn show_char(out: &mut [u8], to: usize, x: i32, y: i32, font: i32, ch: u8, writing: bool) -> usize
+    requires { ⌜ (to ≤ lastPlace) × (writing ≡ true → to + 16 ≤ length (now out)) ⌝ }
+    ensures { λ r. ⌜ Put writing (now (out .entry)) to (markField (charMark x y font ch)) (now (out .exit)) r ⌝ }
+{
+    if writing {
+        return put_char(out, to, x, y, font, ch);
+    }
+    to + CHAR_FIELD
+}
+
+fn show_rule(
+    out: &mut [u8],
+    to: usize,
+    kind: u8,
+    x: i32,
+    y: i32,
+    h: i32,
+    w: i32,
+    writing: bool,
+) -> usize
+    requires { ⌜ (to ≤ lastPlace) × (writing ≡ true → to + 20 ≤ length (now out)) ⌝ }
+    ensures { λ r. ⌜ Put writing (now (out .entry)) to (markField (ruleMark kind x y h w)) (now (out .exit)) r ⌝ }
+{
+    if writing {
+        return put_rule(out, to, kind, x, y, h, w);
+    }
+    to + RULE_FIELD
+}
+
+// Writes a mark's field, if writing; gives the place after it. The kind is asked before the flag, so that each command goes straight to its own field.
+pub fn show_mark(out: &mut [u8], to: usize, m: Mark, writing: bool) -> usize
+    requires { ⌜ (to ≤ lastPlace) × (writing ≡ true → to + fieldSize (markOf m) ≤ length (now out)) ⌝ }
+    ensures { λ r. ⌜ Put writing (now (out .entry)) to (markField (markOf m)) (now (out .exit)) r ⌝ }
+{
+    match m {
+        Mark::Start(n) => show_page(out, to, n, writing),
+        Mark::Char { x, y, font, ch } => show_char(out, to, x, y, font, ch, writing),
+        Mark::Rule {
+            kind,
+            x,
+            y,
+            height,
+            width,
+        } => show_rule(out, to, kind, x, y, height, width, writing),
+    }
+}
