@@ -57,6 +57,7 @@ fn print_operations() {
     print_row("convert back", "yearbook", &galley, &mut galley_to_old(&galley));
     let written = spatecanter::write_dvi(&galley).unwrap();
     print_row("read a DVI file", "yearbook, as written", &written, &mut read_dvi(&written, vec![]));
+    print_row("make it a galley again", "yearbook, as written", &written, &mut dvi_to_galley(&written));
     let dvi = book(SEED, DVI_LIMIT);
     print_row("read a DVI file", "book with pushes and rules", &dvi, &mut read_dvi(&dvi, book_widths(SEED)));
     println!();
@@ -87,6 +88,10 @@ fn print_growth() {
     for length in lengths(DVI_LIMIT) {
         let dvi = book(SEED, length);
         print_growth_row("read a DVI file", &dvi, &mut read_dvi(&dvi, book_widths(SEED)));
+    }
+    for length in lengths(GALLEY_LIMIT) {
+        let dvi = spatecanter::write_dvi(&galley_of_length(&tape, length)).unwrap();
+        print_growth_row("make it a galley again", &dvi, &mut dvi_to_galley(&dvi));
     }
 }
 
@@ -183,6 +188,15 @@ fn read_dvi(dvi: &[u8], widths: Vec<i32>) -> Contest<'_> {
         room,
         move |sheet| spatecanter::read_dvi_into(dvi, &widths, sheet).unwrap(),
         move |sheet| quick::read_dvi(dvi, &same_widths, sheet),
+    )
+}
+
+fn dvi_to_galley(dvi: &[u8]) -> Contest<'_> {
+    let room = spatecanter::dvi_to_galley(dvi, &[]).unwrap().len();
+    contest_of_one(
+        room,
+        move |galley| spatecanter::dvi_to_galley_into(dvi, &[], galley).unwrap(),
+        move |galley| quick::dvi_to_galley(dvi, &[], galley),
     )
 }
 

@@ -1,6 +1,6 @@
 /*
  * spatecanter.h: C/A/T phototypesetter tapes, whole or in pieces, to galleys, galleys to DVI files of 1980, and
- * DVI files to sheets; and old galleys to new ones and back. Link with libspatecanter.a, which the script `library`
+ * DVI files to sheets and back to galleys; and old galleys to new ones and back. Link with libspatecanter.a, which the script `library`
  * at the root of the repository proves and builds in target/staticlib.
  *
  * ANSWERS. Every function but sp_new_tape and sp_extents fills `answer` with three numbers:
@@ -119,7 +119,9 @@ enum sp_number {
     SP_DVI_ROOM          = 42, /* DVI buffer too short; the bytes needed */
     SP_TOO_HIGH          = 43, /* to DVI or the old form: a height over SP_DVI_HEIGHT_LIMIT; the offset of
                                   the first such character's field */
-    SP_CONVERTED_ROOM    = 44  /* buffer for the converted galley too short; the bytes needed */
+    SP_CONVERTED_ROOM    = 44, /* buffer for the converted galley too short; the bytes needed */
+    SP_NO_GALLEY         = 45  /* from DVI to a galley: the file shows no galley's targets; the offset of the
+                                  first command that breaks a condition (see sp_dvi_to_galley) */
 };
 
 /*
@@ -172,6 +174,26 @@ void sp_read_dvi(const uint8_t *dvi, size_t dvi_len,
                  const int32_t *widths, size_t widths_len,
                  uint8_t *sheet, size_t sheet_len,
                  size_t answer[3]);
+
+/*
+ * Makes the galley whose targets a DVI file shows, whoever made the file. There is one exactly if
+ *
+ *     pages are numbered 1, 2, 3, ...; each after the first is a cut;
+ *     there is no rule;
+ *     each character is 1 to 108, in a font 0 to 119, which is the font number;
+ *     its x is the target of an x that is valid in that font's size: the whole number nearest to
+ *     32,768 x / 3, and its y 32,768 times a height;
+ *     characters and cuts are at most SP_ITEM_LIMIT.
+ *
+ * Then there is only one. A file that sp_write_dvi made gives back its galley, byte for byte.
+ * Refusals: 20; then 31; then 21 to 29 as in sp_read_dvi, over the whole file; then 45, at the first command that
+ * breaks a condition: the BOP, the rule, the character, or whichever is one character or cut too many; then 12.
+ * A galley has at most 11 bytes for each byte of the file.
+ */
+void sp_dvi_to_galley(const uint8_t *dvi, size_t dvi_len,
+                      const int32_t *widths, size_t widths_len,
+                      uint8_t *galley, size_t galley_len,
+                      size_t answer[3]);
 
 /*
  * Writes a galley as a DVI file and reads that file into a sheet, in one call. The length is the

@@ -44,6 +44,16 @@ extern "C" {
         answer: *mut [usize; 3],
     );
 
+    pub fn sp_dvi_to_galley(
+        dvi: *const u8,
+        dvi_len: usize,
+        widths: *const i32,
+        widths_len: usize,
+        galley: *mut u8,
+        galley_len: usize,
+        answer: *mut [usize; 3],
+    );
+
     pub fn sp_reprint(
         galley: *const u8,
         galley_len: usize,

@@ -115,6 +115,30 @@ pub fn read_dvi(dvi: &[u8], widths: &[i32]) -> Result<Vec<u8>, Refusal> {
     filled(usual, number::SHEET_ROOM, |sheet| read_dvi_into(dvi, widths, sheet))
 }
 
+/// Makes the galley whose targets a DVI file shows, with a table of widths; the length is the galley's.
+pub fn dvi_to_galley_into(dvi: &[u8], widths: &[i32], galley: &mut [u8]) -> Outcome {
+    let mut answer = [0; 3];
+    // SAFETY: every pointer comes from a live slice, with its length.
+    unsafe {
+        ffi::sp_dvi_to_galley(
+            dvi.as_ptr(),
+            dvi.len(),
+            widths.as_ptr(),
+            widths.len(),
+            galley.as_mut_ptr(),
+            galley.len(),
+            &mut answer,
+        );
+    }
+    outcome(answer)
+}
+
+/// The galley whose targets a DVI file shows: the file of `write_dvi` gives back its galley.
+pub fn dvi_to_galley(dvi: &[u8], widths: &[i32]) -> Result<Vec<u8>, Refusal> {
+    let usual = 2 * dvi.len().min(DVI_LIMIT);
+    filled(usual, number::GALLEY_ROOM, |galley| dvi_to_galley_into(dvi, widths, galley))
+}
+
 /// Writes a galley as a DVI file and reads that into a sheet; the length is the sheet's.
 pub fn reprint_into(galley: &[u8], widths: &[i32], dvi: &mut [u8], sheet: &mut [u8]) -> Outcome {
     let mut answer = [0; 3];

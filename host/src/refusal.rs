@@ -55,6 +55,7 @@ numbers! {
     DVI_ROOM = 42: "the buffer for the DVI file is too short",
     TOO_HIGH = 43: "a height above 65,535, which neither DVI nor the old form can hold",
     CONVERTED_ROOM = 44: "the buffer for the converted galley is too short",
+    NO_GALLEY = 45: "the DVI file shows what no galley does",
     NO_MACHINE = 50: "the machine is neither the 4-font nor the 8-font machine",
 }
 

@@ -3,6 +3,7 @@
 //! Each does what the library does: one pass for the outcome and the room, one that writes. An answer
 //! is number, place, length.
 
+mod back;
 mod convert;
 mod galley;
 mod reader;
@@ -10,6 +11,7 @@ mod running;
 mod tape;
 mod writer;
 
+pub use back::dvi_to_galley;
 pub use convert::{to_new, to_old};
 pub use galley::{check_galley, read_back};
 pub use reader::read_dvi;

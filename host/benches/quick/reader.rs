@@ -1,8 +1,8 @@
-//! A DVI file to a sheet.
+//! A DVI file to a sheet. What becomes of what it shows is a parameter.
 
 use super::{accepted, refused};
 
-type Refusal = (usize, usize);
+pub type Refusal = (usize, usize);
 
 pub fn read_dvi(dvi: &[u8], widths: &[i32], sheet: &mut [u8]) -> [usize; 3] {
     if dvi.len() > 33_554_432 {
@@ -23,13 +23,13 @@ pub fn read_dvi(dvi: &[u8], widths: &[i32], sheet: &mut [u8]) -> [usize; 3] {
     accepted(fields.end())
 }
 
-/// Where the fields go: one pass only counts their bytes, the other writes them.
-trait Sink {
+/// Where the fields go, with the places of their commands: one pass only counts their bytes, the other writes them.
+pub trait Sink {
     /// Whether a refusal is still possible.
     const TESTS: bool;
-    fn page(&mut self, number: [u8; 4]);
-    fn character(&mut self, x: i32, y: i32, font: i32, code: u8);
-    fn rule(&mut self, kind: u8, x: i32, y: i32, sides: [u8; 8]);
+    fn page(&mut self, place: usize, number: [u8; 4]);
+    fn character(&mut self, place: usize, x: i32, y: i32, font: i32, code: u8);
+    fn rule(&mut self, place: usize, kind: u8, x: i32, y: i32, sides: [u8; 8]);
 }
 
 struct Room {
@@ -40,17 +40,17 @@ impl Sink for Room {
     const TESTS: bool = true;
 
     #[inline(always)]
-    fn page(&mut self, _: [u8; 4]) {
+    fn page(&mut self, _: usize, _: [u8; 4]) {
         self.length += 7;
     }
 
     #[inline(always)]
-    fn character(&mut self, _: i32, _: i32, _: i32, _: u8) {
+    fn character(&mut self, _: usize, _: i32, _: i32, _: i32, _: u8) {
         self.length += 16;
     }
 
     #[inline(always)]
-    fn rule(&mut self, _: u8, _: i32, _: i32, _: [u8; 8]) {
+    fn rule(&mut self, _: usize, _: u8, _: i32, _: i32, _: [u8; 8]) {
         self.length += 20;
     }
 }
@@ -81,19 +81,19 @@ impl Sink for Fields<'_> {
     const TESTS: bool = false;
 
     #[inline(always)]
-    fn page(&mut self, [a, b, c, d]: [u8; 4]) {
+    fn page(&mut self, _: usize, [a, b, c, d]: [u8; 4]) {
         self.put([5, 0, 4, a, b, c, d]);
     }
 
     #[inline(always)]
-    fn character(&mut self, x: i32, y: i32, font: i32, code: u8) {
+    fn character(&mut self, _: usize, x: i32, y: i32, font: i32, code: u8) {
         let wide = |number: i32| u128::from(number as u32);
         let word = 0x03_000D << 104 | wide(x) << 72 | wide(y) << 40 | wide(font) << 8 | u128::from(code);
         self.put(word.to_be_bytes());
     }
 
     #[inline(always)]
-    fn rule(&mut self, kind: u8, x: i32, y: i32, sides: [u8; 8]) {
+    fn rule(&mut self, _: usize, kind: u8, x: i32, y: i32, sides: [u8; 8]) {
         let mut field = [0; 20];
         field[..4].copy_from_slice(&[4, 0, 17, kind]);
         field[4..8].copy_from_slice(&x.to_be_bytes());
@@ -104,7 +104,7 @@ impl Sink for Fields<'_> {
 }
 
 /// Reads all pages and the postamble.
-fn pages<S: Sink>(dvi: &[u8], widths: &[[i32; 128]], sink: &mut S) -> Result<(), Refusal> {
+pub fn pages<S: Sink>(dvi: &[u8], widths: &[[i32; 128]], sink: &mut S) -> Result<(), Refusal> {
     let mut place = 0;
     let mut last = -1_i32;
     loop {
@@ -117,7 +117,7 @@ fn pages<S: Sink>(dvi: &[u8], widths: &[[i32; 128]], sink: &mut S) -> Result<(),
                 if i32::from_be_bytes([p1, p2, p3, p4]) != last {
                     return Err((23, place));
                 }
-                sink.page([n1, n2, n3, n4]);
+                sink.page(place, [n1, n2, n3, n4]);
             }
             [129, ..] => return Err((22, place)),
             _ => return Err((21, place)),
@@ -162,7 +162,7 @@ fn page<S: Sink>(dvi: &[u8], start: usize, widths: &[[i32; 128]], sink: &mut S) 
                 };
                 let mut code = first;
                 while code < 128 {
-                    sink.character(x, y, font, code);
+                    sink.character(place, x, y, font, code);
                     add!(x, table[usize::from(code)], 1);
                     code = dvi.get(place).copied().unwrap_or(255);
                 }
@@ -187,16 +187,16 @@ fn page<S: Sink>(dvi: &[u8], start: usize, widths: &[[i32; 128]], sink: &mut S) 
                 place += 1;
             }
             134 => {
-                sink.rule(0, x, y, sides(window));
+                sink.rule(place, 0, x, y, sides(window));
                 add!(x, i32::from_be_bytes([window[5], window[6], window[7], window[8]]), 9);
             }
             135 => {
-                sink.rule(1, x, y, sides(window));
+                sink.rule(place, 1, x, y, sides(window));
                 place += 9;
             }
             136 => match font {
                 Some(font) if window[1] < 128 => {
-                    sink.character(x, y, font, window[1]);
+                    sink.character(place, x, y, font, window[1]);
                     place += 2;
                 }
                 _ => return Err((27, place)),

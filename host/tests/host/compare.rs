@@ -154,7 +154,22 @@ impl Comparison {
         self.fills("write_dvi", galley, expected, room, |them, galley, dvi| (them.write_dvi)(galley, dvi));
     }
 
+    /// A DVI file read into a sheet, and made into a galley.
     pub fn dvi(&mut self, dvi: &[u8], widths: &[i32]) {
+        self.read_dvi(dvi, widths);
+        self.dvi_to_galley(dvi, widths);
+    }
+
+    pub fn dvi_to_galley(&mut self, dvi: &[u8], widths: &[i32]) {
+        let result = plain::dvi_to_galley(dvi, widths);
+        let room = self.room(dvi, &result);
+        let expected = plain::with_room(result, room, 12);
+        let call =
+            |them: &Implementation, dvi: &[u8], galley: &mut [u8]| (them.dvi_to_galley)(dvi, widths, galley);
+        self.fills("dvi_to_galley", dvi, expected, room, call);
+    }
+
+    fn read_dvi(&mut self, dvi: &[u8], widths: &[i32]) {
         let result = plain::read_dvi(dvi, widths);
         let room = self.room(dvi, &result);
         let expected = plain::with_room(result, room, 30);

@@ -27,6 +27,7 @@ fn compare(implementation: Implementation) {
     galleys(&mut comparison);
     conversions(&mut comparison);
     dvi_files(&mut comparison);
+    shown_galleys(&mut comparison);
     comparison.print();
     every_number_is_met(&comparison);
 }
@@ -262,6 +263,27 @@ fn dvi_files(comparison: &mut Comparison) {
     }
 }
 
+/// Files that show a galley in other ways than our writer, or nearly show one; each ended anywhere and changed
+/// anywhere.
+fn shown_galleys(comparison: &mut Comparison) {
+    let mut random = Random::new(SEED + 6);
+    for _ in 0..60_000 {
+        let file = cases::shown_galley(&mut random);
+        comparison.dvi_to_galley(&file.bytes, &file.widths);
+    }
+    for _ in 0..20 {
+        let file = cases::shown_galley(&mut random);
+        for length in 0..file.bytes.len() {
+            comparison.dvi_to_galley(&file.bytes[..length], &file.widths);
+        }
+        each_byte_changed(&file.bytes, &mut random, |dvi| comparison.dvi_to_galley(dvi, &file.widths));
+    }
+    let file = cases::shown_galley(&mut random);
+    for value in 0..=255 {
+        each_byte_set(&file.bytes, value, |dvi| comparison.dvi_to_galley(dvi, &file.widths));
+    }
+}
+
 /// The bytes with each one changed in turn.
 fn each_byte_changed(bytes: &[u8], random: &mut Random, mut take: impl FnMut(&[u8])) {
     for place in 0..bytes.len() {
@@ -282,7 +304,7 @@ fn each_byte_set(bytes: &[u8], value: u8, mut take: impl FnMut(&[u8])) {
 
 /// The cases are worth their number: each answer that small inputs can get was met often.
 fn every_number_is_met(comparison: &Comparison) {
-    let numbers: [(&str, &[usize]); 13] = [
+    let numbers: [(&str, &[usize]); 14] = [
         ("read_tape, 4 fonts", &[0, 2, 3, 4, 5, 6, 7, 8, 9, 10, 12]),
         ("read_tape, 8 fonts", &[0, 2, 3, 4, 5, 6, 7, 8, 9, 10, 12]),
         ("read_tape, no machine", &[50]),
@@ -293,6 +315,7 @@ fn every_number_is_met(comparison: &Comparison) {
         ("read_back", &[0, 41, 11]),
         ("write_dvi", &[0, 41, 43, 42]),
         ("read_dvi", &[0, 31, 21, 22, 23, 24, 25, 26, 27, 28, 29, 30]),
+        ("dvi_to_galley", &[0, 31, 21, 22, 23, 24, 25, 26, 27, 28, 29, 45, 12]),
         ("reprint", &[0, 41, 43, 31, 42, 30]),
         ("to_new", &[0, 41, 44]),
         ("to_old", &[0, 41, 43, 44]),

@@ -171,6 +171,22 @@ static void reprints(void)
 
 #define BOP 0x81, 0, 0, 0, 1, 0xFF, 0xFF, 0xFF, 0xFF
 
+static void back(void)
+{
+    uint8_t again[sizeof galley], other[sizeof dvi];
+    sp_dvi_to_galley(dvi, sizeof dvi, no_width, 0, again, sizeof again, answer);
+    expect("DVI to galley", SP_ACCEPTED, 0, sizeof galley);
+    expect_true("the galley again", memcmp(again, galley, sizeof galley) == 0);
+    sp_dvi_to_galley(dvi, sizeof dvi, no_width, 0, again, sizeof again - 1, answer);
+    expect("room for a galley again", SP_GALLEY_ROOM, sizeof galley, 0);
+    memcpy(other, dvi, sizeof dvi);
+    other[14]++;
+    sp_dvi_to_galley(other, sizeof other, no_width, 0, room, sizeof room, answer);
+    expect("beside a target", SP_NO_GALLEY, 16, 0);
+    sp_dvi_to_galley(other, sizeof other - 1, no_width, 0, room, sizeof room, answer);
+    expect("beside a target, and a short postamble", SP_POSTAMBLE, 19, 0);
+}
+
 static void refuse_dvi(const char *what, const uint8_t *bytes, size_t length, size_t number, size_t place)
 {
     sp_read_dvi(bytes, length, no_width, 128, room, sizeof room, answer);
@@ -297,6 +313,10 @@ static void nulls(void)
     expect("null widths", SP_ACCEPTED, 0, sizeof sheet);
     sp_read_dvi(dvi, sizeof dvi, NULL, 0, NULL, 0, answer);
     expect("null buffer for a sheet", SP_SHEET_ROOM, sizeof sheet, 0);
+    sp_dvi_to_galley(NULL, 0, NULL, 0, NULL, 0, answer);
+    expect("null DVI file to a galley", SP_DVI_ENDS, 0, 0);
+    sp_dvi_to_galley(dvi, sizeof dvi, NULL, 0, NULL, 0, answer);
+    expect("null buffer for a galley again", SP_GALLEY_ROOM, sizeof galley, 0);
     sp_reprint(NULL, 0, NULL, 0, NULL, 0, NULL, 0, answer);
     expect("null galley reprinted", SP_GALLEY_MALFORMED, 0, 0);
     sp_reprint(galley, sizeof galley, NULL, 0, NULL, 0, NULL, 0, answer);
@@ -322,6 +342,7 @@ int main(void)
     conversions();
     reprints();
     dvi_files();
+    back();
     lengths();
     items();
     heights();

@@ -9,6 +9,9 @@ pub type Answer = [usize; 3];
 /// Fills the second slice from the first.
 type Fill = fn(&[u8], &mut [u8]) -> Answer;
 
+/// Fills the last slice from a DVI file, with a table of widths.
+type ReadFile = fn(&[u8], &[i32], &mut [u8]) -> Answer;
+
 /// Fills the last two slices, a DVI file and its sheet.
 type FillBoth = fn(&[u8], &[i32], &mut [u8], &mut [u8]) -> Answer;
 
@@ -20,7 +23,8 @@ pub struct Implementation {
     pub check_galley: fn(&[u8]) -> Answer,
     pub read_back: fn(&[u8], usize) -> (Answer, [i32; 4]),
     pub write_dvi: Fill,
-    pub read_dvi: fn(&[u8], &[i32], &mut [u8]) -> Answer,
+    pub read_dvi: ReadFile,
+    pub dvi_to_galley: ReadFile,
     pub reprint: FillBoth,
     pub to_new: Fill,
     pub to_old: Fill,
@@ -57,6 +61,7 @@ pub const PLAIN: Implementation = Implementation {
     },
     write_dvi: |galley, dvi| filled(plain::write_dvi(galley), dvi, 42),
     read_dvi: |dvi, widths, sheet| filled(plain::read_dvi(dvi, widths), sheet, 30),
+    dvi_to_galley: |dvi, widths, galley| filled(plain::dvi_to_galley(dvi, widths), galley, 12),
     reprint: |galley, widths, dvi, sheet| match plain::reprint(galley, widths, dvi.len(), sheet.len()) {
         Ok((dvi_bytes, sheet_bytes)) => {
             dvi[..dvi_bytes.len()].copy_from_slice(&dvi_bytes);
@@ -105,6 +110,7 @@ pub const QUICK: Implementation = Implementation {
     read_back: quick::read_back,
     write_dvi: quick::write_dvi,
     read_dvi: quick::read_dvi,
+    dvi_to_galley: quick::dvi_to_galley,
     reprint: quick::reprint,
     to_new: quick::to_new,
     to_old: quick::to_old,
@@ -165,6 +171,19 @@ pub const LIBRARY: Implementation = Implementation {
                 widths.len(),
                 sheet.as_mut_ptr(),
                 sheet.len(),
+                answer,
+            )
+        })
+    },
+    dvi_to_galley: |dvi, widths, galley| {
+        answered(|answer| unsafe {
+            ffi::sp_dvi_to_galley(
+                dvi.as_ptr(),
+                dvi.len(),
+                widths.as_ptr(),
+                widths.len(),
+                galley.as_mut_ptr(),
+                galley.len(),
                 answer,
             )
         })

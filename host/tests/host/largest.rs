@@ -31,6 +31,7 @@ fn on_a_small_stack(implementation: Implementation) {
         long_columns(&mut comparison);
         conversions(&mut comparison);
         dvi_files(&mut comparison);
+        back_to_galleys(&mut comparison);
         comparison.print();
         needs_the_largest_sheet(implementation);
     };
@@ -172,6 +173,27 @@ fn dvi_files(comparison: &mut Comparison) {
     comparison.dvi(&long_name(), &[]);
 }
 
+/// The files of full galleys, and one character or one page more.
+fn back_to_galleys(comparison: &mut Comparison) {
+    for n in [1, 10, ITEMS] {
+        let galley = cases::valid_galley_with_cuts(&mut Random::new(12), ITEMS, n);
+        let dvi = plain::write_dvi(&galley).unwrap();
+        assert!(plain::dvi_to_galley(&dvi, &[]).unwrap() == galley);
+        comparison.dvi_to_galley(&dvi, &[]);
+    }
+    let mut page = vec![129, 0, 0, 0, 1, 255, 255, 255, 255, 156];
+    page.extend([136, 1].repeat(ITEMS));
+    for more in [&[][..], &[136, 1], &[136, 0]] {
+        let mut dvi = [&page[..], more, &[130]].concat();
+        postamble(&mut dvi, 0);
+        comparison.dvi_to_galley(&dvi, &[]);
+    }
+    let end = page.len() as i32 + 1;
+    let mut dvi = [&page[..], &[130, 129, 0, 0, 0, 2, 0, 0, 0, 0, 130]].concat();
+    postamble(&mut dvi, end);
+    comparison.dvi_to_galley(&dvi, &[]);
+}
+
 /// As many pages without a command as fit.
 fn empty_pages() -> Vec<u8> {
     let mut dvi = Vec::with_capacity(DVI_LIMIT);
@@ -211,14 +233,19 @@ fn long_name() -> Vec<u8> {
 
 /// A postamble without fonts, and 223 to the limit.
 fn ended(mut dvi: Vec<u8>, last: i32) -> Vec<u8> {
+    postamble(&mut dvi, last);
+    dvi.resize(DVI_LIMIT, 223);
+    dvi
+}
+
+/// A postamble without fonts.
+fn postamble(dvi: &mut Vec<u8>, last: i32) {
     let place = dvi.len() as i32;
     dvi.push(131);
     for number in [last, 0, 0, -1, place] {
         dvi.extend(number.to_be_bytes());
     }
-    dvi.push(0);
-    dvi.resize(DVI_LIMIT, 223);
-    dvi
+    dvi.extend([0, 223, 223, 223, 223]);
 }
 
 /// The largest sheet: a font, and a character of 16 bytes for each byte that is left.

@@ -26,7 +26,7 @@ pub struct Command {
     pub run: fn(&Arguments) -> Result<(), Failure>,
 }
 
-pub const COMMANDS: [Command; 9] = [
+pub const COMMANDS: [Command; 10] = [
     Command {
         name: "read",
         usage: "read TAPE [--machine 4|8] [--pieces N] [-o GALLEY] [--force]",
@@ -49,6 +49,13 @@ pub const COMMANDS: [Command; 9] = [
         options: &["--widths", "-o", "--force"],
         help: help::SHOW,
         run: show,
+    },
+    Command {
+        name: "back",
+        usage: "back DVI [--widths FILE] [-o GALLEY] [--force]",
+        options: &["--widths", "-o", "--force"],
+        help: help::BACK,
+        run: back,
     },
     Command { name: "sheet", usage: "sheet SHEET", options: &[], help: help::SHEET, run: list_sheet },
     Command {
@@ -122,22 +129,39 @@ fn set(arguments: &Arguments) -> Result<(), Failure> {
 }
 
 fn show(arguments: &Arguments) -> Result<(), Failure> {
-    let mut inputs = vec![arguments.input.as_os_str()];
-    inputs.extend(arguments.widths.as_deref());
-    if inputs == ["-", "-"] {
-        return Err(Failure::Usage("the DVI file and the widths cannot both be standard input".into()));
-    }
-    let place = place(arguments, &inputs, "sheet")?;
-    let dvi = input::read(&arguments.input, DVI_LIMIT)?;
-    let widths = match &arguments.widths {
-        Some(name) => widths(name)?,
-        None => vec![],
-    };
+    let (place, dvi, widths) = dvi_file(arguments, "sheet")?;
     let sheet = progress::during("reading the DVI file", || spatecanter::read_dvi(&dvi, &widths))
         .map_err(|refusal| explain::dvi(&arguments.input, arguments.widths.as_deref(), &dvi, refusal))?;
     place.write(&sheet)?;
     place.tell(&counted(sheet.len(), "byte"));
     Ok(())
+}
+
+fn back(arguments: &Arguments) -> Result<(), Failure> {
+    let (place, dvi, widths) = dvi_file(arguments, "galley")?;
+    let galley = progress::during("reading the DVI file", || spatecanter::dvi_to_galley(&dvi, &widths))
+        .map_err(|refusal| {
+            explain::back(&arguments.input, arguments.widths.as_deref(), &dvi, &widths, refusal)
+        })?;
+    place.write(&galley)?;
+    place.tell(&counted(characters(&galley).count(), "character"));
+    Ok(())
+}
+
+/// A DVI file and its widths, and where the output goes.
+fn dvi_file(arguments: &Arguments, ending: &str) -> Result<(Place, Vec<u8>, Vec<i32>), Failure> {
+    let mut inputs = vec![arguments.input.as_os_str()];
+    inputs.extend(arguments.widths.as_deref());
+    if inputs == ["-", "-"] {
+        return Err(Failure::Usage("the DVI file and the widths cannot both be standard input".into()));
+    }
+    let place = place(arguments, &inputs, ending)?;
+    let dvi = input::read(&arguments.input, DVI_LIMIT)?;
+    let widths = match &arguments.widths {
+        Some(name) => widths(name)?,
+        None => vec![],
+    };
+    Ok((place, dvi, widths))
 }
 
 /// A file of 32-bit numbers, high byte first.

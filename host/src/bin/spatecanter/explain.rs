@@ -2,6 +2,7 @@
 
 use crate::failure::Failure;
 use crate::input::shown;
+use crate::targets::{self, Break};
 use crate::text::{counted, grouped};
 use spatecanter::galley::characters;
 use spatecanter::{number, Machine, Refusal, RunningTape, ITEM_LIMIT};
@@ -87,6 +88,21 @@ pub fn galley_of_form(form: Form, name: &OsStr, galley: &[u8], refusal: Refusal)
 
 /// A DVI file, or the table of widths for it where that is at fault.
 pub fn dvi(name: &OsStr, widths: Option<&OsStr>, dvi: &[u8], refusal: Refusal) -> Failure {
+    Failure::Refused(dvi_lines(name, widths, dvi, refusal).join("\n"))
+}
+
+/// The same of a file that was to become a galley, with these widths.
+pub fn back(name: &OsStr, widths: Option<&OsStr>, dvi: &[u8], numbers: &[i32], refusal: Refusal) -> Failure {
+    let mut lines = dvi_lines(name, widths, dvi, refusal);
+    if refusal.number == number::NO_GALLEY {
+        if let Some(Break { shown, expected }) = targets::at(dvi, numbers, refusal.place) {
+            lines.extend([format!("  shown: {shown}"), format!("  expected: {expected}")]);
+        }
+    }
+    Failure::Refused(lines.join("\n"))
+}
+
+fn dvi_lines(name: &OsStr, widths: Option<&OsStr>, dvi: &[u8], refusal: Refusal) -> Vec<String> {
     let at_fault = widths.filter(|_| refusal.number == number::WIDTHS).unwrap_or(name);
     let mut lines = vec![format!("{}: {refusal}", shown(at_fault))];
     if !matches!(refusal.number, number::DVI_TOO_LONG | number::WIDTHS) {
@@ -97,7 +113,7 @@ pub fn dvi(name: &OsStr, widths: Option<&OsStr>, dvi: &[u8], refusal: Refusal) -
             None => format!("{}: the end of the file", offset(refusal.place)),
         });
     }
-    Failure::Refused(lines.join("\n"))
+    lines
 }
 
 fn offset(place: usize) -> String {

@@ -2,7 +2,7 @@
 
 pub const WHOLE: &str = "\
 C/A/T phototypesetter tapes to galleys, galleys to DVI files of 1980, and DVI files to
-sheets; and old galleys to new ones and back.
+sheets and back to galleys; and old galleys to new ones and back.
 
 Usage: spatecanter COMMAND ...
 
@@ -11,6 +11,7 @@ Usage: spatecanter COMMAND ...
   list GALLEY                           a galley as text
   set GALLEY [-o DVI]                   a galley to a DVI file
   show DVI [--widths FILE] [-o SHEET]   a DVI file to a sheet
+  back DVI [--widths FILE] [-o GALLEY]  a DVI file back to its galley
   sheet SHEET                           a sheet as text
   reprint TAPE -d FOLDER                a tape to galley, DVI file and sheet, with a summary
   plot TAPE|GALLEY [--page N] [-o SVG]  a picture of the pages
@@ -138,6 +139,25 @@ Numbers, at the place of the command unless another is said:
   29  the postamble is malformed or short
 
 Without -o the sheet of page.dvi is page.dvi.sheet. --force writes over a file that is there
+already.
+";
+
+pub const BACK: &str = "\
+Makes the galley whose targets a DVI file of 1980 shows, whoever made or edited the file. One
+that set made gives back its galley, byte for byte.
+
+Usage: spatecanter back DVI [--widths FILE] [-o GALLEY] [--force]
+
+There is such a galley, and only one, exactly if pages are numbered 1, 2, 3 on; there is no
+rule; each character is 1 to 108 in a font 0 to 119, at the target of a height and of an x
+that is valid in the font's size; and characters and cuts are at most 1,048,576.
+
+--widths and the numbers 20 to 29 and 31 are those of show; they come first, for the whole
+file. Then:
+  45  a condition does not hold; at the first command that breaks one. Standard error tells
+      what it shows, on which page, and what would have been right; for a place, the nearest
+
+Without -o the galley of page.dvi is page.dvi.galley. --force writes over a file that is there
 already.
 ";
 

@@ -14,6 +14,7 @@ mod plot;
 mod progress;
 mod signals;
 mod summary;
+mod targets;
 mod text;
 
 use commands::{Command, COMMANDS};

@@ -1,9 +1,11 @@
 //! Made inputs, valid and damaged, for comparison.
 
+mod back;
 mod dvi;
 mod galley;
 mod tape;
 
+pub use back::shown_galley;
 pub use dvi::{dvi_file, valid_dvi_file};
 pub use galley::{
     galley, galley_of, tall_galley, valid_galley, valid_galley_with_cuts, valid_old_galley, Form,

@@ -226,3 +226,61 @@ fn widths_for_a_dvi_file() {
     let text = run(&folder, &["sheet", "a.dvi.sheet"]).text();
     assert_eq!(text, "page 1\nchar 0 0 0 65\nchar 256 0 0 66\nend 3\n");
 }
+
+/// A file that shows no galley's targets: which condition, on which page, and what would have been right.
+#[test]
+fn a_dvi_file_that_is_no_galley_s_says_why() {
+    let folder = folder("no_galley");
+    let rows = [
+        (
+            "81 00 00 00 02 FF FF FF FF",
+            "45 at 0",
+            "the start of page 2",
+            "page 1: pages are numbered 1, 2, 3 on",
+        ),
+        ("86 00 00 00 01 00 00 00 01", "45 at 9", "a rule at x 0, y 0, on page 1", "no rule"),
+        ("9C 88 00", "45 at 10", "character 0 of font 2 at x 0, y 0, on page 1", "a character of 1 to 108"),
+        ("89 00 00 00 78 88 01", "45 at 14", "character 1 of font 120", "a font of 0 to 119"),
+        (
+            "9C 90 00 05 88 01",
+            "45 at 13",
+            "character 1 of font 2 at x 5, y 0, on page 1",
+            "a target; the nearest is x 0 (of 0 units), y 0 (of height 0)",
+        ),
+        (
+            "9C 8F 00 80 01 94 7F FF 88 01",
+            "45 at 17",
+            "character 1 of font 2 at x 32769, y 32767, on page 1",
+            "a target; the nearest is x 32768 (of 3 units), y 32768 (of height 1)",
+        ),
+        (
+            "9C 8F F6 D5 55 88 01",
+            "45 at 14",
+            "character 1 of font 2 at x -600747, y 0, on page 1",
+            "a target; the nearest is x 0 (of 0 units), y 0 (of height 0)",
+        ),
+    ];
+    for (commands, refusal, shown, expected) in rows {
+        let mut dvi = hex("81 00 00 00 01 FF FF FF FF");
+        match hex(commands) {
+            page if page[0] == 0x81 => dvi = page,
+            commands => dvi.extend(commands),
+        }
+        dvi.push(130);
+        let pst = dvi.len() as u32;
+        dvi.extend(hex("83 00 00 00 00 00 00 00 00 00 00 00 00 FF FF FF FF"));
+        dvi.extend(pst.to_be_bytes());
+        dvi.extend(hex("00 DF DF DF DF"));
+        fs::write(folder.join("a.dvi"), dvi).unwrap();
+        let run = run(&folder, &["back", "a.dvi"]);
+        assert_eq!((run.status, run.text().as_str()), (1, ""), "{commands}");
+        for part in [
+            &format!("refused {refusal}: "),
+            &format!("\n  shown: {shown}"),
+            &format!("\n  expected: {expected}"),
+        ] {
+            assert!(run.err.contains(part.as_str()), "{}", run.err);
+        }
+    }
+    assert_eq!(names(&folder), ["a.dvi"]);
+}

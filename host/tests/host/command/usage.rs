@@ -7,7 +7,7 @@ fn help_for_the_whole_and_for_each_command() {
     let folder = folder("help");
     let whole = run(&folder, &["--help"]);
     assert_eq!((whole.status, whole.err.as_str()), (0, ""));
-    for name in ["read", "check", "list", "set", "show", "sheet", "reprint", "plot", "convert"] {
+    for name in ["read", "check", "list", "set", "show", "back", "sheet", "reprint", "plot", "convert"] {
         assert!(whole.text().contains(&format!("\n  {name} ")), "{name} in the whole help");
         let usage = format!("Usage: spatecanter {name} ");
         for words in [[name, "--help"], [name, "-h"], ["help", name]] {
@@ -22,7 +22,7 @@ fn help_for_the_whole_and_for_each_command() {
 fn wrong_usage_is_2() {
     let folder = folder("usage");
     fs::write(folder.join("p3.tape"), hex(P3_TAPE)).unwrap();
-    let calls: [&[&str]; 35] = [
+    let calls: [&[&str]; 36] = [
         &[],
         &["reed", "p3.tape"],
         &["read"],
@@ -38,6 +38,7 @@ fn wrong_usage_is_2() {
         &["reprint", "p3.tape", "-d", "out", "--machine", "08"],
         &["plot", "p3.tape", "--machine="],
         &["show", "-", "--widths", "-"],
+        &["back", "-", "--widths", "-"],
         &["read", "missing.tape"],
         &["read", "."],
         &["read", "p3.tape", "-o", "."],

@@ -101,6 +101,27 @@ fn an_old_galley_there_and_back() {
 }
 
 #[test]
+fn a_dvi_file_back_to_its_galley() {
+    let folder = folder("back");
+    fs::write(folder.join("a.galley"), hex(NEW_P3)).unwrap();
+    assert_eq!(run(&folder, &["set", "a.galley", "-o", "a.dvi"]).status, 0);
+    let back = run(&folder, &["back", "a.dvi"]);
+    assert_eq!((back.status, back.err.as_str()), (0, "a.dvi.galley: 2 characters\n"));
+    assert_eq!(fs::read(folder.join("a.dvi.galley")).unwrap(), hex(NEW_P3));
+    let dvi = fs::read(folder.join("a.dvi")).unwrap();
+    assert_eq!(run_on(&folder, &["back", "-", "-o", "-"], &dvi).out, hex(NEW_P3));
+    // A partner's edit: character 1 of font 0 by its own command, which moves on by its width to the next target.
+    let edited = hex("81 00 00 00 01 FF FF FF FF 9A 01 02 82 83 00 00 00 00 00 00 00 00 00 00 00 00 \
+                      FF FF FF FF 00 00 00 0D 00 DF DF DF DF");
+    fs::write(folder.join("edited.dvi"), edited).unwrap();
+    fs::write(folder.join("widths"), 32_768_i32.to_be_bytes().repeat(128)).unwrap();
+    assert_eq!(run(&folder, &["back", "edited.dvi", "--widths", "widths", "-o", "b"]).status, 0);
+    let list = "x y font size char\n0 0 1 7 1\n3 0 1 7 2\n2 glyphs\n";
+    assert_eq!(run(&folder, &["list", "b"]).text(), list);
+    assert!(run(&folder, &["back", "edited.dvi"]).err.contains("refused 27 at 10"));
+}
+
+#[test]
 fn reprint_writes_three_files_and_a_summary() {
     let folder = folder("reprint");
     let tape = yearbook(Machine::Eight, 3, 5_000);

@@ -1,6 +1,13 @@
-//! A DVI file, with a table of widths, becomes a sheet.
+//! A DVI file, with a table of widths: what it shows, and its sheet.
 
 use super::{field, Refused};
+
+/// What a command shows.
+pub enum Mark {
+    Page(i64),
+    Character { x: i64, y: i64, font: i64, code: u8 },
+    Rule { kind: u8, x: i64, y: i64, height: i64, width: i64 },
+}
 
 /// The six numbers that a push keeps.
 #[derive(Clone, Copy, Default)]
@@ -21,11 +28,21 @@ struct Reader<'a> {
     stack: Vec<Numbers>,
     in_page: bool,
     last_bop: Option<usize>,
-    sheet: Vec<u8>,
-    fields: usize,
+    /// The place of the command.
+    place: usize,
+    shown: Vec<(usize, Mark)>,
 }
 
+/// The sheet.
 pub fn read_dvi(dvi: &[u8], widths: &[i32]) -> Result<Vec<u8>, Refused> {
+    let shown = shown(dvi, widths)?;
+    let mut sheet: Vec<u8> = shown.iter().flat_map(|(_, mark)| mark.field()).collect();
+    sheet.extend(field(2, &(shown.len() as u32).to_be_bytes()));
+    Ok(sheet)
+}
+
+/// What the file shows, in order, each with the place of its command.
+pub fn shown(dvi: &[u8], widths: &[i32]) -> Result<Vec<(usize, Mark)>, Refused> {
     if dvi.len() > 33_554_432 {
         return Err((20, 0));
     }
@@ -40,8 +57,8 @@ pub fn read_dvi(dvi: &[u8], widths: &[i32]) -> Result<Vec<u8>, Refused> {
         stack: Vec::new(),
         in_page: false,
         last_bop: None,
-        sheet: Vec::new(),
-        fields: 0,
+        place: 0,
+        shown: Vec::new(),
     };
     let mut place = 0;
     loop {
@@ -58,6 +75,7 @@ pub fn read_dvi(dvi: &[u8], widths: &[i32]) -> Result<Vec<u8>, Refused> {
         if dvi.len() - place < length {
             return Err((22, place));
         }
+        reader.place = place;
         reader.command(place).map_err(|number| (number, place))?;
         place += length;
     }
@@ -65,9 +83,21 @@ pub fn read_dvi(dvi: &[u8], widths: &[i32]) -> Result<Vec<u8>, Refused> {
     if !is_postamble(dvi, place, last_bop) {
         return Err((29, place));
     }
-    let count = reader.fields as u32;
-    reader.sheet.extend(field(2, &count.to_be_bytes()));
-    Ok(reader.sheet)
+    Ok(reader.shown)
+}
+
+impl Mark {
+    fn field(&self) -> Vec<u8> {
+        match *self {
+            Mark::Page(number) => field(5, &four(number)),
+            Mark::Character { x, y, font, code } => {
+                field(3, &[&four(x)[..], &four(y), &four(font), &[code]].concat())
+            }
+            Mark::Rule { kind, x, y, height, width } => {
+                field(4, &[&[kind][..], &four(x), &four(y), &four(height), &four(width)].concat())
+            }
+        }
+    }
 }
 
 /// Bytes of a command, its parameters included.
@@ -169,7 +199,7 @@ impl Reader<'_> {
         self.last_bop = Some(place);
         self.numbers = Numbers::default();
         self.font = None;
-        self.show(5, &[&four(number)]);
+        self.show(Mark::Page(number));
         Ok(())
     }
 
@@ -216,18 +246,18 @@ impl Reader<'_> {
 
     fn show_character(&mut self, character: u8) -> Result<(), usize> {
         let font = self.font.ok_or(27_usize)?;
-        self.show(3, &[&four(self.numbers.x), &four(self.numbers.y), &four(font), &[character]]);
+        let Numbers { x, y, .. } = self.numbers;
+        self.show(Mark::Character { x, y, font, code: character });
         Ok(())
     }
 
     fn show_rule(&mut self, kind: u8, height: i64, width: i64) {
-        let (x, y) = (four(self.numbers.x), four(self.numbers.y));
-        self.show(4, &[&[kind], &x, &y, &four(height), &four(width)]);
+        let Numbers { x, y, .. } = self.numbers;
+        self.show(Mark::Rule { kind, x, y, height, width });
     }
 
-    fn show(&mut self, tag: u8, parts: &[&[u8]]) {
-        self.sheet.extend(field(tag, &parts.concat()));
-        self.fields += 1;
+    fn show(&mut self, mark: Mark) {
+        self.shown.push((self.place, mark));
     }
 }
 

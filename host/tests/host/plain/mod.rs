@@ -2,6 +2,7 @@
 //!
 //! Each operation gives the bytes it would write, or a refusal as (number, place).
 
+mod back;
 mod convert;
 mod dvi;
 mod galley;
@@ -9,6 +10,7 @@ mod running;
 mod tape;
 mod writer;
 
+pub use back::dvi_to_galley;
 pub use convert::{to_new, to_old};
 pub use dvi::read_dvi;
 pub use galley::{check_galley, read_back, Character};

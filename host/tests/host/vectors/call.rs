@@ -45,6 +45,10 @@ impl Call {
                 let (dvi, widths) = (inputs.take("dvi", bytes)?, inputs.take("widths", numbers)?);
                 Call::of(&["sheet"], move |them, lent| (them.read_dvi)(&dvi, &widths, lent[0]))
             }
+            "dvi_to_galley" => {
+                let (dvi, widths) = (inputs.take("dvi", bytes)?, inputs.take("widths", numbers)?);
+                Call::of(&["galley"], move |them, lent| (them.dvi_to_galley)(&dvi, &widths, lent[0]))
+            }
             "reprint" => {
                 let (galley, widths) = (inputs.take("galley", bytes)?, inputs.take("widths", numbers)?);
                 Call::of(&["dvi", "sheet"], move |them, lent| {

@@ -1,0 +1,259 @@
+-- `dvi_back::pass` meets its contract. The invariant: what the file shows so far (`Standing`), and the counts and the buffer of what that
+-- makes (`Passes`, `Tallied`). The measure is what is left of the file.
+-- Assumes nothing.
+use mathlib.Core.Path.{_≡_, refl, sym, ap, subst, _∙_}
+use mathlib.Core.Bool.{true}
+use mathlib.Core.List.{List, [], _∷_, _++_}
+use Prim.Native.Nat.{ℕ, _+_, _-_}
+use native.Mathlib.Omega.{arith}
+use borrow.Author.Needs.{needs}
+use lib.IntN.{ℤ}
+use lib.ListN.{length}
+use mir.Syntax.{w64}
+use Rattle.integers.specs.Parts.{plain}
+use Rattle.sheet.specs.Sheet.{Mark}
+use Rattle.dvi.specs.File.{goOn, PlacedMark, placedAt}
+use Rattle.dvi.specs.FileLaws.{stepHere}
+use Rattle.sheet.specs.Mark.{markOf}
+use Rattle.dvi_step.specs.Step.{stateOf, stepOf}
+use Rattle.dvi_step.specs.Standing.{Standing, standing-start, standing-next, standing-refused, standing-finished, standing-ended}
+use Rattle.dvi_step.specs.declared.State.{State}
+use Rattle.dvi_step.specs.declared.Stepped.{Stepped}
+use Rattle.octets.specs.PassLaws.{passed-refused}
+use Rattle.dvi_galley.specs.Back.{Made, nothing, withItem, makes, shownGalley}
+use Rattle.dvi_galley.specs.Taken.{takenOf}
+use Rattle.dvi_back.specs.Tally.{pagesIn}
+use Rattle.dvi_back.specs.declared.tally.Tally.{Tally}
+use Rattle.dvi_back.proofs.Passes.{Fits, standing-fits, Tallied, tallied-start, tallied-still, tallied-more, tallied-named, tallied-unwritten, marked, more-room, end-room, passed-finished}
+use Rattle.dvi_back.proofs.pass.Statement.{statement}
+use Rattle.dvi_back.proofs.pass.Tie as tie
+
+abbrev Inv-loop : tie.InvT-loop
+Inv-loop dvi widths out₀ writing ruler stack₀ q₀ at₀ g₀ out stack q at g =
+    (ps : List PlacedMark) × (Standing placedAt widths dvi stack q at ps × Tallied writing out₀ out (makes nothing ps) g)
+
+abbrev μ-loop : tie.MeasureT-loop
+μ-loop dvi widths out₀ writing ruler stack₀ q₀ at₀ g₀ out stack q at g = length dvi - at
+
+-- what one step says of the file
+module _ (c : tie.After-step Inv-loop μ-loop) where
+  abbrev start : tie.Start Inv-loop μ-loop
+  start = c .before .before .before .before .before .before .before
+
+  abbrev place : ℕ
+  place = c .before .before .before .loop .at
+
+  abbrev marks : List PlacedMark
+  marks = c .before .before .before .loop .inv .0
+
+  abbrev counts : Tally
+  counts = c .before .before .before .loop .g
+
+  abbrev standing : Standing placedAt (start .args .widths .now) (start .args .dvi .now) (c .before .before .before .loop .stack) (c .before .before .before .loop .q) place marks
+  standing = c .before .before .before .loop .inv .1 .0
+
+  abbrev tallied : Tallied (start .args .writing) (start .args .out .now) (c .before .before .before .loop .out) (makes nothing marks) counts
+  tallied = c .before .before .before .loop .inv .1 .1
+
+  abbrev entries : List ℤ
+  entries = c .step .last .1 .1 .0
+
+  stepped : {r : Stepped} → c .step .result ≡ r
+      → stepHere (start .args .widths .now) (start .args .dvi .now) place (stateOf (c .before .before .before .loop .q) (c .before .before .before .loop .stack)) ≡ stepOf r entries
+  stepped e = sym (c .step .ensures) ∙ ap (λ (r : Stepped). stepOf r entries) e
+
+  abbrev Further : State → List Mark → ℕ → Type 0
+  Further t ms n = Standing placedAt (start .args .widths .now) (start .args .dvi .now) entries t (place + 1 + n) (marks ++ placedAt place ms)
+
+  further : (t : State) (ms : List Mark) (n : ℕ)
+      → stepHere (start .args .widths .now) (start .args .dvi .now) place (stateOf (c .before .before .before .loop .q) (c .before .before .before .loop .stack)) ≡ goOn (stateOf t entries) ms n
+      → Further t ms n
+  further t ms n e = standing-next standing (c .before .before .loop-test .taken) entries t ms n (c .step .kept .1 .1 .0 ∙ standing .whole) e
+
+goes : (c : tie.After-known-told2 Inv-loop μ-loop) → Further (c .before .before .before .before) (c .before .r2 .given .0 .0) [] (c .before .r2 .given .0 .1 .0)
+goes c =
+    let k = c .before .before .before .before in
+    let g = c .before .r2 .given in
+    further k (g .0 .0) [] (g .0 .1 .0) (stepped k (g .1))
+
+showing : (c : tie.After-known-told3 Inv-loop μ-loop) → Further (c .before .before .before .before) (c .before .r3 .given .0 .0) (markOf (c .before .r3 .given .0 .1 .0) ∷ []) (c .before .r3 .given .0 .1 .1 .0)
+showing c =
+    let k = c .before .before .before .before in
+    let g = c .before .r3 .given in
+    further k (g .0 .0) (markOf (g .0 .1 .0) ∷ []) (g .0 .1 .1 .0) (stepped k (g .1))
+
+-- the item that the mark shows
+module _ (c : tie.After-item-of Inv-loop μ-loop) where
+  abbrev told : tie.After-known-told3 Inv-loop μ-loop
+  told = c .before .before .before
+
+  abbrev here : tie.After-step Inv-loop μ-loop
+  here = told .before .before .before .before
+
+  abbrev made-next : Made
+  made-next = withItem (makes nothing (marks here)) (place here) (takenOf (c .item-of .result))
+
+  made-is : makes nothing (marks here ++ placedAt (place here) (markOf (told .before .r3 .given .0 .1 .0) ∷ [])) ≡ made-next
+  made-is =
+      marked (marks here) (place here) (markOf (told .before .r3 .given .0 .1 .0)) (counts here) (c .item-of .result) (tallied here .counted)
+      (c .item-of .ensures (pagesIn (counts here)) (plain {w = w64} (record { sfits = c .before .next-page .ok }) ∙ c .before .next-page .ensures))
+
+  -- with its field there is room, if writing
+  next-fits : start here .args .writing ≡ true → Fits (length (start here .args .out .now)) made-next
+  next-fits w = subst (Fits (length (start here .args .out .now))) made-is (standing-fits (showing told) (length (start here .args .out .now)) (start here .pre .1 w))
+
+targets-requires : tie.Need-targets-requires Inv-loop μ-loop
+targets-requires c κs = search needs
+
+loop-holds : tie.Need-loop-holds Inv-loop μ-loop
+unfolding makes
+loop-holds c =
+    let a = c .before .before .before .args in
+    ([], (standing-start placedAt (a .widths .now) (a .dvi .now) _ refl, tallied-start (a .writing) (a .out .now)))
+
+slice-aggregate-step : tie.Need-slice-aggregate-step Inv-loop μ-loop
+slice-aggregate-step c = search needs
+
+step-requires : tie.Need-step-requires Inv-loop μ-loop
+step-requires c κs =
+    let i = c .before .before .loop .inv .1 .0 in
+    (c .before .loop-test .taken, (omega (arith, i .within, c .before .before .before .before .before .before .pre .0), (i .whole, i .low)))
+
+enum-known-r : tie.Need-enum-known-r Inv-loop μ-loop
+enum-known-r c = search needs
+
+same-length : tie.Need-same-length Inv-loop μ-loop
+same-length c = tallied (c .before .before .before .before) .same
+
+returns : tie.Need-returns Inv-loop μ-loop
+unfolding shownGalley
+returns c =
+    let k = c .before .before .before .before in
+    let g = c .before .r .given in
+    passed-refused (ap shownGalley (standing-refused (standing k) (k .before .before .loop-test .taken) (g .0 .0) (stepped k (g .1)))) (start k .pre .1) (tallied-unwritten (tallied k))
+
+enum-known-r-2 : tie.Need-enum-known-r-2 Inv-loop μ-loop
+enum-known-r-2 c = search needs
+
+add-at : tie.Need-add-at Inv-loop μ-loop
+add-at c = record { fits = omega (arith, goes c .within, start (c .before .before .before .before) .pre .0) }
+
+add-at-2 : tie.Need-add-at-2 Inv-loop μ-loop
+add-at-2 c = record { fits = omega (arith, goes c .within, start (c .before .before .before .before) .pre .0) }
+
+loop-less : tie.Need-loop-less Inv-loop μ-loop
+loop-less c = omega (arith, goes c .within, c .before .before .before .before .before .before .loop-test .taken)
+
+loop-again : tie.Need-loop-again Inv-loop μ-loop
+loop-again c = (_, (goes c, tallied-still (marks (c .before .before .before .before)) (place (c .before .before .before .before)) (tallied (c .before .before .before .before))))
+
+enum-known-r-3 : tie.Need-enum-known-r-3 Inv-loop μ-loop
+enum-known-r-3 c = search needs
+
+next-page-requires : tie.Need-next-page-requires Inv-loop μ-loop
+next-page-requires c κs = search needs
+
+item-of-requires : tie.Need-item-of-requires Inv-loop μ-loop
+item-of-requires c κs = search needs
+
+show-item-requires : tie.Need-show-item-requires Inv-loop μ-loop
+show-item-requires c κs w =
+    let i = c .before in
+    let k = here i in
+    omega (arith, more-room (length (start k .args .out .now)) (makes nothing (marks k)) (counts k) (place k) (i .item-of .result) (tallied k .counted) (next-fits i w), tallied k .same)
+
+with-item-requires : tie.Need-with-item-requires Inv-loop μ-loop
+with-item-requires c κs = search needs
+
+-- the commands so far, one further
+module _ (c : tie.After-with-item Inv-loop μ-loop) where
+  abbrev item : tie.After-item-of Inv-loop μ-loop
+  item = c .before .before .before .before .before
+
+  abbrev next : Further (here item) (told item .before .r3 .given .0 .0) (markOf (told item .before .r3 .given .0 .1 .0) ∷ []) (told item .before .r3 .given .0 .1 .1 .0)
+  next = showing (told item)
+
+add-at-3 : tie.Need-add-at-3 Inv-loop μ-loop
+add-at-3 c = record { fits = omega (arith, next c .within, start (here (item c)) .pre .0) }
+
+add-at-4 : tie.Need-add-at-4 Inv-loop μ-loop
+add-at-4 c = record { fits = omega (arith, next c .within, start (here (item c)) .pre .0) }
+
+loop-less-2 : tie.Need-loop-less-2 Inv-loop μ-loop
+loop-less-2 c = omega (arith, next c .within, here (item c) .before .before .loop-test .taken)
+
+loop-again-2 : tie.Need-loop-again-2 Inv-loop μ-loop
+loop-again-2 c =
+    let i = item c in
+    let k = here i in
+    let s = c .before .before .before .show-item in (
+      _,
+      (
+        next c,
+        tallied-named (sym (made-is i))
+            (tallied-more (tallied k) (length (start k .args .out .now)) (place k) (i .item-of .result) (s .ensures) (s .kept .0) (next-fits i) (c .with-item .ensures (makes nothing (marks k)) (tallied k .counted))),
+      ),
+    )
+
+enum-told : tie.Need-enum-told Inv-loop μ-loop
+enum-told c = search needs
+
+finish-requires : tie.Need-finish-requires Inv-loop μ-loop
+finish-requires c κs w =
+    let k = c .before .before .before .before in
+    let room = length (start k .args .out .now) in
+    omega (arith, end-room room (makes nothing (marks k)) (counts k) (tallied k .counted) (standing-fits (standing k) room (start k .pre .1 w)), tallied k .same)
+
+same-length-2 : tie.Need-same-length-2 Inv-loop μ-loop
+same-length-2 c = c .before .before .finish .kept .0 ∙ tallied (c .before .before .before .before .before .before .before) .same
+
+returns-2 : tie.Need-returns-2 Inv-loop μ-loop
+unfolding shownGalley
+returns-2 c =
+    let k = c .before .before .before .before .before .before .before in
+    let e = standing-finished (standing k) (k .before .before .loop-test .taken) (stepped k (c .before .before .before .before .enum-told .given .1)) in
+    let f = c .before .before .finish .ensures in
+    passed-finished (tallied k) (ap shownGalley e) (f .0) (f .1)
+
+same-length-3 : tie.Need-same-length-3 Inv-loop μ-loop
+same-length-3 c = c .before .loop .inv .1 .1 .same
+
+returns-3 : tie.Need-returns-3 Inv-loop μ-loop
+unfolding shownGalley
+returns-3 c =
+    let i = c .before .loop .inv in
+    passed-refused (ap shownGalley (standing-ended (i .1 .0) (c .loop-test .left))) (c .before .before .before .before .before .pre .1) (tallied-unwritten (i .1 .1))
+
+pub pass-spec : {M : Type 1} → statement M
+pass-spec =
+    tie.close
+    (tie.spec
+    Inv-loop
+    μ-loop
+    targets-requires
+    loop-holds
+    slice-aggregate-step
+    step-requires
+    enum-known-r
+    same-length
+    returns
+    enum-known-r-2
+    add-at
+    add-at-2
+    loop-less
+    loop-again
+    enum-known-r-3
+    next-page-requires
+    item-of-requires
+    show-item-requires
+    with-item-requires
+    add-at-3
+    add-at-4
+    loop-less-2
+    loop-again-2
+    enum-told
+    finish-requires
+    same-length-2
+    returns-2
+    same-length-3
+    returns-3)

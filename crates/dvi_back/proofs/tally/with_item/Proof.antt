@@ -1,0 +1,44 @@
+-- `dvi_back::tally::with_item` meets its contract, case by case.
+-- Assumes nothing.
+use mathlib.Core.Path.{sym, ap, _∙_}
+use borrow.Author.Needs.{needs}
+use Rattle.dvi_galley.specs.Back.{Made, withItem}
+use Rattle.dvi_galley.specs.Taken.{takenOf}
+use Rattle.dvi_back.specs.Tally.{tallyOf}
+use Rattle.dvi_back.proofs.Items.{nothing-is, broken-is}
+use Rattle.dvi_back.proofs.tally.with_item.Statement.{statement}
+use Rattle.dvi_back.proofs.tally.with_item.Tie as tie
+
+enum-told : tie.Need-enum-told
+enum-told c = search needs
+
+first-item-requires : tie.Need-first-item-requires
+first-item-requires c κs = search needs
+
+enum-known-g : tie.Need-enum-known-g
+enum-known-g c = search needs
+
+next-item-requires : tie.Need-next-item-requires
+next-item-requires c κs = search needs
+
+enum-known-g-2 : tie.Need-enum-known-g-2
+enum-known-g-2 c = search needs
+
+returns : tie.Need-returns
+returns c b e =
+    let a = c .before .before .before .args in
+    c .first-item .ensures ∙ ap (λ (k : Made). tallyOf (withItem k (a .at) (takenOf (a .i)))) (sym (nothing-is b (sym (c .before .enum-told .given .1) ∙ e)))
+
+returns-2 : tie.Need-returns-2
+returns-2 c b e = c .next-item .ensures b (sym (c .before .before .g .given .1) ∙ e)
+
+returns-3 : tie.Need-returns-3
+returns-3 c b e =
+    let a = c .before .before .before .args in
+    let g = c .before .g2 .given in
+    broken-is (g .0 .0) b (a .at) (takenOf (a .i)) (sym (g .1) ∙ e)
+
+pub with-item-spec : {M : Type 1} → statement M
+with-item-spec =
+    tie.close
+    (tie.spec enum-told first-item-requires enum-known-g next-item-requires enum-known-g-2 returns returns-2 returns-3)

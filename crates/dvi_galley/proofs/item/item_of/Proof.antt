@@ -1,0 +1,61 @@
+-- `dvi_galley::item::item_of` meets its contract: an item for each kind of mark.
+-- Assumes nothing.
+use mathlib.Core.Path.{sym, ap, _∙_}
+use mathlib.Core.Bool.{cond}
+use mathlib.Core.Option.{none, some}
+use borrow.Author.Needs.{needs}
+use mir.Syntax.{w32}
+use Rattle.integers.specs.Parts.{plain, eqZ}
+use Rattle.galley_file.specs.declared.item.Item.the-variants.{Cut}
+use Rattle.sheet.specs.Mark.{markOf}
+use Rattle.sheet.specs.declared.Mark.{Mark}
+use Rattle.dvi_galley.specs.Target.{xAt, heightAt}
+use Rattle.dvi_galley.specs.Back.{placedItem, characterOf, itemOf}
+use Rattle.dvi_galley.proofs.item.item_of.Statement.{statement}
+use Rattle.dvi_galley.proofs.item.item_of.Tie as tie
+
+enum-known-m : tie.Need-enum-known-m
+enum-known-m c = search needs
+
+page-of-requires : tie.Need-page-of-requires
+page-of-requires c κs = search needs
+
+enum-known-m-2 : tie.Need-enum-known-m-2
+enum-known-m-2 c = search needs
+
+character-of-requires : tie.Need-character-of-requires
+character-of-requires c κs = search needs
+
+enum-known-m-3 : tie.Need-enum-known-m-3
+enum-known-m-3 c = search needs
+
+returns : tie.Need-returns
+unfolding itemOf
+returns c n e =
+    let s = c .before .before .before .before in
+    let g = c .before .before .m .given in
+    let z = plain {w = w32} {z = g .0 .0} (search needs) in
+    let y = plain (s .fits .next) in
+    c .page-of .ensures
+    ∙ (λ k. cond (eqZ (z k) ((y ∙ e) k)) (some Cut) none)
+    ∙ ap (λ (k : Mark). itemOf n (markOf k)) (sym (g .1))
+
+returns-2 : tie.Need-returns-2
+unfolding itemOf
+returns-2 c n e =
+    let g = c .before .before .m2 .given in
+    let x = plain {w = w32} {z = g .0 .1 .0} (search needs) in
+    let y = plain {w = w32} {z = g .0 .1 .1 .0} (search needs) in
+    let f = plain {w = w32} {z = g .0 .1 .1 .1 .0} (search needs) in
+    c .character-of .ensures
+    ∙ (λ k. placedItem (characterOf (xAt (x k)) (heightAt (y k)) (f k) (g .0 .0)))
+    ∙ ap (λ (k : Mark). itemOf n (markOf k)) (sym (g .1))
+
+returns-3 : tie.Need-returns-3
+unfolding itemOf
+returns-3 c n e = ap (λ (k : Mark). itemOf n (markOf k)) (sym (c .before .m3 .given .1))
+
+pub item-of-spec : {M : Type 1} → statement M
+item-of-spec =
+    tie.close
+    (tie.spec enum-known-m page-of-requires enum-known-m-2 character-of-requires enum-known-m-3 returns returns-2 returns-3)

@@ -1,0 +1,95 @@
+-- `dvi_galley::target::x_at` meets its contract: outside the ruler there is no place; on it the target of the place nearest to three times
+-- the number decides (`Targets`).
+-- Assumes nothing.
+use mathlib.Core.Path.{_≡_, sym, ap, _∙_}
+use mathlib.Core.Option.{some}
+use Prim.Native.Nat.{ℕ}
+use native.Mathlib.Omega.{arith}
+use borrow.Author.Needs.{needs}
+use lib.IntN.{ℤ, pos, negsuc, _+ℤ_}
+use lib.Signed.{_≤ℤ_}
+use mir.Syntax.{w32}
+use mir.Val.{SFits, ofZ}
+use Rattle.integers.specs.Parts.{integers, plain, plain-pos, nonNeg-by, same-bits, sum-parts}
+use Rattle.measure.specs.Target.{xTarget, placeOf}
+use Rattle.dvi_galley.proofs.Targets.{left-of-all, right-of-all, shifted, thrice-fits, shifted-fits, shifted-natural, shifted-small, index, index-below, index-fits, index-place, place-fits, index-found, index-missing}
+use Rattle.dvi_galley.proofs.target.x_at.Statement.{statement}
+use Rattle.dvi_galley.proofs.target.x_at.Tie as tie
+
+returns : tie.Need-returns
+returns c = sym (left-of-all (c .before .args .t) (rw (plain (c .before .fits .t)) at (c .if1 .taken)))
+
+returns-2 : tie.Need-returns-2
+returns-2 c = sym (right-of-all (c .before .before .args .t) (rw (plain (c .before .before .fits .t)) at (c .if2 .taken)))
+
+module _ (c : tie.Else2) where
+  abbrev t : ℤ
+  t = c .before .before .args .t
+
+  t-fits : SFits w32 t
+  t-fits = c .before .before .fits .t
+
+  low : negsuc 600746 ≤ℤ t
+  low = let h = rw (plain t-fits) at (c .before .if1 .left) in omega (integers, h)
+
+  high : t ≤ℤ pos 35378517
+  high = let h = rw (plain t-fits) at (c .if2 .left) in omega (integers, h)
+
+  abbrev k : ℕ
+  k = index t low high
+
+  -- the place, as the code makes it
+  abbrev x : ℤ
+  x = pos k +ℤ negsuc 54
+
+mul-k : tie.Need-mul-k
+mul-k c = rw (plain (t-fits c)) (thrice-fits (t c) (low c) (high c))
+
+add-k : tie.Need-add-k
+add-k c = rw (plain (t-fits c), plain (thrice-fits (t c) (low c) (high c))) (shifted-fits (t c) (low c) (high c))
+
+cast-k : tie.Need-cast-k
+cast-k c =
+    rw (plain (t-fits c), plain (thrice-fits (t c) (low c) (high c)), plain (shifted-fits (t c) (low c) (high c)))
+    (nonNeg-by (shifted (t c) (low c) (high c)) (shifted-natural (t c) (low c) (high c)), record { fits = omega (arith, shifted-small (t c) (low c) (high c)) })
+
+cast-t8 : tie.Need-cast-t8
+cast-t8 c =
+    rw (plain (t-fits c), plain (thrice-fits (t c) (low c) (high c)), plain (shifted-fits (t c) (low c) (high c))) (index-fits (t c) (low c) (high c))
+
+add-t9 : tie.Need-add-t9
+add-t9 c =
+    rw (plain (t-fits c), plain (thrice-fits (t c) (low c) (high c)), plain (shifted-fits (t c) (low c) (high c)), plain-pos {w = w32} (index-fits (t c) (low c) (high c)))
+    (place-fits (t c) (low c) (high c))
+
+target-requires : tie.Need-target-requires
+target-requires c κs =
+    rw (plain (t-fits c), plain (thrice-fits (t c) (low c) (high c)), plain (shifted-fits (t c) (low c) (high c)), plain-pos {w = w32} (index-fits (t c) (low c) (high c)), plain (place-fits (t c) (low c) (high c)))
+    ((omega (integers, sum-parts (pos (k c)) (negsuc 54)), omega (integers, index-below (t c) (low c) (high c), sum-parts (pos (k c)) (negsuc 54))), search needs)
+
+-- the target there
+there-is : (c : tie.After-target) → c .target .result .0 ≡ xTarget (placeOf (k (c .before)))
+there-is c =
+    let e = c .before in
+    rw (plain (t-fits e), plain (thrice-fits (t e) (low e) (high e)), plain (shifted-fits (t e) (low e) (high e)), plain-pos {w = w32} (index-fits (t e) (low e) (high e)), plain (place-fits (t e) (low e) (high e))) at (c .target .ensures)
+    ∙ ap xTarget (index-place (t e) (low e) (high e))
+
+there-fits : (c : tie.After-target) → SFits w32 (c .target .result .0)
+there-fits c = search needs
+
+returns-3 : tie.Need-returns-3
+returns-3 c =
+    let e = c .before .before .before in
+    let q = same-bits {w = w32} (there-fits (c .before .before)) (t-fits e) (c .if3 .taken) in
+    rw (plain (t-fits e), plain (thrice-fits (t e) (low e) (high e)), plain (shifted-fits (t e) (low e) (high e)), plain-pos {w = w32} (index-fits (t e) (low e) (high e)), plain (place-fits (t e) (low e) (high e)))
+    (ap some (index-place (t e) (low e) (high e)) ∙ sym (index-found (t e) (low e) (high e) (sym (there-is (c .before .before)) ∙ q)))
+
+returns-4 : tie.Need-returns-4
+returns-4 c =
+    let e = c .before .before .before in
+    sym (index-missing (t e) (low e) (high e) (λ q. c .if3 .left (ap (ofZ w32) (there-is (c .before .before) ∙ q))))
+
+pub x-at-spec : {M : Type 1} → statement M
+x-at-spec =
+    tie.close
+    (tie.spec returns returns-2 mul-k add-k cast-k cast-t8 add-t9 target-requires returns-3 returns-4)

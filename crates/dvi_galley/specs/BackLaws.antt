@@ -1,0 +1,272 @@
+-- The galley of what a file shows: there is one exactly where `makes` finds one, and then only that.
+--     item-is, is-item         the item of a mark is the one whose target it shows
+--     makes-exactly            the marks make these items exactly if these are the galley whose targets they show
+--     only-galley              there is at most one
+--     back-written             a file that our own writer made gives back its galley
+-- Assumes nothing.
+use mathlib.Core.Logic.{_↔_}
+use mathlib.Core.Path.{_≡_, refl, sym, ap, subst, _∙_}
+use mathlib.Core.Bool.{Bool, true, cond}
+use mathlib.Core.List.{List, [], _∷_, _++_, map, append-nil, append-assoc}
+use mathlib.Core.Option.{Option, none, some}
+use Prim.Native.Nat.{ℕ, suc, _+_, _%_, _≤_, _<_}
+use native.Mathlib.Omega.{arith}
+use borrow.Author.Tests.{lt-ltb, ltb-true}
+use lib.Dec.{ltb}
+use lib.IntN.{ℤ, pos, negsuc}
+use lib.ListN.{length, length-append}
+use Rattle.integers.specs.Parts.{eqZ, eqZ-true, true-eqZ}
+use Rattle.octets.specs.Octets.{Bytes}
+use Rattle.octets.specs.OctetsLaws.{by-cond}
+use Rattle.octets.specs.Answer.{accepted, written, ifRoom, noGalleyRoom}
+use Rattle.measure.specs.Place.{heightEnd, lowEnd}
+use Rattle.measure.specs.Target.{xTarget, yTarget}
+use Rattle.galley_file.specs.declared.character.Character.{Character}
+use Rattle.galley_file.specs.declared.item.Item.{Item}
+use Rattle.galley_file.specs.declared.item.Item.the-variants.{Placed, Cut}
+use Rattle.galley_file.specs.Character.{valid}
+use Rattle.galley_file.specs.CharacterLaws.{valid-parts, x-range, height-range}
+use Rattle.galley_file.specs.Item.{validItem, cutsOf}
+use Rattle.galley_file.specs.ItemLaws.{cuts-append}
+use Rattle.galley_file.specs.declared.form.Form.the-variants.{New}
+use Rattle.galley_file.specs.Galley.{maxItems, AllValid, nil, more, galley, itemsIn, itemsOf}
+use Rattle.galley_file.specs.GalleyLaws.{accepted-is}
+use Rattle.galley_file.specs.Low.{lowOutcome, lowResult}
+use Rattle.galley_file.specs.LowLaws.{raised, low-checked, low-made}
+use Rattle.sheet.specs.Sheet.{Mark, pageMark, charMark, ruleMark}
+use Rattle.dvi.specs.Page.{fontChars}
+use Rattle.sheet.specs.Shown.{ShownAs, refusedAt, shows}
+use Rattle.dvi.specs.File.{readDvi, PlacedMark, markIn, placedAt, readPlaced, unplaced}
+use Rattle.dvi.specs.FileLaws.{unplaced-read}
+use Rattle.dvi.specs.Sheet.{maxDvi}
+use Rattle.dvi.specs.SheetLaws.{readable}
+use Rattle.dvi.specs.Writer.{dviFile}
+use Rattle.dvi.proofs.Demand3.{demand3, shows-all-only}
+use Rattle.dvi.specs.Demand3.{markOf, marksOf}
+use Rattle.dvi_galley.specs.Target.{xAt, heightAt}
+use Rattle.dvi_galley.specs.TargetLaws.{xAt-target, target-xAt, heightAt-target, target-heightAt}
+use Rattle.dvi_galley.specs.Back.{ifValid, characterOf, placedItem, itemOf, Made, nothing, made, broken, withItem, withMark, makes, madeResult, shownGalley, backResult, GalleyOf}
+
+-- ---- a mark and its item
+
+-- the mark that shows an item, after n pages
+abbrev pub markAt : ℕ → Item → Mark
+markAt n (Placed c) = markOf c
+markAt n Cut = pageMark (pos (suc n))
+
+marksOf-next : (n : ℕ) (i : Item) (is : List Item) → marksOf n (i ∷ is) ≡ markAt n i ∷ marksOf (n + cutsOf (i ∷ [])) is
+unfolding marksOf cutsOf
+marksOf-next n (Placed c) is = ap (λ (k : ℕ). markOf c ∷ marksOf k is) (omega arith)
+marksOf-next n Cut is = ap (λ (k : ℕ). pageMark (pos (suc n)) ∷ marksOf k is) (omega arith)
+
+-- what a valid character at these places tells
+valid-is : (X Y : ℤ) (d c : Character) → xTarget (d .x .0) ≡ X → yTarget (d .height .0) ≡ Y → ifValid d ≡ some c → (charMark X Y (pos (d .font)) (d .code) ≡ markOf c) × (valid heightEnd c ≡ true)
+unfolding markOf
+valid-is X Y d c p q =
+    by-cond (λ (o : Option Character). o ≡ some c → (charMark X Y (pos (d .font)) (d .code) ≡ markOf c) × (valid heightEnd c ≡ true)) (valid heightEnd d) (some d) none
+    (λ v e.
+    let s : d ≡ c = cc in
+    ((λ i. charMark (sym p i) (sym q i) (pos (d .font)) (d .code)) ∙ ap markOf s, ap (valid heightEnd) (sym s) ∙ v))
+    (λ v e. let z : _≡_ {A = ℕ} 0 1 = cc in absurd (omega arith))
+
+character-is : (X Y F : ℤ) (k : ℕ) (ox oh : Option ℤ) (c : Character) → ((x : ℤ) → ox ≡ some x → xTarget x ≡ X) → ((h : ℤ) → oh ≡ some h → yTarget h ≡ Y)
+    → characterOf ox oh F k ≡ some c → (charMark X Y F k ≡ markOf c) × (valid heightEnd c ≡ true)
+unfolding characterOf
+character-is X Y (pos f) k (some x) (some h) c p q e =
+    valid-is X Y (record { x = record { 0 = x }; height = record { 0 = h }; font = f; code = k }) c (p x refl) (q h refl) e
+character-is X Y (negsuc f) k (some x) (some h) c p q e = let z : _≡_ {A = ℕ} 0 1 = cc in absurd (omega arith)
+character-is X Y F k (some x) none c p q e = let z : _≡_ {A = ℕ} 0 1 = cc in absurd (omega arith)
+character-is X Y F k none oh c p q e = let z : _≡_ {A = ℕ} 0 1 = cc in absurd (omega arith)
+
+pub item-is : (n : ℕ) (m : Mark) (i : Item) → itemOf n m ≡ some i → (m ≡ markAt n i) × (validItem heightEnd i ≡ true)
+unfolding itemOf
+item-is n (pageMark z) i f =
+    by-cond (λ (o : Option Item). o ≡ some i → (pageMark z ≡ markAt n i) × (validItem heightEnd i ≡ true)) (eqZ z (pos (suc n))) (some Cut) none
+    (λ q e.
+    let s : Cut ≡ i = cc in
+    (ap pageMark (eqZ-true z (pos (suc n)) q) ∙ ap (markAt n) s, ap (validItem heightEnd) (sym s)))
+    (λ q e. let z : _≡_ {A = ℕ} 0 1 = cc in absurd (omega arith))
+    f
+item-is n (charMark X Y F k) i e = go (characterOf (xAt X) (heightAt Y) F k) refl e
+  where
+    go : (o : Option Character) → characterOf (xAt X) (heightAt Y) F k ≡ o → placedItem o ≡ some i → (charMark X Y F k ≡ markAt n i) × (validItem heightEnd i ≡ true)
+    go (some c) q d =
+        let s : Placed c ≡ i = cc in
+        let r = character-is X Y F k (xAt X) (heightAt Y) c (target-xAt X) (target-heightAt Y) q in
+        (r .0 ∙ ap (markAt n) s, ap (validItem heightEnd) (sym s) ∙ r .1)
+    go none q d = let z : _≡_ {A = ℕ} 0 1 = cc in absurd (omega arith)
+item-is n (ruleMark kind x y h w) i e = let z : _≡_ {A = ℕ} 0 1 = cc in absurd (omega arith)
+
+pub is-item : (n : ℕ) (i : Item) → validItem heightEnd i ≡ true → itemOf n (markAt n i) ≡ some i
+unfolding itemOf markOf characterOf
+is-item n (Placed c) v =
+    let p = valid-parts v in
+    let x = xAt-target (c .x .0) (x-range p .0) (x-range p .1) in
+    let h = heightAt-target (c .height .0) (height-range p .0) in
+    (λ j. placedItem (characterOf (x j) (h j) (pos (c .font)) (c .code))) ∙ ap (λ (b : Bool). placedItem (cond b (some c) none)) v
+is-item n Cut v = ap (λ (b : Bool). cond b (some Cut) none) (true-eqZ (pos (suc n)) (pos (suc n)) refl)
+
+-- ---- marks and items
+
+-- items and what they are made of
+record More (ms : List Mark) (is js : List Item) : Type 0 where
+  pub items : List Item
+  pub are : js ≡ is ++ items
+  pub marks-are : ms ≡ marksOf (suc (cutsOf is)) items
+  pub all-valid : AllValid heightEnd items
+  pub few : length is ≤ maxItems → length js ≤ maxItems
+
+pub makes-broken : (place : ℕ) (ps : List PlacedMark) → makes (broken place) ps ≡ broken place
+unfolding makes withMark withItem
+makes-broken place [] = refl
+makes-broken place (p ∷ ps) = makes-broken place ps
+
+pages-more : (is : List Item) (i : Item) → suc (cutsOf (is ++ (i ∷ []))) ≡ suc (cutsOf is) + cutsOf (i ∷ [])
+pages-more is i = omega (arith, cuts-append is (i ∷ []))
+
+pub makes-append : (b : Made) (ps qs : List PlacedMark) → makes b (ps ++ qs) ≡ makes (makes b ps) qs
+unfolding makes
+makes-append b [] qs = refl
+makes-append b (p ∷ ps) qs = makes-append (withMark b p) ps qs
+
+next-more : (p : PlacedMark) (ms : List Mark) (is js : List Item) (i : Item) → itemOf (suc (cutsOf is)) (p .mark) ≡ some i → length is < maxItems
+    → More ms (is ++ (i ∷ [])) js → More (p .mark ∷ ms) is js
+next-more p ms is js i e l r =
+    let d = item-is (suc (cutsOf is)) (p .mark) i e in
+    record {
+      items = i ∷ r .items;
+      are = r .are ∙ append-assoc is (i ∷ []) (r .items);
+      marks-are =
+          (λ k. d .0 k ∷ r .marks-are k)
+          ∙ ap (λ (n : ℕ). markAt (suc (cutsOf is)) i ∷ marksOf n (r .items)) (pages-more is i)
+          ∙ sym (marksOf-next (suc (cutsOf is)) i (r .items));
+      all-valid = more (d .1) (r .all-valid);
+      few = λ h. r .few (omega (arith, length-append is (i ∷ [])));
+    }
+
+broken-not : {place : ℕ} {js : List Item} → broken place ≡ made js → ⊥
+broken-not e = let z : _≡_ {A = ℕ} 0 1 = cc in omega arith
+
+made-more : (ps : List PlacedMark) (is js : List Item) → makes (made is) ps ≡ made js → More (map markIn ps) is js
+unfolding makes withMark withItem marksOf
+made-more [] is js e =
+    let s : is ≡ js = cc in
+    record { items = []; are = sym s ∙ sym (append-nil is); marks-are = refl; all-valid = nil; few = λ h. omega (arith, ap length s) }
+made-more (p ∷ ps) is js e = go (itemOf (suc (cutsOf is)) (p .mark)) refl e (λ ks. made-more ps ks js)
+  where
+    go : (o : Option Item) → itemOf (suc (cutsOf is)) (p .mark) ≡ o → makes (withItem (made is) (p .place) o) ps ≡ made js
+        → ((ks : List Item) → makes (made ks) ps ≡ made js → More (map markIn ps) ks js) → More (p .mark ∷ map markIn ps) is js
+    go none q f r = absurd (broken-not (sym (makes-broken (p .place) ps) ∙ f))
+    go (some i) q f r =
+        by-cond (λ (b : Made). makes b ps ≡ made js → More (p .mark ∷ map markIn ps) is js) (ltb (length is) maxItems) (made (is ++ (i ∷ []))) (broken (p .place))
+        (λ t g. next-more p (map markIn ps) is js i q (ltb-true _ _ t) (r (is ++ (i ∷ [])) g))
+        (λ t g. absurd (broken-not (sym (makes-broken (p .place) ps) ∙ g)))
+        f
+
+more-made : (ks is : List Item) (ps : List PlacedMark) → AllValid heightEnd ks → length is + length ks ≤ maxItems → map markIn ps ≡ marksOf (suc (cutsOf is)) ks
+    → makes (made is) ps ≡ made (is ++ ks)
+unfolding makes withMark withItem marksOf
+more-made [] is [] v l e = ap made (sym (append-nil is))
+more-made [] is (p ∷ ps) v l e = cc
+more-made (k ∷ ks) is [] v l e = let d = e ∙ marksOf-next (suc (cutsOf is)) k ks in cc
+more-made (k ∷ ks) is (p ∷ ps) (more v vs) l e =
+    let n = suc (cutsOf is) in
+    let d : p .mark ∷ map markIn ps ≡ markAt n k ∷ marksOf (n + cutsOf (k ∷ [])) ks = e ∙ marksOf-next n k ks in
+    let m : p .mark ≡ markAt n k = cc in
+    let r : map markIn ps ≡ marksOf (n + cutsOf (k ∷ [])) ks = cc in
+    let s : map markIn ps ≡ marksOf (suc (cutsOf (is ++ (k ∷ [])))) ks = r ∙ ap (λ (j : ℕ). marksOf j ks) (sym (pages-more is k)) in
+    ap (λ (o : Option Item). makes (withItem (made is) (p .place) o) ps) (ap (itemOf n) m ∙ is-item n k v)
+    ∙ ap (λ (b : Bool). makes (cond b (made (is ++ (k ∷ []))) (broken (p .place))) ps) (lt-ltb (length is) maxItems (omega arith))
+    ∙ more-made ks (is ++ (k ∷ [])) ps vs (omega (arith, length-append is (k ∷ []))) s
+    ∙ ap made (append-assoc is (k ∷ []) ks)
+
+-- ---- the whole
+
+first-made : (p : PlacedMark) (ps : List PlacedMark) (is : List Item) (o : Option Item) → itemOf 0 (p .mark) ≡ o → makes (withItem nothing (p .place) o) ps ≡ made is → GalleyOf (p .mark ∷ map markIn ps) is
+unfolding withItem cutsOf
+first-made p ps is none q e = absurd (broken-not (sym (makes-broken (p .place) ps) ∙ e))
+first-made p ps is (some (Placed c)) q e = absurd (broken-not (sym (makes-broken (p .place) ps) ∙ e))
+first-made p ps is (some Cut) q e =
+    let r = made-more ps [] is e in
+    let m = item-is 0 (p .mark) Cut q .0 in
+    let s : r .items ≡ is = sym (r .are) in
+    record {
+      targets = (λ k. m k ∷ r .marks-are k) ∙ ap (λ (js : List Item). pageMark (pos 1) ∷ marksOf 1 js) s;
+      all-valid = subst (AllValid heightEnd) s (r .all-valid);
+      few = r .few (omega arith);
+    }
+
+made-galley : (ps : List PlacedMark) (is : List Item) → makes nothing ps ≡ made is → GalleyOf (map markIn ps) is
+unfolding makes withMark
+made-galley [] is e = let z : _≡_ {A = ℕ} 0 1 = cc in absurd (omega arith)
+made-galley (p ∷ ps) is e = first-made p ps is (itemOf 0 (p .mark)) refl e
+
+galley-made : (ps : List PlacedMark) (is : List Item) → GalleyOf (map markIn ps) is → makes nothing ps ≡ made is
+unfolding makes withMark withItem cutsOf
+galley-made [] is g = let e = g .targets in cc
+galley-made (p ∷ ps) is g =
+    let e : p .mark ∷ map markIn ps ≡ pageMark (pos 1) ∷ marksOf 1 is = g .targets in
+    let m : p .mark ≡ pageMark (pos 1) = cc in
+    let r : map markIn ps ≡ marksOf 1 is = cc in
+    ap (λ (o : Option Item). makes (withItem nothing (p .place) o) ps) (ap (itemOf 0) m ∙ is-item 0 Cut refl)
+    ∙ more-made is [] ps (g .all-valid) (omega (arith, g .few)) r
+
+pub makes-exactly : (ps : List PlacedMark) (is : List Item) → (makes nothing ps ≡ made is) ↔ GalleyOf (map markIn ps) is
+makes-exactly ps is = (made-galley ps is, galley-made ps is)
+
+marks-placed : (at : ℕ) (ms : List Mark) → map markIn (placedAt at ms) ≡ ms
+unfolding placedAt
+marks-placed at [] = refl
+marks-placed at (m ∷ ms) = ap (λ (ns : List Mark). m ∷ ns) (marks-placed at ms)
+
+placed-galley : (ms : List Mark) (is : List Item) → GalleyOf ms is → makes nothing (placedAt 0 ms) ≡ made is
+placed-galley ms is g = galley-made (placedAt 0 ms) is (subst (λ (ns : List Mark). GalleyOf ns is) (sym (marks-placed 0 ms)) g)
+
+-- "Then there is only one"
+pub only-galley : (ms : List Mark) (is js : List Item) → GalleyOf ms is → GalleyOf ms js → is ≡ js
+only-galley ms is js g h =
+    let e : made is ≡ made js = sym (placed-galley ms is g) ∙ placed-galley ms js h in
+    cc
+
+-- ---- files
+
+module _ (dvi : List ℕ) (widths : List ℤ) (l : length dvi ≤ maxDvi) (w : length widths % fontChars ≡ 0) where
+  shown-marks : {ms : List Mark} → readDvi widths dvi ≡ shows ms → (ps : List PlacedMark) × ((readPlaced widths dvi ≡ shows ps) × (map markIn ps ≡ ms))
+  shown-marks {ms} e = go (readPlaced widths dvi) refl (unplaced-read widths dvi ∙ e)
+    where
+      go : (x : ShownAs PlacedMark) → readPlaced widths dvi ≡ x → unplaced x ≡ shows ms → (ps : List PlacedMark) × ((readPlaced widths dvi ≡ shows ps) × (map markIn ps ≡ ms))
+      go (refusedAt k at) q f = let z : _≡_ {A = ℕ} 0 1 = cc in absurd (omega arith)
+      go (shows ps) q f = (ps, (q, cc))
+
+  pub back-shown : {ms : List Mark} {is : List Item} → readDvi widths dvi ≡ shows ms → GalleyOf ms is → (room : ℕ) → backResult dvi widths room ≡ ifRoom noGalleyRoom room (written (galley New is))
+  unfolding backResult shownGalley madeResult
+  back-shown {ms} {is} e g room =
+      let s = shown-marks e in
+      let m = galley-made (s .0) is (subst (λ (ns : List Mark). GalleyOf ns is) (sym (s .1 .1)) g) in
+      readable dvi widths (ifRoom noGalleyRoom room (shownGalley (readPlaced widths dvi))) l w
+      ∙ ap (λ (x : ShownAs PlacedMark). ifRoom noGalleyRoom room (shownGalley x)) (s .1 .0)
+      ∙ ap (λ (b : Made). ifRoom noGalleyRoom room (madeResult b)) m
+
+-- a file that our own writer made of valid items of low heights
+module _ (widths : List ℤ) (w : length widths % fontChars ≡ 0) where
+  pub back-file : {is : List Item} → AllValid lowEnd is → length is ≤ maxItems → (room : ℕ) → backResult (dviFile is) widths room ≡ ifRoom noGalleyRoom room (written (galley New is))
+  back-file {is} v h room =
+      let f = demand3 widths w v h in
+      let m = shows-all-only (f .all-shown) in
+      back-shown (dviFile is) widths (f .file-size) w (f .shown)
+      (record { targets = ap (λ (ms : List Mark). pageMark (pos 1) ∷ ms) m; all-valid = raised v; few = h }) room
+
+  -- "A file that our own writer made gives back its galley"
+  pub back-written : (g file : List ℕ) (count : ℕ) → Bytes g → accepted count ≡ lowOutcome g → lowResult dviFile g ≡ written file → (room : ℕ)
+      → backResult file widths room ≡ ifRoom noGalleyRoom room (written g)
+  unfolding itemsOf
+  back-written g file count b e q room =
+      let c = low-checked g count e in
+      let a = accepted-is New g count b (sym (c .checked)) in
+      let s : itemsOf New g ≡ a .items = ap itemsIn (a .read) in
+      let f : written (dviFile (itemsOf New g)) ≡ written file = sym (low-made dviFile g count e) ∙ q in
+      let d : dviFile (itemsOf New g) ≡ file = cc in
+      ap (λ (x : List ℕ). backResult x widths room) (sym d)
+      ∙ back-file (c .valid) (omega (arith, a .few, ap length s)) room
+      ∙ ap (λ (is : List Item). ifRoom noGalleyRoom room (written (galley New is))) s
+      ∙ ap (λ (x : List ℕ). ifRoom noGalleyRoom room (written x)) (sym (a .bytes))

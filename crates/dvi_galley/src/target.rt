@@ -1,0 +1,68 @@
+// The places that targets are of.
+use measure::Quanta;
+use measure::Units;
+use measure::ruler;
+use measure::ruler::Ruler;
+ghost use mathlib.Core.Path.{_≡_};
+ghost use Rattle.measure.specs.Target.{xTargets};
+ghost use Rattle.dvi_galley.specs.Target.{xAt, heightAt};
+ghost use Rattle.dvi_galley.specs.Taken.{acrossOf, downOf, InHeights};
+
+// The targets of the first place on the ruler and of the last.
+const LEAST: i32 = -600_747;
+
+const GREATEST: i32 = 35_378_517;
+
+// A unit is 32,768 thirds of an rsu; 55 and a half are this many.
+const UNIT: u32 = 32_768;
+
+const SHIFT: i32 = 1_818_624;
+
+// The target of a height of 1.
+const QUANTUM: u32 = 32_768;
+
+// The x whose target a number is.
+pub enum Across {
+    At(Units),
+    Nowhere,
+}
+
+// The height whose target a number is.
+pub enum Down {
+    At(Quanta),
+    Nowhere,
+}
+
+// The place nearest to three times the number is the only one that can have it as its target; the ruler decides.
+pub fn x_at(ruler: &Ruler, t: i32) -> Across
+    requires { ⌜ now ruler ≡ xTargets ⌝ }
+    ensures { λ r. ⌜ acrossOf r ≡ xAt t ⌝ }
+{
+    if t < LEAST {
+        return Across::Nowhere;
+    }
+    if GREATEST < t {
+        return Across::Nowhere;
+    }
+    let k = (3 * t + SHIFT) as u32 / UNIT;
+    let x = Units(k as i32 + ruler::FIRST);
+    let there = x.target(ruler);
+    let found = there.0;
+    if found == t {
+        return Across::At(x);
+    }
+    Across::Nowhere
+}
+
+pub fn height_at(t: i32) -> Down
+    ensures { λ r. ⌜ (downOf r ≡ heightAt t) × InHeights r ⌝ }
+{
+    if t < 0 {
+        return Down::Nowhere;
+    }
+    let n = t as u32;
+    if n % QUANTUM == 0 {
+        return Down::At(Quanta((n / QUANTUM) as i32));
+    }
+    Down::Nowhere
+}
