@@ -57,9 +57,16 @@ fn print_operations() {
     print_row("convert back", "yearbook", &galley, &mut galley_to_old(&galley));
     let written = spatecanter::write_dvi(&galley).unwrap();
     print_row("read a DVI file", "yearbook, as written", &written, &mut read_dvi(&written, vec![]));
+    print_row(
+        "read it the plain way",
+        "yearbook, as written",
+        &written,
+        &mut read_dvi_plain(&written, vec![]),
+    );
     print_row("make it a galley again", "yearbook, as written", &written, &mut dvi_to_galley(&written));
     let dvi = book(SEED, DVI_LIMIT);
     print_row("read a DVI file", "book with pushes and rules", &dvi, &mut read_dvi(&dvi, book_widths(SEED)));
+    print_row("read it the plain way", "the same book", &dvi, &mut read_dvi_plain(&dvi, book_widths(SEED)));
     println!();
 }
 
@@ -92,6 +99,10 @@ fn print_growth() {
     for length in lengths(GALLEY_LIMIT) {
         let dvi = spatecanter::write_dvi(&galley_of_length(&tape, length)).unwrap();
         print_growth_row("make it a galley again", &dvi, &mut dvi_to_galley(&dvi));
+    }
+    for length in lengths(DVI_LIMIT) {
+        let dvi = book(SEED, length);
+        print_growth_row("read it the plain way", &dvi, &mut read_dvi_plain(&dvi, book_widths(SEED)));
     }
 }
 
@@ -187,6 +198,16 @@ fn read_dvi(dvi: &[u8], widths: Vec<i32>) -> Contest<'_> {
     contest_of_one(
         room,
         move |sheet| spatecanter::read_dvi_into(dvi, &widths, sheet).unwrap(),
+        move |sheet| quick::read_dvi(dvi, &same_widths, sheet),
+    )
+}
+
+fn read_dvi_plain(dvi: &[u8], widths: Vec<i32>) -> Contest<'_> {
+    let room = spatecanter::read_dvi_plain(dvi, &widths).unwrap().len();
+    let same_widths = widths.clone();
+    contest_of_one(
+        room,
+        move |sheet| spatecanter::read_dvi_plain_into(dvi, &widths, sheet).unwrap(),
         move |sheet| quick::read_dvi(dvi, &same_widths, sheet),
     )
 }

@@ -176,6 +176,16 @@ void sp_read_dvi(const uint8_t *dvi, size_t dvi_len,
                  size_t answer[3]);
 
 /*
+ * The same by another way, to check the first: PUSH and POP are read as brackets, a run is made of items, and an item
+ * is a command or a group. For every file, badly bracketed ones included, it gives what sp_read_dvi gives, to the
+ * last byte.
+ */
+void sp_read_dvi_plain(const uint8_t *dvi, size_t dvi_len,
+                       const int32_t *widths, size_t widths_len,
+                       uint8_t *sheet, size_t sheet_len,
+                       size_t answer[3]);
+
+/*
  * Makes the galley whose targets a DVI file shows, whoever made the file. There is one exactly if
  *
  *     pages are numbered 1, 2, 3, ...; each after the first is a cut;

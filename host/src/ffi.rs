@@ -44,6 +44,16 @@ extern "C" {
         answer: *mut [usize; 3],
     );
 
+    pub fn sp_read_dvi_plain(
+        dvi: *const u8,
+        dvi_len: usize,
+        widths: *const i32,
+        widths_len: usize,
+        sheet: *mut u8,
+        sheet_len: usize,
+        answer: *mut [usize; 3],
+    );
+
     pub fn sp_dvi_to_galley(
         dvi: *const u8,
         dvi_len: usize,

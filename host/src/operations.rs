@@ -115,6 +115,30 @@ pub fn read_dvi(dvi: &[u8], widths: &[i32]) -> Result<Vec<u8>, Refusal> {
     filled(usual, number::SHEET_ROOM, |sheet| read_dvi_into(dvi, widths, sheet))
 }
 
+/// Reads a DVI file as `read_dvi_into` does, by another way: PUSH and POP as brackets.
+pub fn read_dvi_plain_into(dvi: &[u8], widths: &[i32], sheet: &mut [u8]) -> Outcome {
+    let mut answer = [0; 3];
+    // SAFETY: every pointer comes from a live slice, with its length.
+    unsafe {
+        ffi::sp_read_dvi_plain(
+            dvi.as_ptr(),
+            dvi.len(),
+            widths.as_ptr(),
+            widths.len(),
+            sheet.as_mut_ptr(),
+            sheet.len(),
+            &mut answer,
+        );
+    }
+    outcome(answer)
+}
+
+/// The sheet of a DVI file, by the way of `read_dvi_plain_into`.
+pub fn read_dvi_plain(dvi: &[u8], widths: &[i32]) -> Result<Vec<u8>, Refusal> {
+    let usual = 4 * dvi.len().min(DVI_LIMIT);
+    filled(usual, number::SHEET_ROOM, |sheet| read_dvi_plain_into(dvi, widths, sheet))
+}
+
 /// Makes the galley whose targets a DVI file shows, with a table of widths; the length is the galley's.
 pub fn dvi_to_galley_into(dvi: &[u8], widths: &[i32], galley: &mut [u8]) -> Outcome {
     let mut answer = [0; 3];

@@ -169,7 +169,7 @@ impl Comparison {
         self.fills("dvi_to_galley", dvi, expected, room, call);
     }
 
-    fn read_dvi(&mut self, dvi: &[u8], widths: &[i32]) {
+    pub fn read_dvi(&mut self, dvi: &[u8], widths: &[i32]) {
         let result = plain::read_dvi(dvi, widths);
         let room = self.room(dvi, &result);
         let expected = plain::with_room(result, room, 30);

@@ -2,7 +2,7 @@
 
 use crate::cases::{self, Form};
 use crate::compare::Comparison;
-use crate::implementation::{Implementation, RunningTape, Words, GUARD, LIBRARY, QUICK};
+use crate::implementation::{Implementation, RunningTape, Words, BRACKETS, GUARD, LIBRARY, QUICK};
 use crate::plain;
 use spatecanter::sample::Random;
 
@@ -18,6 +18,16 @@ fn quick_version_gives_what_the_plain_reading_gives() {
     compare(QUICK);
 }
 
+#[test]
+fn plain_reader_gives_what_the_plain_reading_gives() {
+    let mut comparison = Comparison::new(BRACKETS, SEED);
+    each_dvi_file(|dvi, widths| comparison.read_dvi(dvi, widths));
+    comparison.print();
+    for number in [0, 31, 21, 22, 23, 24, 25, 26, 27, 28, 29, 30] {
+        assert!(comparison.count("read_dvi", number) >= 20, "read_dvi gave {number} hardly ever");
+    }
+}
+
 fn compare(implementation: Implementation) {
     let mut comparison = Comparison::new(implementation, SEED);
     tapes(&mut comparison);
@@ -26,7 +36,7 @@ fn compare(implementation: Implementation) {
     sessions(&mut comparison);
     galleys(&mut comparison);
     conversions(&mut comparison);
-    dvi_files(&mut comparison);
+    each_dvi_file(|dvi, widths| comparison.dvi(dvi, widths));
     shown_galleys(&mut comparison);
     comparison.print();
     every_number_is_met(&comparison);
@@ -242,23 +252,24 @@ fn conversions(comparison: &mut Comparison) {
     }
 }
 
-fn dvi_files(comparison: &mut Comparison) {
+/// Files of any kind with their widths; some ended anywhere and changed anywhere.
+fn each_dvi_file(mut take: impl FnMut(&[u8], &[i32])) {
     let mut random = Random::new(SEED + 3);
     for _ in 0..150_000 {
         let file = cases::dvi_file(&mut random);
-        comparison.dvi(&file.bytes, &file.widths);
+        take(&file.bytes, &file.widths);
     }
     for _ in 0..40 {
         let file = cases::valid_dvi_file(&mut random);
         for length in 0..file.bytes.len() {
-            comparison.dvi(&file.bytes[..length], &file.widths);
+            take(&file.bytes[..length], &file.widths);
         }
-        each_byte_changed(&file.bytes, &mut random, |dvi| comparison.dvi(dvi, &file.widths));
+        each_byte_changed(&file.bytes, &mut random, |dvi| take(dvi, &file.widths));
     }
     for _ in 0..3 {
         let file = cases::valid_dvi_file(&mut random);
         for value in 0..=255 {
-            each_byte_set(&file.bytes, value, |dvi| comparison.dvi(dvi, &file.widths));
+            each_byte_set(&file.bytes, value, |dvi| take(dvi, &file.widths));
         }
     }
 }

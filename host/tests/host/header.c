@@ -171,6 +171,20 @@ static void reprints(void)
 
 #define BOP 0x81, 0, 0, 0, 1, 0xFF, 0xFF, 0xFF, 0xFF
 
+static void plain(void)
+{
+    uint8_t again[sizeof sheet];
+    sp_read_dvi_plain(dvi, sizeof dvi, no_width, 128, again, sizeof again, answer);
+    expect("DVI to sheet, the plain way", SP_ACCEPTED, 0, sizeof sheet);
+    expect_true("the sheet again", memcmp(again, sheet, sizeof sheet) == 0);
+    sp_read_dvi_plain(dvi, sizeof dvi, no_width, 0, again, sizeof again - 1, answer);
+    expect("room for a sheet, the plain way", SP_SHEET_ROOM, sizeof sheet, 0);
+    sp_read_dvi_plain(BYTES(BOP, 0x84, 0x82), no_width, 0, room, sizeof room, answer);
+    expect("end of page in a group", SP_EOP, 10, 0);
+    sp_read_dvi_plain(NULL, 0, NULL, 0, NULL, 0, answer);
+    expect("null DVI file, the plain way", SP_DVI_ENDS, 0, 0);
+}
+
 static void back(void)
 {
     uint8_t again[sizeof galley], other[sizeof dvi];
@@ -342,6 +356,7 @@ int main(void)
     conversions();
     reprints();
     dvi_files();
+    plain();
     back();
     lengths();
     items();

@@ -221,6 +221,25 @@ pub const LIBRARY: Implementation = Implementation {
     },
 };
 
+/// The library, with its plain reader of DVI files for the quick one.
+pub const BRACKETS: Implementation = Implementation {
+    name: "library's plain reader",
+    read_dvi: |dvi, widths, sheet| {
+        answered(|answer| unsafe {
+            ffi::sp_read_dvi_plain(
+                dvi.as_ptr(),
+                dvi.len(),
+                widths.as_ptr(),
+                widths.len(),
+                sheet.as_mut_ptr(),
+                sheet.len(),
+                answer,
+            )
+        })
+    },
+    ..LIBRARY
+};
+
 /// The library's running tape, with a guard on both sides.
 pub struct Words(pub [u64; ffi::TAPE_WORDS + 2]);
 

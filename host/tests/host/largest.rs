@@ -2,7 +2,7 @@
 
 use crate::cases;
 use crate::compare::Comparison;
-use crate::implementation::{Implementation, LIBRARY, QUICK};
+use crate::implementation::{Implementation, BRACKETS, LIBRARY, QUICK};
 use crate::plain;
 use spatecanter::sample::{book, book_widths, chart, yearbook, Random};
 use spatecanter::{Machine, DVI_LIMIT, GALLEY_LIMIT, OLD_GALLEY_LIMIT, TAPE_LIMIT};
@@ -21,8 +21,19 @@ fn quick_version_takes_the_largest_inputs() {
     on_a_small_stack(QUICK);
 }
 
+/// The 200 groups in one another that a page may have, too.
+#[test]
+fn plain_reader_takes_the_largest_inputs() {
+    with_a_small_stack(|| {
+        let mut comparison = Comparison::new(BRACKETS, 432).with_exact_room();
+        each_dvi_file(|dvi, widths| comparison.read_dvi(dvi, widths));
+        comparison.print();
+        needs_the_largest_sheet(BRACKETS);
+    });
+}
+
 fn on_a_small_stack(implementation: Implementation) {
-    let work = move || {
+    with_a_small_stack(move || {
         let mut comparison = Comparison::new(implementation, 432).with_exact_room();
         tapes(&mut comparison);
         sessions(&mut comparison);
@@ -30,11 +41,14 @@ fn on_a_small_stack(implementation: Implementation) {
         galleys_with_cuts(&mut comparison);
         long_columns(&mut comparison);
         conversions(&mut comparison);
-        dvi_files(&mut comparison);
+        each_dvi_file(|dvi, widths| comparison.dvi(dvi, widths));
         back_to_galleys(&mut comparison);
         comparison.print();
         needs_the_largest_sheet(implementation);
-    };
+    });
+}
+
+fn with_a_small_stack(work: impl FnOnce() + Send + 'static) {
     std::thread::Builder::new().stack_size(STACK).spawn(work).unwrap().join().unwrap();
 }
 
@@ -160,17 +174,18 @@ fn conversions(comparison: &mut Comparison) {
     comparison.convert(&old[..old.len() - 8]);
 }
 
-fn dvi_files(comparison: &mut Comparison) {
+fn each_dvi_file(mut take: impl FnMut(&[u8], &[i32])) {
     let widths = book_widths(9);
     let mut dvi = book(9, DVI_LIMIT);
-    comparison.dvi(&dvi, &widths);
+    take(&dvi, &widths);
     dvi.push(223);
-    comparison.dvi(&dvi, &widths);
+    take(&dvi, &widths);
     dvi.truncate(DVI_LIMIT - 200_000);
-    comparison.dvi(&dvi, &widths);
-    comparison.dvi(&empty_pages(), &[]);
-    comparison.dvi(&one_page(&[132; 200], &[133; 200]), &[]);
-    comparison.dvi(&long_name(), &[]);
+    take(&dvi, &widths);
+    take(&empty_pages(), &[]);
+    take(&one_page(&[132; 200], &[133; 200]), &[]);
+    take(&one_page(&[132; 199], &[132, 133]), &[]);
+    take(&long_name(), &[]);
 }
 
 /// The files of full galleys, and one character or one page more.

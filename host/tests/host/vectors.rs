@@ -3,7 +3,7 @@
 mod call;
 mod text;
 
-use crate::implementation::{Implementation, RunningTape, LIBRARY, PLAIN, QUICK};
+use crate::implementation::{Implementation, RunningTape, BRACKETS, LIBRARY, PLAIN, QUICK};
 use call::{Call, Given};
 use std::fs;
 use std::io::Write;
@@ -55,7 +55,7 @@ impl Session {
     /// Runs the cases on each implementation. Where a case has no room, the buffer is just as long as needed, and
     /// then longer. A case is told once.
     fn run(self, faults: &mut Vec<String>) {
-        for them in [PLAIN, LIBRARY, QUICK] {
+        for them in [PLAIN, LIBRARY, BRACKETS, QUICK] {
             let mut told = vec![false; self.0.len()];
             for (spare, filler) in [(0, 0xA5), (100, 0x5A)] {
                 let mut tape = (them.new_tape)();

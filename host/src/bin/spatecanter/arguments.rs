@@ -27,6 +27,10 @@ pub struct Arguments {
     pub pieces: Option<OsString>,
     /// --force
     pub force: bool,
+    /// --plain
+    pub plain: bool,
+    /// --check
+    pub check: bool,
 }
 
 /// Whether --help or -h is among the options.
@@ -75,7 +79,7 @@ impl Arguments {
                 slot.replace(value).is_some()
             }
             None if joined.is_some() => return Err(format!("{name} takes no value")),
-            None => std::mem::replace(&mut self.force, true),
+            None => std::mem::replace(self.flag(&name), true),
         };
         if is_given_twice {
             return Err(format!("{name} is given twice"));
@@ -83,7 +87,16 @@ impl Arguments {
         Ok(())
     }
 
-    /// Where an option's value goes; --force has none.
+    /// An option without a value.
+    fn flag(&mut self, name: &str) -> &mut bool {
+        match name {
+            "--plain" => &mut self.plain,
+            "--check" => &mut self.check,
+            _ => &mut self.force,
+        }
+    }
+
+    /// Where an option's value goes; --force, --plain and --check have none.
     fn slot(&mut self, name: &str) -> Option<&mut Option<OsString>> {
         match name {
             "-o" => Some(&mut self.output),

@@ -45,8 +45,8 @@ pub const COMMANDS: [Command; 10] = [
     },
     Command {
         name: "show",
-        usage: "show DVI [--widths FILE] [-o SHEET] [--force]",
-        options: &["--widths", "-o", "--force"],
+        usage: "show DVI [--widths FILE] [--plain|--check] [-o SHEET] [--force]",
+        options: &["--widths", "--plain", "--check", "-o", "--force"],
         help: help::SHOW,
         run: show,
     },
@@ -129,11 +129,38 @@ fn set(arguments: &Arguments) -> Result<(), Failure> {
 }
 
 fn show(arguments: &Arguments) -> Result<(), Failure> {
+    if arguments.plain && arguments.check {
+        return Err(Failure::Usage("--plain and --check do not go together: --check reads both ways".into()));
+    }
     let (place, dvi, widths) = dvi_file(arguments, "sheet")?;
-    let sheet = progress::during("reading the DVI file", || spatecanter::read_dvi(&dvi, &widths))
+    let read = if arguments.plain { spatecanter::read_dvi_plain } else { spatecanter::read_dvi };
+    let sheet = progress::during("reading the DVI file", || read(&dvi, &widths));
+    if arguments.check {
+        readers_agree(&arguments.input, &dvi, &widths, &sheet)?;
+    }
+    let sheet = sheet
         .map_err(|refusal| explain::dvi(&arguments.input, arguments.widths.as_deref(), &dvi, refusal))?;
     place.write(&sheet)?;
     place.tell(&counted(sheet.len(), "byte"));
+    Ok(())
+}
+
+/// Reads the file the plain way too, and says that it gives the same, as it is proved to.
+fn readers_agree(
+    name: &OsStr,
+    dvi: &[u8],
+    widths: &[i32],
+    sheet: &Result<Vec<u8>, Refusal>,
+) -> Result<(), Failure> {
+    let plain =
+        progress::during("reading the DVI file the plain way", || spatecanter::read_dvi_plain(dvi, widths));
+    if plain != *sheet {
+        return Err(Failure::Refused(format!(
+            "{}: the two readers differ, a fault of the library",
+            shown(name)
+        )));
+    }
+    say(&format!("{}: both readers agree", shown(name)));
     Ok(())
 }
 

@@ -119,7 +119,7 @@ there already.
 pub const SHOW: &str = "\
 Reads a DVI file of 1980 and writes what it shows, as a sheet: pages, characters and rules.
 
-Usage: spatecanter show DVI [--widths FILE] [-o SHEET] [--force]
+Usage: spatecanter show DVI [--widths FILE] [--plain|--check] [-o SHEET] [--force]
 
 The widths are 32-bit numbers, high byte first, 128 for each of the fonts 0, 1, ..., of at
 most 65,536 fonts. Without them no character has a width, and the commands 0 to 127 are
@@ -137,6 +137,10 @@ Numbers, at the place of the command unless another is said:
   27  a character with no font, outside 0 to 127, or without a width
   28  x or y leaves 32 bits
   29  the postamble is malformed or short
+
+--plain reads the file another way: PUSH and POP as brackets, a run made of items, and an item
+a command or a group. It gives the same for every file, and takes longer. --check reads the
+file both ways and says that they agree, whether the file is accepted or refused.
 
 Without -o the sheet of page.dvi is page.dvi.sheet. --force writes over a file that is there
 already.

@@ -22,7 +22,7 @@ fn help_for_the_whole_and_for_each_command() {
 fn wrong_usage_is_2() {
     let folder = folder("usage");
     fs::write(folder.join("p3.tape"), hex(P3_TAPE)).unwrap();
-    let calls: [&[&str]; 36] = [
+    let calls: [&[&str]; 39] = [
         &[],
         &["reed", "p3.tape"],
         &["read"],
@@ -39,6 +39,9 @@ fn wrong_usage_is_2() {
         &["plot", "p3.tape", "--machine="],
         &["show", "-", "--widths", "-"],
         &["back", "-", "--widths", "-"],
+        &["show", "p3.tape", "--plain", "--check"],
+        &["show", "p3.tape", "--plain=yes"],
+        &["back", "p3.tape", "--plain"],
         &["read", "missing.tape"],
         &["read", "."],
         &["read", "p3.tape", "-o", "."],

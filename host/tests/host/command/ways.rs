@@ -101,6 +101,25 @@ fn an_old_galley_there_and_back() {
 }
 
 #[test]
+fn a_dvi_file_read_both_ways() {
+    let folder = folder("both");
+    let dvi = spatecanter::write_dvi(&hex(NEW_P3)).unwrap();
+    let sheet = spatecanter::read_dvi(&dvi, &[]).unwrap();
+    fs::write(folder.join("a.dvi"), &dvi).unwrap();
+    let plain = run(&folder, &["show", "a.dvi", "--plain", "-o", "plain"]);
+    assert_eq!((plain.status, plain.err.as_str()), (0, "plain: 53 bytes\n"));
+    let check = run(&folder, &["show", "--check", "a.dvi", "-o", "checked"]);
+    assert_eq!((check.status, check.err.as_str()), (0, "a.dvi: both readers agree\nchecked: 53 bytes\n"));
+    assert_eq!(fs::read(folder.join("plain")).unwrap(), sheet);
+    assert_eq!(fs::read(folder.join("checked")).unwrap(), sheet);
+    let damaged = run_on(&folder, &["show", "-", "--check"], &[&dvi[..9], &[133]].concat());
+    assert_eq!(damaged.status, 1);
+    for part in ["both readers agree\n", "refused 25 at 9"] {
+        assert!(damaged.err.contains(part), "{}", damaged.err);
+    }
+}
+
+#[test]
 fn a_dvi_file_back_to_its_galley() {
     let folder = folder("back");
     fs::write(folder.join("a.galley"), hex(NEW_P3)).unwrap();

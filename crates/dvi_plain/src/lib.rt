@@ -1,0 +1,105 @@
+// A second reader of DVI files of 1980, which takes PUSH and POP as brackets and keeps no stack: a run is made of items, and an item is a
+// command or a group.
+use dvi_brackets::Run;
+use dvi_page::page;
+use dvi_page::stack;
+use dvi_step::Stepped;
+use octets::answer;
+use octets::answer::Answer;
+use octets::field;
+use octets::pass::Reading;
+ghost use mathlib.Core.Path.{_≡_};
+ghost use mathlib.Core.Bool.{true};
+ghost use Prim.Native.Nat.{_≤_};
+ghost use lib.ListN.{length};
+ghost use Rattle.octets.specs.Answer.{outcomeOf, Gives};
+ghost use Rattle.octets.specs.Pass.{Roomy, Passed};
+ghost use Rattle.sheet.specs.Shown.{shownResult};
+ghost use Rattle.dvi.specs.File.{readDvi};
+ghost use Rattle.dvi.specs.Sheet.{maxDvi, sheetResult};
+
+// The bytes of BOP; the run of its page comes after them.
+const BOP_BYTES: usize = 9;
+
+// One pass over a file within the limit. It writes the sheet, if writing.
+fn pass(dvi: &[u8], widths: &[i32], out: &mut [u8], writing: bool) -> Reading
+    requires { ⌜ length (now dvi) ≤ maxDvi ⌝ }
+    requires { ⌜ (writing ≡ true → Roomy (shownResult (readDvi (now widths) (now dvi))) (length (now out))) ⌝ }
+    ensures { λ r. ⌜ Passed (shownResult (readDvi (now (widths .entry)) (now (dvi .entry)))) writing (now (out .entry)) r (now (out .exit)) ⌝ }
+{
+    let mut last: i32 = -1;
+    let mut at: usize = 0;
+    let mut to: usize = 0;
+    let mut count: u32 = 0;
+    while at < dvi.len() {
+        let b = dvi_step::between_pages(dvi, at, last);
+        match b {
+            Stepped::Refuse(k) => {
+                return Reading::Fault(k, at);
+            }
+            // Between pages a command that goes on is BOP, which shows a mark.
+            Stepped::Go(q, n) => {
+                return Reading::Fault(answer::BAD_COMMAND, at);
+            }
+            Stepped::Show(q, m, n) => {
+                let first = sheet::show_mark(out, to, m, writing);
+                let start = at + BOP_BYTES;
+                let body = &dvi[start..];
+                let p = page::new_page();
+                let r = dvi_brackets::read_run(
+                    body,
+                    widths,
+                    out,
+                    start,
+                    stack::MAX_STACK,
+                    p,
+                    first,
+                    count + 1,
+                    writing,
+                );
+                match r {
+                    Run::Fault(k, i) => {
+                        return Reading::Fault(k, i);
+                    }
+                    Run::Pop(p, n, t, c) => {
+                        return Reading::Fault(answer::STACK_EMPTY, start + n);
+                    }
+                    Run::Eop(n, t, c) => {
+                        last = at as i32;
+                        at = start + n + 1;
+                        to = t;
+                        count = c;
+                    }
+                }
+            }
+            Stepped::Finish => {
+                field::show_end(out, to, count, writing);
+                return Reading::Needs(to + field::END_FIELD);
+            }
+        }
+    }
+    Reading::Fault(answer::DVI_ENDS_EARLY, at)
+}
+
+// Reads a DVI file into the lent sheet buffer.
+pub fn read_dvi_plain(dvi: &[u8], widths: &[i32], sheet: &mut [u8]) -> Answer
+    ensures { λ r. ⌜ Gives (outcomeOf r) (sheetResult (now (dvi .entry)) (now (widths .entry))) (now (sheet .entry)) (now (sheet .exit)) ⌝ }
+{
+    if dvi_step::MAX_DVI < dvi.len() {
+        return Answer::Refused(answer::DVI_TOO_LONG, 0);
+    }
+    if widths.len() % page::FONT_CHARS != 0 {
+        return Answer::Refused(answer::WIDTHS_NOT_WHOLE, 0);
+    }
+    let found = pass(dvi, widths, sheet, false);
+    match found {
+        Reading::Needs(needed) => {
+            if sheet.len() < needed {
+                return Answer::Refused(answer::NO_SHEET_ROOM, needed);
+            }
+            pass(dvi, widths, sheet, true);
+            Answer::Accepted(needed)
+        }
+        Reading::Fault(n, place) => Answer::Refused(n, place),
+    }
+}
