@@ -10,6 +10,8 @@ use std::time::{Duration, Instant};
 
 const SEED: u64 = 1980;
 const SMALLEST: usize = 64 * 1024;
+/// The galley whose tape is nearly as long as a tape may be, in bytes.
+const PUNCH_LIMIT: usize = 4_500_000;
 /// Each contender has at least this much time, and this many turns.
 const TIME: Duration = Duration::from_secs(1);
 const TURNS: usize = 7;
@@ -52,6 +54,8 @@ fn print_operations() {
     print_row("read back the last character", "yearbook", &galley, &mut read_back(&galley));
     print_row("write a DVI file", "yearbook", &galley, &mut write_dvi(&galley));
     print_row("reprint", "yearbook", &galley, &mut reprint(&galley));
+    let short = galley_of_length(&tape, PUNCH_LIMIT);
+    print_row("punch a tape", "yearbook", &short, &mut punch_tape(&short));
     let old = spatecanter::galley_to_old(&galley).unwrap();
     print_row("convert an old galley", "yearbook", &old, &mut galley_to_new(&old));
     print_row("convert back", "yearbook", &galley, &mut galley_to_old(&galley));
@@ -91,6 +95,10 @@ fn print_growth() {
     for length in lengths(GALLEY_LIMIT) {
         let galley = galley_of_length(&tape, length);
         print_growth_row("write a DVI file", &galley, &mut write_dvi(&galley));
+    }
+    for length in lengths(PUNCH_LIMIT) {
+        let galley = galley_of_length(&tape, length);
+        print_growth_row("punch a tape", &galley, &mut punch_tape(&galley));
     }
     for length in lengths(DVI_LIMIT) {
         let dvi = book(SEED, length);
@@ -228,6 +236,15 @@ fn reprint(galley: &[u8]) -> Contest<'_> {
         whole.sheet.len(),
         move |sheet| spatecanter::reprint_into(galley, &[], &mut dvi, sheet).unwrap(),
         move |sheet| quick::reprint(galley, &[], &mut quick_dvi, sheet),
+    )
+}
+
+fn punch_tape(galley: &[u8]) -> Contest<'_> {
+    let room = spatecanter::punch_tape(galley).unwrap().len();
+    contest_of_one(
+        room,
+        move |tape| spatecanter::punch_tape_into(galley, tape).unwrap(),
+        move |tape| quick::punch_tape(galley, tape),
     )
 }
 

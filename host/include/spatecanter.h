@@ -1,7 +1,7 @@
 /*
  * spatecanter.h: C/A/T phototypesetter tapes, whole or in pieces, to galleys, galleys to DVI files of 1980, and
- * DVI files to sheets and back to galleys; and old galleys to new ones and back. Link with libspatecanter.a, which the script `library`
- * at the root of the repository proves and builds in target/staticlib.
+ * DVI files to sheets and back to galleys; galleys back to tapes, and old galleys to new ones and back. Link with
+ * libspatecanter.a, which the script `library` at the root of the repository proves and builds in target/staticlib.
  *
  * ANSWERS. Every function but sp_new_tape and sp_extents fills `answer` with three numbers:
  *
@@ -120,8 +120,10 @@ enum sp_number {
     SP_TOO_HIGH          = 43, /* to DVI or the old form: a height over SP_DVI_HEIGHT_LIMIT; the offset of
                                   the first such character's field */
     SP_CONVERTED_ROOM    = 44, /* buffer for the converted galley too short; the bytes needed */
-    SP_NO_GALLEY         = 45  /* from DVI to a galley: the file shows no galley's targets; the offset of the
+    SP_NO_GALLEY         = 45, /* from DVI to a galley: the file shows no galley's targets; the offset of the
                                   first command that breaks a condition (see sp_dvi_to_galley) */
+    SP_PUNCHED_TOO_LONG  = 48, /* punching: the tape would be over SP_TAPE_LIMIT; 0 */
+    SP_TAPE_ROOM         = 49  /* tape buffer too short; the bytes needed */
 };
 
 /*
@@ -215,6 +217,16 @@ void sp_reprint(const uint8_t *galley, size_t galley_len,
                 uint8_t *dvi, size_t dvi_len,
                 uint8_t *sheet, size_t sheet_len,
                 size_t answer[3]);
+
+/*
+ * Punches a tape of the 8-font machine from a galley: initialize and an escape of 16 first and after each cut;
+ * for each character what the machine lacks of rail, mag, tilt, half and size, the motions sideways and then up
+ * or down, and the flash; stop last. Reading the tape gives the same galley.
+ * Refusals: 40; then 41; then 48; then 49.
+ */
+void sp_punch_tape(const uint8_t *galley, size_t galley_len,
+                   uint8_t *tape, size_t tape_len,
+                   size_t answer[3]);
 
 /*
  * Writes a galley of the old form in the new form: each character with its x, height, font number and

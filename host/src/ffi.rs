@@ -76,6 +76,14 @@ extern "C" {
         answer: *mut [usize; 3],
     );
 
+    pub fn sp_punch_tape(
+        galley: *const u8,
+        galley_len: usize,
+        tape: *mut u8,
+        tape_len: usize,
+        answer: *mut [usize; 3],
+    );
+
     pub fn sp_galley_to_new(
         old_galley: *const u8,
         old_galley_len: usize,

@@ -1,5 +1,5 @@
 //! C/A/T phototypesetter tapes, whole or in pieces, to galleys, galleys to DVI files of 1980, and DVI files to
-//! sheets and back to galleys; and old galleys to new ones and back.
+//! sheets and back to galleys; galleys back to tapes, and old galleys to new ones and back.
 //!
 //! The operations are those of the proved library `libspatecanter.a`; this package adds safe calls,
 //! readers of galleys and sheets for people, and the command `spatecanter`.
@@ -18,9 +18,10 @@ pub use extents::Extents;
 pub use machine::Machine;
 pub use operations::{
     check_galley, dvi_to_galley, dvi_to_galley_into, galley_to_new, galley_to_new_into, galley_to_old,
-    galley_to_old_into, read_back, read_dvi, read_dvi_into, read_dvi_plain, read_dvi_plain_into, read_tape,
-    read_tape_into, reprint, reprint_into, write_dvi, write_dvi_into, Reprint, DVI_HEIGHT_LIMIT, DVI_LIMIT,
-    GALLEY_LIMIT, HEIGHT_LIMIT, ITEM_LIMIT, OLD_GALLEY_LIMIT, SHEET_LIMIT, TAPE_LIMIT, WIDTHS_PER_FONT,
+    galley_to_old_into, punch_tape, punch_tape_into, read_back, read_dvi, read_dvi_into, read_dvi_plain,
+    read_dvi_plain_into, read_tape, read_tape_into, reprint, reprint_into, write_dvi, write_dvi_into,
+    Reprint, DVI_HEIGHT_LIMIT, DVI_LIMIT, GALLEY_LIMIT, HEIGHT_LIMIT, ITEM_LIMIT, OLD_GALLEY_LIMIT,
+    SHEET_LIMIT, TAPE_LIMIT, WIDTHS_PER_FONT,
 };
 pub use refusal::{number, Outcome, Refusal};
 pub use running::RunningTape;

@@ -192,6 +192,22 @@ pub fn reprint(galley: &[u8], widths: &[i32]) -> Result<Reprint, Refusal> {
     Ok(Reprint { dvi, sheet })
 }
 
+/// Punches a tape of the 8-font machine from a galley; the length is the tape's. Reading the tape gives the galley.
+pub fn punch_tape_into(galley: &[u8], tape: &mut [u8]) -> Outcome {
+    let mut answer = [0; 3];
+    // SAFETY: every pointer comes from a live slice, with its length.
+    unsafe {
+        ffi::sp_punch_tape(galley.as_ptr(), galley.len(), tape.as_mut_ptr(), tape.len(), &mut answer);
+    }
+    outcome(answer)
+}
+
+/// The tape of a galley, for the 8-font machine.
+pub fn punch_tape(galley: &[u8]) -> Result<Vec<u8>, Refusal> {
+    let usual = galley.len().min(TAPE_LIMIT);
+    filled(usual, number::TAPE_ROOM, |tape| punch_tape_into(galley, tape))
+}
+
 /// Writes a galley of the old form in the new form; the length is the new galley's.
 pub fn galley_to_new_into(old_galley: &[u8], new_galley: &mut [u8]) -> Outcome {
     let mut answer = [0; 3];

@@ -1,31 +1,29 @@
 -- A galley written in another form: the items behind are written, and how long the whole is.
 -- Assumes nothing.
 use mathlib.Core.Path.{_≡_, refl, sym, ap, subst, _∙_}
-use mathlib.Core.Bool.{Bool, true, false, cond}
 use mathlib.Core.List.{List, [], _∷_, _++_}
 use Prim.Native.Nat.{ℕ, _+_, _-_, _*_, _≤_, _<_}
 use native.Mathlib.Omega.{arith}
-use borrow.Author.Tests.{le-ltb}
-use lib.Dec.{ltb}
 use lib.ListN.{length, length-append}
 use lib.Seq.{sets}
-use Rattle.octets.specs.Answer.{Outcome, accepted, refused, refusal, written, ifRoom, Gives, galleyTooLong, noConvertedRoom}
-use Rattle.octets.specs.AnswerLaws.{room-refused, room-short, room-enough, gives}
+use Rattle.octets.specs.Answer.{Outcome, accepted, refused, refusal, written, ifRoom, Gives, noConvertedRoom}
+use Rattle.octets.specs.AnswerLaws.{room-short, room-enough, gives}
 use Rattle.octets.specs.Field.{endField}
 use Rattle.octets.specs.Write.{Wrote, wrote-none, then, named, sets-start}
 use Rattle.galley_file.specs.declared.form.Form.{Form}
 use Rattle.galley_file.specs.declared.form.Form.the-variants.{Old, New}
 use Rattle.galley_file.specs.declared.item.Item.{Item}
-use Rattle.galley_file.specs.Form.{characterSize, maxGalley}
+use Rattle.galley_file.specs.Form.{characterSize}
 use Rattle.galley_file.specs.Item.{itemField, itemSize, itemAt, WholeAt, charactersOf, cutsOf}
 use Rattle.galley_file.specs.ItemLaws.{length-itemField, all-counted}
-use Rattle.galley_file.specs.Galley.{maxItems, fields, galley, Reading, whole, malformed, readGalley, itemsIn, itemsOf}
+use Rattle.galley_file.specs.Galley.{maxItems, fields, galley, readGalley, itemsOf}
 use Rattle.galley_file.specs.GalleyLaws.{checked, read-as, reading-length, length-fields, fields-append, fields-one, length-galley}
-use Rattle.galley_file.specs.Outcome.{countOutcome, checkOutcome}
+use Rattle.galley_file.specs.Outcome.{checkOutcome}
+use Rattle.galley_file.specs.OutcomeLaws.{result-refused, result-made}
 use Rattle.galley_file.specs.Walk.{Midway, Onward, midway-start, midway-inside, midway-end, midway-next, midway-whole}
 use Rattle.galley_file.specs.Low.{lowOutcome}
 use Rattle.galley_file.specs.LowLaws.{low-made, low-refused}
-use Rattle.conversion.specs.Conversion.{newReading, newResult, oldResult, formResult}
+use Rattle.conversion.specs.Conversion.{newResult, oldResult, formResult}
 
 module _ (from to : Form) (g : List ℕ) where
   -- the galley up to `at`: the items behind are written
@@ -127,18 +125,12 @@ module _ (from to : Form) (g : List ℕ) where
 
 module _ (g : List ℕ) (room : ℕ) where
   pub new-refused : (n place : ℕ) → refused n place ≡ checkOutcome Old g → newResult g room ≡ refusal n place
-  unfolding checkOutcome newResult ifRoom
-  new-refused n place e = go (ltb (maxGalley Old) (length g)) (readGalley Old g) e
-    where
-      go : (t : Bool) (r : Reading) → refused n place ≡ cond t (refused galleyTooLong 0) (countOutcome 0 r) → ifRoom noConvertedRoom room (cond t (refusal galleyTooLong 0) (newReading r)) ≡ refusal n place
-      go true r h = cc
-      go false (whole is) h = let z : _≡_ {A = ℕ} 0 1 = cc in absurd (omega arith)
-      go false (malformed p) h = cc
+  unfolding newResult ifRoom
+  new-refused n place e = ap (ifRoom noConvertedRoom room) (result-refused Old (λ is. written (galley New is)) g n place e)
 
   pub new-accepted : (count : ℕ) → accepted count ≡ checkOutcome Old g → newResult g room ≡ formResult Old New g room
   unfolding newResult formResult
-  new-accepted count e =
-      rw (le-ltb (maxGalley Old) (length g) (checked Old g count e .fits)) (ap (λ (r : Reading). ifRoom noConvertedRoom room (newReading r)) (read-as Old g count e))
+  new-accepted count e = ap (ifRoom noConvertedRoom room) (result-made Old (λ is. written (galley New is)) g count e)
 
   pub old-refused : (n place : ℕ) → refused n place ≡ lowOutcome g → oldResult g room ≡ refusal n place
   unfolding oldResult ifRoom

@@ -5,32 +5,25 @@
 --     Same           two galleys, each by its own form's rules, of the same characters and cuts, in order
 --     Above          a character of a list is higher than the old form holds
 use Prim.Native.Nat.{ℕ}
-use mathlib.Core.Bool.{cond}
 use mathlib.Core.List.{List, [], _∷_, _++_}
 use mathlib.Core.Path.{_≡_}
-use lib.Dec.{ltb}
 use lib.ListN.{length}
 use lib.Signed.{_<ℤ_}
 use Rattle.octets.specs.Field.{endField}
-use Rattle.octets.specs.Answer.{Result, refusal, written, ifRoom, galleyTooLong, galleyMalformed, noConvertedRoom}
+use Rattle.octets.specs.Answer.{Result, written, ifRoom, noConvertedRoom}
 use Rattle.measure.specs.Place.{lowEnd}
 use Rattle.galley_file.specs.declared.character.Character.{Character}
 use Rattle.galley_file.specs.declared.form.Form.{Form}
 use Rattle.galley_file.specs.declared.form.Form.the-variants.{Old, New}
 use Rattle.galley_file.specs.declared.item.Item.{Item}
-use Rattle.galley_file.specs.Form.{maxGalley}
 use Rattle.galley_file.specs.Item.{charactersOf}
-use Rattle.galley_file.specs.Galley.{fields, galley, Reading, whole, malformed, readGalley, itemsOf}
+use Rattle.galley_file.specs.Galley.{fields, galley, whole, readGalley, itemsOf}
+use Rattle.galley_file.specs.Outcome.{checkedResult}
 use Rattle.galley_file.specs.Low.{lowResult}
 
--- 41, else the items in the new form
-abbrev pub newReading : Reading → Result
-newReading (whole is) = written (galley New is)
-newReading (malformed place) = refusal galleyMalformed place
-
--- 40 first, 44 last
+-- 40 and 41, else the items in the new form; 44 last
 unfoldable pub newResult : List ℕ → ℕ → Result
-newResult old room = ifRoom noConvertedRoom room (cond (ltb (maxGalley Old) (length old)) (refusal galleyTooLong 0) (newReading (readGalley Old old)))
+newResult old room = ifRoom noConvertedRoom room (checkedResult Old (λ is. written (galley New is)) old)
 
 -- 40, 41 and 43, else the items in the old form; 44 last
 unfoldable pub oldResult : List ℕ → ℕ → Result

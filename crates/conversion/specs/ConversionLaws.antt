@@ -19,7 +19,7 @@ use lib.Signed.{leZ, _<ℤ_}
 use Rattle.integers.specs.Parts.{integers, false-leZ}
 use Rattle.octets.specs.Octets.{Bytes}
 use Rattle.octets.specs.Answer.{accepted, Result, refusal, written, ifRoom, galleyTooLong, heightTooGreat, noConvertedRoom}
-use Rattle.octets.specs.AnswerLaws.{room-refused, room-enough}
+use Rattle.octets.specs.AnswerLaws.{room-refused, room-enough, room-made}
 use Rattle.measure.specs.Place.{lowEnd, heightEnd}
 use Rattle.galley_file.specs.declared.character.Character.{Character}
 use Rattle.galley_file.specs.declared.form.Form.{Form}
@@ -30,10 +30,11 @@ use Rattle.galley_file.specs.Form.{maxGalley}
 use Rattle.galley_file.specs.Item.{itemSize, isLow, charactersOf}
 use Rattle.galley_file.specs.Galley.{maxItems, AllValid, galley, Reading, whole, malformed, readGalley, itemsIn, itemsOf}
 use Rattle.galley_file.specs.GalleyLaws.{checked, Accepted, accepted-is, accepts, accepts-check, galley-fits, read-accepted}
-use Rattle.galley_file.specs.Outcome.{checkOutcome}
+use Rattle.galley_file.specs.Outcome.{checkOutcome, checkedResult}
+use Rattle.galley_file.specs.OutcomeLaws.{result-written}
 use Rattle.galley_file.specs.Low.{firstHigh, orTooGreat, lowReading, lowResult}
 use Rattle.galley_file.specs.LowLaws.{low-accepts, low-made, low-valid, raised}
-use Rattle.conversion.specs.Conversion.{newReading, newResult, oldResult, Same, Above, here, later}
+use Rattle.conversion.specs.Conversion.{newResult, oldResult, Same, Above, here, later}
 
 -- ---- galleys of the same items
 
@@ -54,7 +55,7 @@ module _ (is : List Item) (v : AllValid lowEnd is) (few : length is ≤ maxItems
 
   -- the old galley is made new
   pub to-new : (room : ℕ) → length (galley New is) ≤ room → newResult (galley Old is) room ≡ written (galley New is)
-  unfolding newResult
+  unfolding newResult checkedResult
   to-new room h = rw (le-ltb (maxGalley Old) (length (galley Old is)) (galley-fits Old is few), accepts Old is v few) (room-enough noConvertedRoom room (galley New is) h)
 
   pub same : Same Old New (galley Old is) (galley New is)
@@ -62,16 +63,6 @@ module _ (is : List Item) (v : AllValid lowEnd is) (few : length is ≤ maxItems
   same = record { items = is; read-from = accepts Old is v few; read-to = accepts New is (raised v) few; fields-from = refl; fields-to = refl }
 
 -- ---- what a result tells
-
--- what is written is what was made
-room-made : (number room : ℕ) (r : Result) (bs : List ℕ) → ifRoom number room r ≡ written bs → r ≡ written bs
-unfolding ifRoom
-room-made number room (refusal n p) bs e = e
-room-made number room (written cs) bs e = go (ltb room (length cs)) e
-  where
-    go : (t : Bool) → cond t (refusal number (length cs)) (written cs) ≡ written bs → written cs ≡ written bs
-    go true q = let z : _≡_ {A = ℕ} 0 1 = cc in absurd (omega arith)
-    go false q = q
 
 -- two galleys of the same items, in the forms that these functions give
 pub record Made (g h : List ℕ) (from to : List Item → List ℕ) : Type 0 where
@@ -83,17 +74,10 @@ pub record Made (g h : List ℕ) (from to : List Item → List ℕ) : Type 0 whe
 
 pub new-made : (old new : List ℕ) (room : ℕ) → Bytes old → newResult old room ≡ written new → Made old new (galley Old) (galley New)
 unfolding newResult
-new-made old new room b e = go (ltb (maxGalley Old) (length old)) refl (readGalley Old old) refl (room-made noConvertedRoom room _ new e)
-  where
-    go : (t : Bool) → ltb (maxGalley Old) (length old) ≡ t → (r : Reading) → readGalley Old old ≡ r → cond t (refusal galleyTooLong 0) (newReading r) ≡ written new
-        → Made old new (galley Old) (galley New)
-    go true l r q h = let z : _≡_ {A = ℕ} 0 1 = cc in absurd (omega arith)
-    go false l (whole is) q h =
-        let a = accepted-is Old old (length (charactersOf is)) b (read-accepted Old old is (ltb-false _ _ l) q) in
-        let s : a .items ≡ is = (let k : whole (a .items) ≡ whole is = sym (a .read) ∙ q in cc) in
-        let w : galley New is ≡ new = cc in
-        record { items = is; valid = subst (AllValid lowEnd) s (a .valid); few = subst (λ l. length l ≤ maxItems) s (a .few); from-is = a .bytes ∙ ap (galley Old) s; to-is = sym w }
-    go false l (malformed p) q h = let z : _≡_ {A = ℕ} 0 1 = cc in absurd (omega arith)
+new-made old new room b e =
+    let m = result-written Old (λ is. written (galley New is)) old new b (room-made noConvertedRoom room _ new e) in
+    let w : galley New (m .items) ≡ new = (let k = m .made in cc) in
+    record { items = m .items; valid = m .valid; few = m .few; from-is = m .bytes; to-is = sym w }
 
 pub old-made : (new old : List ℕ) (room : ℕ) → Bytes new → oldResult new room ≡ written old → Made new old (galley New) (galley Old)
 unfolding oldResult lowResult

@@ -10,6 +10,7 @@ pub mod Galley
 pub mod Span
 pub mod Outcome
 pub mod GalleyLaws
+pub mod OutcomeLaws
 pub mod Walk
 pub mod Low
 pub mod LowLaws

@@ -5,11 +5,12 @@ use mathlib.Core.List.{List}
 use lib.Dec.{ltb}
 use lib.IntN.{pos}
 use lib.ListN.{length, getD}
-use Rattle.octets.specs.Answer.{Outcome, accepted, refused, noCharacter, galleyTooLong, galleyMalformed}
+use Rattle.octets.specs.Answer.{Outcome, accepted, refused, Result, refusal, noCharacter, galleyTooLong, galleyMalformed}
 use Rattle.galley_file.specs.declared.character.Character.{Character}
 use Rattle.galley_file.specs.declared.Found.{Found}
 use Rattle.galley_file.specs.declared.form.Form.{Form}
 use Rattle.galley_file.specs.declared.form.Form.the-variants.{New}
+use Rattle.galley_file.specs.declared.item.Item.{Item}
 use Rattle.galley_file.specs.Form.{maxGalley}
 use Rattle.galley_file.specs.Item.{charactersOf}
 use Rattle.galley_file.specs.Galley.{Reading, whole, malformed, readGalley}
@@ -22,6 +23,15 @@ countOutcome n (malformed p) = refused galleyMalformed p
 -- the check of a form: 40, then 41
 unfoldable pub checkOutcome : Form → List ℕ → Outcome
 checkOutcome f g = cond (ltb (maxGalley f) (length g)) (refused galleyTooLong 0) (countOutcome 0 (readGalley f g))
+
+-- what is made of the items that were read, or 41
+abbrev pub madeOf : (List Item → Result) → Reading → Result
+madeOf make (whole is) = make is
+madeOf make (malformed p) = refusal galleyMalformed p
+
+-- what a galley of a form is made into: 40, then 41
+unfoldable pub checkedResult : Form → (List Item → Result) → List ℕ → Result
+checkedResult f make g = cond (ltb (maxGalley f) (length g)) (refusal galleyTooLong 0) (madeOf make (readGalley f g))
 
 -- What reading back gives: a character, or a refusal's number and place
 pub data FoundOutcome : Type 0 where

@@ -109,6 +109,12 @@ noConvertedRoom = 44
 abbrev pub noGalley : ℕ
 noGalley = 45
 
+abbrev pub punchedTooLong : ℕ
+punchedTooLong = 48
+
+abbrev pub noTapeRoom : ℕ
+noTapeRoom = 49
+
 abbrev pub noMachine : ℕ
 noMachine = 50
 

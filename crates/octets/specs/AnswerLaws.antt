@@ -50,6 +50,16 @@ accepted-room number room n (written bs) e = go (ltb room (length bs)) refl e
     go true q h = let z : _≡_ {A = ℕ} 0 1 = cc in absurd (omega arith)
     go false q h = let l : n ≡ length bs = cc in omega (arith, ltb-false room (length bs) q)
 
+-- what is written is what was made
+pub room-made : (number room : ℕ) (r : Result) (bs : List ℕ) → ifRoom number room r ≡ written bs → r ≡ written bs
+unfolding ifRoom
+room-made number room (refusal n p) bs e = e
+room-made number room (written cs) bs e = go (ltb room (length cs)) e
+  where
+    go : (t : Bool) → cond t (refusal number (length cs)) (written cs) ≡ written bs → written cs ≡ written bs
+    go true q = let z : _≡_ {A = ℕ} 0 1 = cc in absurd (omega arith)
+    go false q = q
+
 -- ---- what a call gives
 
 pub gives : {result : ℕ → Result} {r : Result} {given : Outcome} {buffer later : List ℕ} → result (length buffer) ≡ r → given ≡ outcome r → later ≡ after buffer r → Gives given result buffer later

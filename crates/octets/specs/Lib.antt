@@ -2,6 +2,7 @@
 pub mod Octets
 pub mod OctetsLaws
 pub mod Write
+pub mod Space
 pub mod Field
 pub mod FieldLaws
 pub mod Answer

@@ -94,3 +94,13 @@ put-then {w} {before} {to} {xs} {ys = ys} u v =
 -- without writing nothing changes
 pub put-still : {w : Bool} {before : List ℕ} {to : ℕ} {xs later : List ℕ} {i : ℕ} → w ≡ false → Put w before to xs later i → later ≡ before
 put-still {w} {before} {to} {xs} e u = u .buffer ∙ ap (λ (v : Bool). putIf v before to xs) e
+
+pub put-counted : {w : Bool} {before : List ℕ} {to : ℕ} {xs : List ℕ} {next : ℕ} → w ≡ false → next ≡ to + length xs → Put w before to xs before next
+put-counted {w} {before} {to} {xs} e n = record { buffer = sym (ap (λ (u : Bool). putIf u before to xs) e); place = n }
+
+length-putIf : (w : Bool) (before : List ℕ) (to : ℕ) (xs : List ℕ) → length (putIf w before to xs) ≡ length before
+length-putIf true before to xs = length-sets before to xs
+length-putIf false before to xs = refl
+
+pub put-length : {w : Bool} {before : List ℕ} {to : ℕ} {xs later : List ℕ} {next : ℕ} → Put w before to xs later next → length later ≡ length before
+put-length {w} {before} {to} {xs} p = ap length (p .buffer) ∙ length-putIf w before to xs

@@ -1,5 +1,5 @@
 -- The sheet that a pass has made so far, and how it ends.
---     put-counted                         a mark's field that is only counted
+--     mark-counted                        a mark's field that is only counted
 --     Filled                              place, count and buffer are those of the marks so far
 --     filled-start, filled-still          nothing yet, no mark more
 --     filled-more, filled-mark            marks more, one mark more
@@ -12,7 +12,7 @@ use Prim.Native.Nat.{ℕ, _+_, _*_, _≤_, _<_}
 use native.Mathlib.Omega.{arith}
 use lib.ListN.{length, length-append}
 use Rattle.octets.specs.Field.{endField}
-use Rattle.octets.specs.Write.{putIf, putIf-append, Put, put-named, put-none, put-then, put-still}
+use Rattle.octets.specs.Write.{putIf, putIf-append, Put, put-named, put-none, put-then, put-still, put-counted}
 use Rattle.octets.specs.Pass.{readingOf, bytesOf, Roomy, Passed}
 use Rattle.octets.specs.PassLaws.{passed-refused}
 use Rattle.octets.specs.declared.pass.Reading.the-variants.{Needs, Fault}
@@ -20,9 +20,8 @@ use Rattle.sheet.specs.Sheet.{Mark, markField, markFields, sheet}
 use Rattle.sheet.specs.SheetLaws.{fieldSize, length-markField, one-field, fields-most, markFields-append, length-sheet}
 use Rattle.sheet.specs.Shown.{Shown, refusedAt, shows, shownResult}
 
-pub put-counted : {w : Bool} {before : List ℕ} {to next : ℕ} (m : Mark) → w ≡ false → next ≡ to + fieldSize m → Put w before to (markField m) before next
-put-counted {w} {before} {to} m e n =
-    record { buffer = sym (ap (λ (u : Bool). putIf u before to (markField m)) e); place = omega (arith, length-markField m) }
+pub mark-counted : {w : Bool} {before : List ℕ} {to next : ℕ} (m : Mark) → w ≡ false → next ≡ to + fieldSize m → Put w before to (markField m) before next
+mark-counted m e n = put-counted e (omega (arith, length-markField m))
 
 -- after `at` bytes of the file the marks ms are shown
 pub record Filled (w : Bool) (first out : List ℕ) (ms : List Mark) (at to count : ℕ) : Type 0 where

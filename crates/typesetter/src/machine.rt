@@ -91,7 +91,7 @@ pub fn at_start(machine: Machine) -> State
 }
 
 // Initialize: the modes anew and the carriage parked; size and height stay.
-fn initialized(s: State) -> State
+pub fn initialized(s: State) -> State
     ensures { λ r. ⌜ r ≡ initializedOf s ⌝ }
 {
     let modes = first_modes();

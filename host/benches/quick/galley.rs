@@ -148,7 +148,7 @@ pub fn has_good_rest(word: u64) -> bool {
 }
 
 /// By font number: 55 in the double sizes.
-static SHIFT: [i32; 256] = {
+pub static SHIFT: [i32; 256] = {
     let mut shift = [0; 256];
     let mut font = 0;
     while font < 120 {

@@ -6,6 +6,7 @@
 mod back;
 mod convert;
 mod galley;
+mod punch;
 mod reader;
 mod running;
 mod tape;
@@ -14,6 +15,7 @@ mod writer;
 pub use back::dvi_to_galley;
 pub use convert::{to_new, to_old};
 pub use galley::{check_galley, read_back};
+pub use punch::punch_tape;
 pub use reader::read_dvi;
 pub use running::RunningTape;
 pub use tape::read_tape;

@@ -114,12 +114,13 @@ impl Comparison {
         self.tape(tape, 8);
     }
 
-    /// A galley checked, read back, written and reprinted.
+    /// A galley checked, read back, written, reprinted and punched.
     pub fn galley(&mut self, galley: &[u8]) {
         self.check_galley(galley);
         self.read_back(galley);
         self.write_dvi(galley);
         self.reprint(galley);
+        self.punch(galley);
     }
 
     pub fn check_galley(&mut self, galley: &[u8]) {
@@ -194,6 +195,21 @@ impl Comparison {
         self.same_bytes("reprint, DVI file", galley, &dvi.bytes, &after.0);
         self.same_bytes("reprint, sheet", galley, &sheet.bytes, &after.1);
         self.agree("reprint", galley, answer, answer_of(expected.map(|(_, sheet)| sheet)));
+    }
+
+    /// A galley punched; reading what was punched gives it again.
+    pub fn punch(&mut self, galley: &[u8]) {
+        let result = plain::punch_tape(galley);
+        let room = self.room(galley, &result);
+        let expected = plain::with_room(result, room, 49);
+        let call = |them: &Implementation, galley: &[u8], tape: &mut [u8]| (them.punch_tape)(galley, tape);
+        self.fills("punch_tape", galley, expected.clone(), room, call);
+        if let Ok(tape) = expected {
+            let mut again = vec![0; galley.len()];
+            let answer = (self.implementation.read_tape)(&tape, 8, &mut again);
+            assert_eq!(answer, [0, 0, galley.len()], "punched and read: {}", shown(galley));
+            assert!(again == galley, "punched and read: {}", shown(galley));
+        }
     }
 
     /// A galley of any form converted both ways, and what was accepted converted back.

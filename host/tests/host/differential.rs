@@ -35,6 +35,7 @@ fn compare(implementation: Implementation) {
     other_machines(&mut comparison);
     sessions(&mut comparison);
     galleys(&mut comparison);
+    long_punches(&mut comparison);
     conversions(&mut comparison);
     each_dvi_file(|dvi, widths| comparison.dvi(dvi, widths));
     shown_galleys(&mut comparison);
@@ -225,6 +226,23 @@ fn each_part_and_change(comparison: &mut Comparison, galley: &[u8], random: &mut
     each_byte_changed(galley, random, |galley| comparison.galley(galley));
 }
 
+/// Galleys whose tapes have some bytes less or more than a tape may have: up and down the longest column, then
+/// characters in one place, a byte each.
+fn long_punches(comparison: &mut Comparison) {
+    let character = |height: u32| {
+        let [a, b, c, d] = height.to_be_bytes();
+        [7, 0, 8, 0, 0, a, b, c, d, 15, 1]
+    };
+    for more in 0..60 {
+        let mut galley = [character(1_000_000), character(0)].concat().repeat(16);
+        let few = 16_221 - 30 + more;
+        galley.extend(character(0).repeat(few));
+        galley.extend([2, 0, 4]);
+        galley.extend((32 + few as u32).to_be_bytes());
+        comparison.punch(&galley);
+    }
+}
+
 /// Galleys of both forms, each taken for one of either form.
 fn conversions(comparison: &mut Comparison) {
     let mut random = Random::new(SEED + 5);
@@ -315,7 +333,7 @@ fn each_byte_set(bytes: &[u8], value: u8, mut take: impl FnMut(&[u8])) {
 
 /// The cases are worth their number: each answer that small inputs can get was met often.
 fn every_number_is_met(comparison: &Comparison) {
-    let numbers: [(&str, &[usize]); 14] = [
+    let numbers: [(&str, &[usize]); 15] = [
         ("read_tape, 4 fonts", &[0, 2, 3, 4, 5, 6, 7, 8, 9, 10, 12]),
         ("read_tape, 8 fonts", &[0, 2, 3, 4, 5, 6, 7, 8, 9, 10, 12]),
         ("read_tape, no machine", &[50]),
@@ -328,6 +346,7 @@ fn every_number_is_met(comparison: &Comparison) {
         ("read_dvi", &[0, 31, 21, 22, 23, 24, 25, 26, 27, 28, 29, 30]),
         ("dvi_to_galley", &[0, 31, 21, 22, 23, 24, 25, 26, 27, 28, 29, 45, 12]),
         ("reprint", &[0, 41, 43, 31, 42, 30]),
+        ("punch_tape", &[0, 41, 48, 49]),
         ("to_new", &[0, 41, 44]),
         ("to_old", &[0, 41, 43, 44]),
     ];

@@ -157,6 +157,17 @@ static void conversions(void)
     expect("room for an old galley", SP_CONVERTED_ROOM, sizeof old_galley, 0);
 }
 
+static void punches(void)
+{
+    static const uint8_t punched[] = {0x40, 0xEF, 0x4E, 0x52, 0x01, 0xFC, 0x02, 0x49};
+    uint8_t made[sizeof punched];
+    sp_punch_tape(galley, sizeof galley, made, sizeof made, answer);
+    expect("punch", SP_ACCEPTED, 0, sizeof punched);
+    expect_true("the punched tape", memcmp(made, punched, sizeof punched) == 0);
+    sp_punch_tape(galley, sizeof galley, made, sizeof made - 1, answer);
+    expect("room for a tape", SP_TAPE_ROOM, sizeof punched, 0);
+}
+
 static void reprints(void)
 {
     uint8_t again[sizeof dvi], shown[sizeof sheet];
@@ -271,6 +282,12 @@ static void items(void)
     expect("the most items", SP_ACCEPTED, 0, 0);
     sp_check_galley(cuts, 3 * (SP_ITEM_LIMIT + 1) + sizeof end, answer);
     expect("more items", SP_GALLEY_MALFORMED, 3 * SP_ITEM_LIMIT, 0);
+    /* A cut has three bytes on a tape, and what comes before the first and after the last has three. */
+    i = SP_TAPE_LIMIT / 3;
+    sp_punch_tape(cuts + 3 * (SP_ITEM_LIMIT + 1 - (i - 1)), 3 * (i - 1) + sizeof end, room, sizeof room, answer);
+    expect("the longest tape of cuts", SP_TAPE_ROOM, 3 * i, 0);
+    sp_punch_tape(cuts + 3 * (SP_ITEM_LIMIT + 1 - i), 3 * i + sizeof end, room, sizeof room, answer);
+    expect("a longer tape of cuts", SP_PUNCHED_TOO_LONG, 0, 0);
     free(cuts);
 }
 
@@ -337,6 +354,10 @@ static void nulls(void)
     expect("null buffers for a reprint", SP_DVI_ROOM, sizeof dvi, 0);
     sp_reprint(galley, sizeof galley, NULL, 0, room, sizeof dvi, NULL, 0, answer);
     expect("null buffer for a reprint's sheet", SP_SHEET_ROOM, sizeof sheet, 0);
+    sp_punch_tape(NULL, 0, NULL, 0, answer);
+    expect("null galley punched", SP_GALLEY_MALFORMED, 0, 0);
+    sp_punch_tape(galley, sizeof galley, NULL, 0, answer);
+    expect("null buffer for a tape", SP_TAPE_ROOM, 8, 0);
     sp_galley_to_new(NULL, 0, NULL, 0, answer);
     expect("null old galley", SP_GALLEY_MALFORMED, 0, 0);
     sp_galley_to_new(old_galley, sizeof old_galley, NULL, 0, answer);
@@ -354,6 +375,7 @@ int main(void)
     running_tapes();
     galleys();
     conversions();
+    punches();
     reprints();
     dvi_files();
     plain();

@@ -26,6 +26,7 @@ pub struct Implementation {
     pub read_dvi: ReadFile,
     pub dvi_to_galley: ReadFile,
     pub reprint: FillBoth,
+    pub punch_tape: Fill,
     pub to_new: Fill,
     pub to_old: Fill,
     pub new_tape: fn() -> Box<dyn RunningTape>,
@@ -69,6 +70,7 @@ pub const PLAIN: Implementation = Implementation {
         }
         Err((number, place)) => [number, place, 0],
     },
+    punch_tape: |galley, tape| filled(plain::punch_tape(galley), tape, 49),
     to_new: |old, new| filled(plain::to_new(old), new, 44),
     to_old: |new, old| filled(plain::to_old(new), old, 44),
     new_tape: || Box::new(plain::RunningTape::new()),
@@ -112,6 +114,7 @@ pub const QUICK: Implementation = Implementation {
     read_dvi: quick::read_dvi,
     dvi_to_galley: quick::dvi_to_galley,
     reprint: quick::reprint,
+    punch_tape: quick::punch_tape,
     to_new: quick::to_new,
     to_old: quick::to_old,
     new_tape: || Box::new(quick::RunningTape::new()),
@@ -201,6 +204,11 @@ pub const LIBRARY: Implementation = Implementation {
                 sheet.len(),
                 answer,
             )
+        })
+    },
+    punch_tape: |galley, tape| {
+        answered(|answer| unsafe {
+            ffi::sp_punch_tape(galley.as_ptr(), galley.len(), tape.as_mut_ptr(), tape.len(), answer)
         })
     },
     to_new: |old, new| {

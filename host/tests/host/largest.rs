@@ -40,6 +40,7 @@ fn on_a_small_stack(implementation: Implementation) {
         galleys(&mut comparison);
         galleys_with_cuts(&mut comparison);
         long_columns(&mut comparison);
+        punches(&mut comparison);
         conversions(&mut comparison);
         each_dvi_file(|dvi, widths| comparison.dvi(dvi, widths));
         back_to_galleys(&mut comparison);
@@ -141,6 +142,22 @@ fn long_columns(comparison: &mut Comparison) {
         comparison.galley(&galley);
     }
     comparison.galley(&cases::tall_galley(&mut Random::new(9), ITEMS, 10));
+}
+
+/// Galleys whose tapes are as long as a tape may be, and with one character or cut more; then as many characters
+/// as there can be, each as far from the last as it can be.
+fn punches(comparison: &mut Comparison) {
+    let ended =
+        |fields: Vec<u8>, characters: u32| [&fields[..], &[2, 0, 4], &characters.to_be_bytes()].concat();
+    let [low, high] =
+        [[0, 0, 0, 0], [0, 0x0F, 0x42, 0x40]].map(|[a, b, c, d]| [7, 0, 8, 0, 0, a, b, c, d, 15, 1]);
+    for characters in [1_048_572, 1_048_573] {
+        comparison.punch(&ended(low.repeat(characters), characters as u32));
+    }
+    for cuts in [349_524, 349_525, ITEMS] {
+        comparison.punch(&ended([6, 0, 0].repeat(cuts), 0));
+    }
+    comparison.punch(&ended([high, low].concat().repeat(ITEMS / 2), ITEMS as u32));
 }
 
 /// Full galleys of both forms, and with one byte, one cut or one character more; then the last character too

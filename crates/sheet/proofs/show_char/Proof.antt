@@ -4,7 +4,7 @@ use borrow.Author.Needs.{needs}
 use Rattle.integers.specs.Parts.{plain}
 use Rattle.octets.specs.Write.{named, put-written}
 use Rattle.sheet.specs.Sheet.{charMark, markField}
-use Rattle.sheet.specs.Filled.{put-counted}
+use Rattle.sheet.specs.Filled.{mark-counted}
 use Rattle.sheet.proofs.show_char.Statement.{statement}
 use Rattle.sheet.proofs.show_char.Tie as tie
 
@@ -26,7 +26,7 @@ add-result : tie.Need-add-result
 add-result c = search needs
 
 returns-2 : tie.Need-returns-2
-returns-2 c = let a = c .before .before .args in put-counted (charMark (a .x) (a .y) (a .font) (a .ch)) (c .if1 .left) (search needs)
+returns-2 c = let a = c .before .before .args in mark-counted (charMark (a .x) (a .y) (a .font) (a .ch)) (c .if1 .left) (search needs)
 
 pub show-char-spec : {M : Type 1} → statement M
 show-char-spec = tie.close (tie.spec put-char-requires same-length returns add-result returns-2)

@@ -4,7 +4,7 @@ use borrow.Author.Needs.{needs}
 use Rattle.integers.specs.Parts.{plain}
 use Rattle.octets.specs.Write.{named, put-written}
 use Rattle.sheet.specs.Sheet.{pageMark, markField}
-use Rattle.sheet.specs.Filled.{put-counted}
+use Rattle.sheet.specs.Filled.{mark-counted}
 use Rattle.sheet.proofs.show_page.Statement.{statement}
 use Rattle.sheet.proofs.show_page.Tie as tie
 
@@ -24,7 +24,7 @@ add-result : tie.Need-add-result
 add-result c = search needs
 
 returns-2 : tie.Need-returns-2
-returns-2 c = let a = c .before .before .args in put-counted (pageMark (a .n)) (c .if1 .left) (search needs)
+returns-2 c = let a = c .before .before .args in mark-counted (pageMark (a .n)) (c .if1 .left) (search needs)
 
 pub show-page-spec : {M : Type 1} → statement M
 show-page-spec = tie.close (tie.spec put-page-requires same-length returns add-result returns-2)

@@ -4,7 +4,7 @@ use borrow.Author.Needs.{needs}
 use Rattle.integers.specs.Parts.{plain}
 use Rattle.octets.specs.Write.{named, put-written}
 use Rattle.sheet.specs.Sheet.{ruleMark, markField}
-use Rattle.sheet.specs.Filled.{put-counted}
+use Rattle.sheet.specs.Filled.{mark-counted}
 use Rattle.sheet.proofs.show_rule.Statement.{statement}
 use Rattle.sheet.proofs.show_rule.Tie as tie
 
@@ -27,7 +27,7 @@ add-result : tie.Need-add-result
 add-result c = search needs
 
 returns-2 : tie.Need-returns-2
-returns-2 c = let a = c .before .before .args in put-counted (ruleMark (a .kind) (a .x) (a .y) (a .h) (a .w)) (c .if1 .left) (search needs)
+returns-2 c = let a = c .before .before .args in mark-counted (ruleMark (a .kind) (a .x) (a .y) (a .h) (a .w)) (c .if1 .left) (search needs)
 
 pub show-rule-spec : {M : Type 1} → statement M
 show-rule-spec = tie.close (tie.spec put-rule-requires same-length returns add-result returns-2)

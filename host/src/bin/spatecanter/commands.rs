@@ -26,7 +26,7 @@ pub struct Command {
     pub run: fn(&Arguments) -> Result<(), Failure>,
 }
 
-pub const COMMANDS: [Command; 10] = [
+pub const COMMANDS: [Command; 11] = [
     Command {
         name: "read",
         usage: "read TAPE [--machine 4|8] [--pieces N] [-o GALLEY] [--force]",
@@ -71,6 +71,13 @@ pub const COMMANDS: [Command; 10] = [
         options: &["--machine", "--fonts", "--page", "--from", "--to", "-o", "--force"],
         help: help::PLOT,
         run: draw,
+    },
+    Command {
+        name: "punch",
+        usage: "punch GALLEY [-o TAPE] [--force]",
+        options: &["-o", "--force"],
+        help: help::PUNCH,
+        run: punch,
     },
     Command {
         name: "convert",
@@ -272,6 +279,16 @@ fn galley_to_draw(name: &OsStr, named: Option<Machine>) -> Result<(Vec<u8>, Opti
         }
         _ => Ok((galley_of(name, &bytes, named)?.0, named.or(Some(Machine::Eight)))),
     }
+}
+
+fn punch(arguments: &Arguments) -> Result<(), Failure> {
+    let place = place(arguments, &[&arguments.input], "tape")?;
+    let galley = input::read(&arguments.input, GALLEY_LIMIT)?;
+    let tape = progress::during("punching the tape", || spatecanter::punch_tape(&galley))
+        .map_err(|refusal| explain::galley(&arguments.input, &galley, refusal))?;
+    place.write(&tape)?;
+    place.tell(&counted(tape.len(), "byte"));
+    Ok(())
 }
 
 fn convert(arguments: &Arguments) -> Result<(), Failure> {

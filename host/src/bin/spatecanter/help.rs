@@ -2,7 +2,7 @@
 
 pub const WHOLE: &str = "\
 C/A/T phototypesetter tapes to galleys, galleys to DVI files of 1980, and DVI files to
-sheets and back to galleys; and old galleys to new ones and back.
+sheets and back to galleys; galleys back to tapes, and old galleys to new ones and back.
 
 Usage: spatecanter COMMAND ...
 
@@ -15,6 +15,7 @@ Usage: spatecanter COMMAND ...
   sheet SHEET                           a sheet as text
   reprint TAPE -d FOLDER                a tape to galley, DVI file and sheet, with a summary
   plot TAPE|GALLEY [--page N] [-o SVG]  a picture of the pages
+  punch GALLEY [-o TAPE]                a galley to a tape of the 8-font machine
   convert --to new|old GALLEY           an old galley to a new one, or back
 
   COMMAND --help                        more about a command
@@ -28,10 +29,10 @@ Old galleys. Characters once had tag 1, and heights of two bytes. Only convert t
 galley; all other commands take and make the new form, with tag 7 and four bytes.
 
 Files. - is standard input or standard output. Without -o the output has the input's whole
-name with .galley, .dvi, .sheet or .svg after it; if the input is standard input, the output
-is standard output. Folders on the way to an output are made. An output file is written whole
-or not at all, whatever ends the run; it never takes the place of an input, and that of
-another file only with --force.
+name with .galley, .dvi, .sheet, .svg or .tape after it; if the input is standard input, the
+output is standard output. Folders on the way to an output are made. An output file is
+written whole or not at all, whatever ends the run; it never takes the place of an input, and
+that of another file only with --force.
 
 Exit status. 0: accepted, also where whoever reads standard output leaves early. 1: refused;
 standard error says why, with the refusal's number and its place. 2: wrong usage, or a file
@@ -225,6 +226,23 @@ heights in quanta of 1/144 inch, as list has them, or in inches, as in --from 12
 
 Without -o the picture of page.tape is page.tape.svg. --force writes over a file that is there
 already.
+";
+
+pub const PUNCH: &str = "\
+Punches a tape of the 8-font machine from a galley, to set its pages again. Reading the tape
+gives the same galley, byte for byte.
+
+Usage: spatecanter punch GALLEY [-o TAPE] [--force]
+
+The tape begins, and goes on after each cut, with initialize and an escape of 16. For each
+character it has what the machine lacks of rail, mag, tilt, half and size, then the motions
+sideways and up or down, the longest first, and the flash. It ends with stop.
+
+Refusals are those of check, and one more:
+  48  the tape would be longer than 1,048,576 bytes; at 0
+
+Without -o the tape of page.galley is page.galley.tape. --force writes over a file that is
+there already.
 ";
 
 pub const CONVERT: &str = "\

@@ -158,6 +158,27 @@ fn a_column_that_dvi_cannot_hold() {
 }
 
 #[test]
+fn galleys_that_are_not_punched() {
+    let folder = folder("not_punched");
+    fs::write(folder.join("a.galley"), hex(OLD_P3)).unwrap();
+    let old = run(&folder, &["punch", "a.galley"]);
+    assert_eq!((old.status, old.text().as_str()), (1, ""));
+    assert!(old.err.contains("refused 41 at 0: the galley is malformed") && old.err.contains(OLD_HINT));
+    // A cut has three bytes on a tape.
+    let cuts = [[6, 0, 0].repeat(349_525), hex("02 00 04 00 00 00 00")].concat();
+    fs::write(folder.join("a.galley"), &cuts).unwrap();
+    let long = run(&folder, &["punch", "a.galley"]);
+    let words = "the tape of this galley would be longer than 1,048,576 bytes";
+    assert_eq!((long.status, long.text().as_str()), (1, ""));
+    assert_eq!(long.err, format!("spatecanter: a.galley: refused 48 at 0: {words}\n"));
+    fs::write(folder.join("a.galley"), vec![0; spatecanter::GALLEY_LIMIT + 1]).unwrap();
+    assert!(run(&folder, &["punch", "a.galley"]).err.contains("refused 40 at 0"));
+    assert_eq!(names(&folder), ["a.galley"]);
+    fs::write(folder.join("a.galley"), &cuts[3..]).unwrap();
+    assert_eq!(run(&folder, &["punch", "a.galley"]).err, "a.galley.tape: 1,048,575 bytes\n");
+}
+
+#[test]
 fn galleys_that_are_not_converted() {
     let folder = folder("unconverted");
     let new_hint = "a character (01 00 06 ...); tag 7 is the new form, see spatecanter convert --to old\n";

@@ -7,7 +7,9 @@ fn help_for_the_whole_and_for_each_command() {
     let folder = folder("help");
     let whole = run(&folder, &["--help"]);
     assert_eq!((whole.status, whole.err.as_str()), (0, ""));
-    for name in ["read", "check", "list", "set", "show", "back", "sheet", "reprint", "plot", "convert"] {
+    for name in
+        ["read", "check", "list", "set", "show", "back", "sheet", "reprint", "plot", "punch", "convert"]
+    {
         assert!(whole.text().contains(&format!("\n  {name} ")), "{name} in the whole help");
         let usage = format!("Usage: spatecanter {name} ");
         for words in [[name, "--help"], [name, "-h"], ["help", name]] {

@@ -141,6 +141,23 @@ fn a_dvi_file_back_to_its_galley() {
 }
 
 #[test]
+fn a_galley_punched_and_read() {
+    let folder = folder("punch");
+    fs::write(folder.join("a.galley"), hex(NEW_P3)).unwrap();
+    let punched = run(&folder, &["punch", "a.galley"]);
+    assert_eq!((punched.status, punched.err.as_str()), (0, "a.galley.tape: 12 bytes\n"));
+    let tape = hex("40 EF 4E 52 01 4B 40 EF 4E FC 02 49");
+    assert_eq!(fs::read(folder.join("a.galley.tape")).unwrap(), tape);
+    assert_eq!(run(&folder, &["read", "a.galley.tape", "-o", "again.galley"]).status, 0);
+    assert_eq!(fs::read(folder.join("again.galley")).unwrap(), hex(NEW_P3));
+    assert_eq!(run_on(&folder, &["punch", "-"], &hex(NEW_P3)).out, tape);
+    assert_eq!(run(&folder, &["punch", "a.galley"]).status, 2);
+    assert_eq!(run(&folder, &["punch", "a.galley", "--force"]).status, 0);
+    assert_eq!(run(&folder, &["punch", "a.galley", "-o", "b.tape"]).err, "b.tape: 12 bytes\n");
+    assert_eq!(names(&folder), ["a.galley", "a.galley.tape", "again.galley", "b.tape"]);
+}
+
+#[test]
 fn reprint_writes_three_files_and_a_summary() {
     let folder = folder("reprint");
     let tape = yearbook(Machine::Eight, 3, 5_000);

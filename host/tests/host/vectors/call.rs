@@ -56,6 +56,10 @@ impl Call {
                     (them.reprint)(&galley, &widths, dvi, sheet)
                 })
             }
+            "punch_tape" => {
+                let galley = inputs.take("galley", bytes)?;
+                Call::of(&["tape"], move |them, lent| (them.punch_tape)(&galley, lent[0]))
+            }
             "galley_to_new" => {
                 let old_galley = inputs.take("old_galley", bytes)?;
                 Call::of(&["new_galley"], move |them, lent| (them.to_new)(&old_galley, lent[0]))

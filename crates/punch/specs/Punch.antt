@@ -1,0 +1,48 @@
+-- Punching a tape from a galley, for the 8-font machine (document 02, "Punching a tape").
+--     itemsCodes      the codes of items, one after another, and stateAfterAll the machine after them
+--     punched         the tape of a list of items
+--     punchResult     what punching a galley gives
+--     RoundTrip       reading the punched tape gives exactly the galley
+use Prim.Native.Nat.{ℕ, _≤_}
+use mathlib.Core.Path.{_≡_}
+use mathlib.Core.Bool.{cond}
+use mathlib.Core.List.{List, [], _∷_, _++_}
+use lib.Dec.{ltb}
+use lib.ListN.{length, take}
+use Rattle.octets.specs.Answer.{Outcome, accepted, Result, refusal, written, ifRoom, punchedTooLong, noTapeRoom}
+use Rattle.galley_file.specs.declared.form.Form.the-variants.{New}
+use Rattle.galley_file.specs.declared.item.Item.{Item}
+use Rattle.galley_file.specs.Outcome.{checkedResult}
+use Rattle.typesetter.specs.declared.machine.State.{State}
+use Rattle.tape.specs.Tape.{maxTape, tapeResult}
+use Rattle.punch_codes.specs.Codes.{startCodes, begun, itemCodes, stateAfter}
+
+-- ---- the tape
+
+unfoldable pub itemsCodes : State → List Item → List ℕ
+itemsCodes s [] = []
+itemsCodes s (i ∷ is) = itemCodes s i ++ itemsCodes (stateAfter s i) is
+
+unfoldable pub stateAfterAll : State → List Item → State
+stateAfterAll s [] = s
+stateAfterAll s (i ∷ is) = stateAfterAll (stateAfter s i) is
+
+-- "end with stop"
+unfoldable pub punched : List Item → List ℕ
+punched is = startCodes ++ (itemsCodes begun is ++ (0x49 ∷ []))
+
+-- ---- the result
+
+-- 48 where the tape is longer than a tape may be
+abbrev pub ifShort : List ℕ → Result
+ifShort tape = cond (ltb maxTape (length tape)) (refusal punchedTooLong 0) (written tape)
+
+-- 40 and 41, then 48; 49 last
+unfoldable pub punchResult : List ℕ → ℕ → Result
+punchResult g room = ifRoom noTapeRoom room (checkedResult New (λ is. ifShort (punched is)) g)
+
+-- ---- the round trip
+
+-- "reading the punched tape gives exactly the galley": where n bytes are accepted, those bytes of the buffer, read for the 8-font machine into a buffer with room for the galley
+abbrev pub RoundTrip : List ℕ → Outcome → List ℕ → Type 0
+RoundTrip g o later = (n room : ℕ) → o ≡ accepted n → length g ≤ room → tapeResult (take n later) 8 room ≡ written g
