@@ -1,10 +1,11 @@
 //! The scripts `library` and `spatecanter` at the root, in a small repository with stand-ins for rt and
 //! cargo.
 
+use std::env;
 use std::fs;
 use std::os::unix::fs::{symlink, PermissionsExt};
 use std::path::{Path, PathBuf};
-use std::process::{Command, Output};
+use std::process::{self, Command, Output};
 
 /// Proves everything but the crates that the file `unproved` names, and exports sp_NAME from crate NAME.
 const RT: &str = r#"#!/usr/bin/env bash
@@ -36,13 +37,20 @@ const TOOLS: [&str; 29] = [
     "touch", "uniq", "wc", "sh",
 ];
 
+/// A repository in small, outside of this one, whose crates are all that `rt` should find here.
 struct Repository {
     root: PathBuf,
 }
 
+impl Drop for Repository {
+    fn drop(&mut self) {
+        let _ = fs::remove_dir_all(&self.root);
+    }
+}
+
 impl Repository {
     fn new(name: &str) -> Repository {
-        let root = Path::new(env!("CARGO_TARGET_TMPDIR")).join(name);
+        let root = env::temp_dir().join(format!("spatecanter.{}.{name}", process::id()));
         let _ = fs::remove_dir_all(&root);
         let repository = Repository { root };
         let source = Path::new(env!("CARGO_MANIFEST_DIR")).join("..");
