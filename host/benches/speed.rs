@@ -4,7 +4,9 @@
 mod quick;
 
 use spatecanter::sample::{book, book_widths, yearbook};
-use spatecanter::{Machine, RunningTape, DVI_LIMIT, GALLEY_LIMIT, TAPE_LIMIT};
+use spatecanter::{
+    Machine, Report, RunningTape, DVI_LIMIT, GALLEY_LIMIT, REPORT_LIMIT, REPORT_WORDS, TAPE_LIMIT,
+};
 use std::hint::black_box;
 use std::time::{Duration, Instant};
 
@@ -49,6 +51,7 @@ fn print_operations() {
     print_row("read a tape", "yearbook", &tape, &mut read_tape(&tape, Machine::Eight));
     print_row("read a tape in pieces", "yearbook, 64 KiB each", &tape, &mut read_pieces(&tape, 65_536));
     print_row("read a tape in pieces", "yearbook, 512 bytes each", &tape, &mut read_pieces(&tape, 512));
+    print_row("count a tape", "yearbook", &tape, &mut count_tape(&tape, Machine::Eight));
     let galley = galley_of_length(&tape, GALLEY_LIMIT);
     print_row("check a galley", "yearbook", &galley, &mut check_galley(&galley));
     print_row("read back the last character", "yearbook", &galley, &mut read_back(&galley));
@@ -86,6 +89,10 @@ fn print_growth() {
     for length in lengths(TAPE_LIMIT) {
         let tape = yearbook(Machine::Eight, SEED, length);
         print_growth_row("read a tape in pieces", &tape, &mut read_pieces(&tape, 65_536));
+    }
+    for length in [64, 1_024].into_iter().chain(lengths(TAPE_LIMIT)) {
+        let tape = yearbook(Machine::Eight, SEED, length);
+        print_growth_row("count a tape", &tape, &mut count_tape(&tape, Machine::Eight));
     }
     let tape = yearbook(Machine::Eight, SEED, TAPE_LIMIT);
     for length in lengths(GALLEY_LIMIT) {
@@ -173,6 +180,28 @@ fn read_pieces(tape: &[u8], length: usize) -> Contest<'_> {
             [number, place, at + end]
         },
     )
+}
+
+/// Each counts in a report of its own, which starts anew before it is full.
+fn count_tape(tape: &[u8], machine: Machine) -> Contest<'_> {
+    let (mut report, mut other) = (Report::new(), [0; REPORT_WORDS]);
+    report.count(tape, machine).unwrap();
+    assert_eq!(quick::count_tape(tape, machine.fonts(), &mut other), [0; 3]);
+    assert_eq!(*report.words(), other, "the quick version counts something else");
+    Contest {
+        library: Box::new(move || {
+            if report.tapes() == REPORT_LIMIT {
+                report = Report::new();
+            }
+            done(report.count(black_box(tape), machine));
+        }),
+        quick: Box::new(move || {
+            if other[Report::TAPES] == REPORT_LIMIT {
+                other = [0; REPORT_WORDS];
+            }
+            done(quick::count_tape(black_box(tape), machine.fonts(), &mut other));
+        }),
+    }
 }
 
 fn check_galley(galley: &[u8]) -> Contest<'_> {

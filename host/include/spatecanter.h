@@ -1,23 +1,25 @@
 /*
  * spatecanter.h: C/A/T phototypesetter tapes, whole or in pieces, to galleys, galleys to DVI files of 1980, and
- * DVI files to sheets and back to galleys; galleys back to tapes, and old galleys to new ones and back. Link with
- * libspatecanter.a, which the script `library` at the root of the repository proves and builds in target/staticlib.
+ * DVI files to sheets and back to galleys; galleys back to tapes, and old galleys to new ones and back; and reports
+ * over many tapes. Link with libspatecanter.a, which the script `library` at the root of the repository proves and
+ * builds in target/staticlib.
  *
  * ANSWERS. Every function but sp_new_tape and sp_extents fills `answer` with three numbers:
  *
  *     answer[0]  number  0 if accepted, else the refusal's number (enum sp_number)
  *     answer[1]  place   0 if accepted, else where the input was refused
- *     answer[2]  length  the bytes written if accepted (sp_check_galley: the characters), else 0
+ *     answer[2]  length  the bytes written if accepted (sp_check_galley: the characters; sp_read_back and
+ *                        sp_count_tape: 0), else 0
  *
  * An accepted call leaves the buffer beyond the bytes written as it was. A refused call changes no
  * byte of any buffer. To learn how long a buffer must be, call with a length of 0: if the input is good,
  * the answer is the refusal for room, and its place is the number of bytes needed.
  *
  * LENT MEMORY. A pointer and the length after it make one slice; the length counts bytes, for `widths`
- * 32-bit numbers. With length 0 the pointer may be null; `answer`, `character` and a running tape may not. A
- * buffer that is written must not overlap anything else in the call. Nothing is allocated, kept or freed, and no
- * state is held between calls but a running tape in the caller's array: any number of threads may call at once,
- * each with its own. A stack of 256 KB is enough.
+ * 32-bit numbers. With length 0 the pointer may be null; `answer`, `character`, a running tape and a report may
+ * not. A buffer that is written must not overlap anything else in the call. Nothing is allocated, kept or freed,
+ * and no state is held between calls but a running tape or a report in the caller's array: any number of threads
+ * may call at once, each with its own. A stack of 256 KB is enough.
  *
  * FORMATS. All numbers have the high byte first.
  *
@@ -41,6 +43,8 @@
  *           End        tag 2, length 4: the number of fields before it
  *   widths  128 signed numbers a font, in rsu, for fonts 0, 1, ... in order. Only the DVI commands 0 to 127
  *           look there.
+ *   report  SP_REPORT_WORDS numbers, all 0 before the first tape: each is a sum over the tapes counted,
+ *           whatever their order. Where each stands is defined below.
  */
 
 #ifndef SPATECANTER_H
@@ -68,6 +72,19 @@ extern "C" {
 
 /* The words of a running tape. */
 #define SP_TAPE_WORDS       23
+
+/* The most tapes that a report counts. */
+#define SP_REPORT_LIMIT     65536
+
+/* The words of a report, and where they stand. Characters and leads are those of accepted tapes alone. */
+#define SP_REPORT_WORDS      135
+#define SP_REPORT_TAPES      0   /* tapes counted */
+#define SP_REPORT_ACCEPTED   1   /* tapes accepted */
+#define SP_REPORT_REFUSED    1   /* plus a number, 1 to 10: tapes refused under it */
+#define SP_REPORT_NO_MACHINE 12  /* tapes refused under 50 */
+#define SP_REPORT_FONTS      13  /* plus a font number, 0 to 119: its characters */
+#define SP_REPORT_FORWARD    133 /* forward lead, in quanta */
+#define SP_REPORT_BACKWARD   134 /* backward lead, in quanta */
 
 /* answer[0]; after the semicolon, what answer[1] then is. "Offset" counts bytes from 0. */
 enum sp_number {
@@ -123,7 +140,10 @@ enum sp_number {
     SP_NO_GALLEY         = 45, /* from DVI to a galley: the file shows no galley's targets; the offset of the
                                   first command that breaks a condition (see sp_dvi_to_galley) */
     SP_PUNCHED_TOO_LONG  = 48, /* punching: the tape would be over SP_TAPE_LIMIT; 0 */
-    SP_TAPE_ROOM         = 49  /* tape buffer too short; the bytes needed */
+    SP_TAPE_ROOM         = 49, /* tape buffer too short; the bytes needed */
+
+    /* Reports */
+    SP_REPORT_FULL       = 47  /* the report has SP_REPORT_LIMIT tapes already; 0 */
 };
 
 /*
@@ -297,6 +317,17 @@ void sp_close(uint64_t tape[SP_TAPE_WORDS],
 void sp_extents(const uint64_t tape[SP_TAPE_WORDS],
                 int32_t reach[2], uint64_t fonts[2]);
 
+/*
+ * Counts a tape in a report, as sp_read_tape would answer with room enough; writes no galley. Whatever that
+ * answer is, 1 and 50 too, the tape is counted under it and the call is accepted. `machine` is that of
+ * sp_read_tape. Font counts add up to the characters in accepted galleys; forward less backward lead is the
+ * sum of the heights at which accepted tapes' pages ended, by cut or stop.
+ * Refusal: 47, before all others; the report stays as it is. A report that these calls did not make is
+ * counted in all the same, each sum modulo 2^64.
+ */
+void sp_count_tape(const uint8_t *tape, size_t tape_len, uint32_t machine,
+                   uint64_t report[SP_REPORT_WORDS],
+                   size_t answer[3]);
 #ifdef __cplusplus
 }
 #endif

@@ -84,6 +84,14 @@ extern "C" {
         answer: *mut [usize; 3],
     );
 
+    pub fn sp_count_tape(
+        tape: *const u8,
+        tape_len: usize,
+        machine: u32,
+        report: *mut [u64; 135],
+        answer: *mut [usize; 3],
+    );
+
     pub fn sp_galley_to_new(
         old_galley: *const u8,
         old_galley_len: usize,

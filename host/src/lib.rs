@@ -1,5 +1,6 @@
 //! C/A/T phototypesetter tapes, whole or in pieces, to galleys, galleys to DVI files of 1980, and DVI files to
-//! sheets and back to galleys; galleys back to tapes, and old galleys to new ones and back.
+//! sheets and back to galleys; galleys back to tapes, and old galleys to new ones and back; and reports over many
+//! tapes.
 //!
 //! The operations are those of the proved library `libspatecanter.a`; this package adds safe calls,
 //! readers of galleys and sheets for people, and the command `spatecanter`.
@@ -10,6 +11,7 @@ pub mod galley;
 mod machine;
 mod operations;
 mod refusal;
+mod report;
 mod running;
 pub mod sample;
 pub mod sheet;
@@ -24,4 +26,5 @@ pub use operations::{
     SHEET_LIMIT, TAPE_LIMIT, WIDTHS_PER_FONT,
 };
 pub use refusal::{number, Outcome, Refusal};
+pub use report::{Report, REPORT_LIMIT, REPORT_WORDS};
 pub use running::RunningTape;

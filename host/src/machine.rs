@@ -9,6 +9,12 @@ pub enum Machine {
     Eight = 8,
 }
 
+impl From<Machine> for u32 {
+    fn from(machine: Machine) -> u32 {
+        machine.fonts()
+    }
+}
+
 impl Machine {
     /// How many fonts it has: its number in the library.
     pub fn fonts(self) -> u32 {

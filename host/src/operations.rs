@@ -31,15 +31,15 @@ pub struct Reprint {
     pub sheet: Vec<u8>,
 }
 
-/// Reads a tape of this machine into a galley; the length is the galley's.
-pub fn read_tape_into(tape: &[u8], machine: Machine, galley: &mut [u8]) -> Outcome {
+/// Reads a tape of this machine, or of the machine with so many fonts, into a galley; the length is the galley's.
+pub fn read_tape_into(tape: &[u8], machine: impl Into<u32>, galley: &mut [u8]) -> Outcome {
     let mut answer = [0; 3];
     // SAFETY: every pointer comes from a live slice, with its length.
     unsafe {
         ffi::sp_read_tape(
             tape.as_ptr(),
             tape.len(),
-            machine.fonts(),
+            machine.into(),
             galley.as_mut_ptr(),
             galley.len(),
             &mut answer,

@@ -56,6 +56,7 @@ numbers! {
     TOO_HIGH = 43: "a height above 65,535, which neither DVI nor the old form can hold",
     CONVERTED_ROOM = 44: "the buffer for the converted galley is too short",
     NO_GALLEY = 45: "the DVI file shows what no galley does",
+    REPORT_FULL = 47: "the report has 65,536 tapes already",
     PUNCHED_TOO_LONG = 48: "the tape of this galley would be longer than 1,048,576 bytes",
     TAPE_ROOM = 49: "the buffer for the tape is too short",
     NO_MACHINE = 50: "the machine is neither the 4-font nor the 8-font machine",

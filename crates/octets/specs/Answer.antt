@@ -109,6 +109,9 @@ noConvertedRoom = 44
 abbrev pub noGalley : ℕ
 noGalley = 45
 
+abbrev pub reportFull : ℕ
+reportFull = 47
+
 abbrev pub punchedTooLong : ℕ
 punchedTooLong = 48
 

@@ -80,6 +80,8 @@ pub const NO_CONVERTED_ROOM: u8 = 44;
 
 pub const NO_GALLEY: u8 = 45;
 
+pub const REPORT_FULL: u8 = 47;
+
 pub const PUNCHED_TOO_LONG: u8 = 48;
 
 pub const NO_TAPE_ROOM: u8 = 49;

@@ -1,4 +1,4 @@
-mod Quicks
-mod Turns
+pub mod Quicks
+pub mod Turns
 mod Passes
 mod Results

@@ -1,16 +1,14 @@
 -- The laws of what a pass keeps, `Going`: at its start, at each effect of a code, at its end; and of a stretch of codes.
 -- Assumes nothing.
-use mathlib.Core.Path.{_≡_, refl, sym, ap, _∙_, subst}
+use mathlib.Core.Path.{_≡_, refl, sym, ap, _∙_}
 use mathlib.Core.Bool.{Bool, true, false}
 use mathlib.Core.List.{List, [], _∷_, _++_}
 use Prim.Native.Nat.{ℕ, _+_, _*_, _≤_, _<_, zero-le}
-use native.Mathlib.Nat.{add-zero, zero-add}
 use native.Mathlib.Omega.{arith}
-use lib.ListN.{length, take, drop, getD, length-take, length-append}
+use lib.ListN.{length, take, getD, length-append}
 use lib.Seq as seq
 use lib.Seq.{take-all, length-take-le}
 use Rattle.octets.specs.Write.{putIf, sets-append}
-use Rattle.measure.specs.declared.Units.{Units}
 use Rattle.galley_file.specs.declared.form.Form.the-variants.{New}
 use Rattle.galley_file.specs.declared.character.Character.{Character}
 use Rattle.galley_file.specs.declared.item.Item.{Item}
@@ -30,9 +28,8 @@ use Rattle.tape.specs.RunLaws.{Sets, flashed, parted, soFar, run-length,
 use Rattle.typesetter.specs.Sound.{Sound}
 use Rattle.typesetter.specs.SoundLaws.{stays-sound, parted-sound}
 use Rattle.typesetter.specs.StepLaws.{placed}
-use Rattle.tape.specs.Quick.{flashesIn}
-use Rattle.tape.specs.Pass.{putAt, Going, Further, Stretched, Passed}
-use Rattle.tape.proofs.Quicks.{Counted, moves, sets}
+use Rattle.tape.specs.Quick.{Strides, stands, moves, sets}
+use Rattle.tape.specs.Pass.{putAt, Going, Further, Passed}
 
 -- one field more
 put-more : (w : Bool) (first : List ℕ) (is : List Item) (i : Item) (n k : ℕ) → n ≡ length (charactersOf is) → k ≡ 3 * cutsOf is
@@ -191,16 +188,10 @@ module _ (w : Bool) (tape out : List ℕ) (s : State) (count cuts i : ℕ) where
           }
 
 -- over a stretch where nothing is written
-module _ (tape out : List ℕ) (s : State) (count cuts i : ℕ) (r : Stretch) (f : Stretched false tape out s count cuts i r out) (h : r .next < length tape) where
-  pub further-counted : (c : Units) → Counted (placed s (r .carriage)) (getD tape (r .next) 0) c
-      → Stretched false tape out s count cuts i (record { next = r .next + 1; carriage = c; count = r .count + flashesIn (getD tape (r .next) 0) }) out
-  further-counted c (moves e z) =
-      let same : r .count ≡ r .count + flashesIn (getD tape (r .next) 0) = omega (arith, z) in
-      subst (λ (n : ℕ). Further false tape out s count cuts i (placed s c) n (r .next + 1) out) same
-      (further-moved false tape out s count cuts i (placed s (r .carriage)) (r .count) (r .next) out f h (placed s c) e)
-  further-counted c (sets k e q z) =
-      let more : r .count + 1 ≡ r .count + flashesIn (getD tape (r .next) 0) = omega (arith, z) in
-      let here : r .carriage ≡ c = sym (ap (λ (t : State). t .carriage) q) in
-      subst (λ (n : ℕ). Further false tape out s count cuts i (placed s c) n (r .next + 1) out) more
-      (subst (λ (u : Units). Further false tape out s count cuts i (placed s u) (r .count + 1) (r .next + 1) out) here
-      (further-flashed false tape out s count cuts i (placed s (r .carriage)) (r .count) (r .next) out f h k e out refl refl))
+pub further-strides : (tape out : List ℕ) (s : State) (cuts : ℕ) {font : ℕ} {r q : Stretch} → Strides tape s font r q
+    → Further false tape out (placed s (r .carriage)) (r .count) cuts (r .next) (placed s (q .carriage)) (q .count) (q .next) out
+further-strides tape out s cuts {r = r} stands = further-start false tape out (placed s (r .carriage)) (r .count) cuts (r .next)
+further-strides tape out s cuts {r = r} (moves {q} {c} p h e l) =
+    further-moved false tape out (placed s (r .carriage)) (r .count) cuts (r .next) (placed s (q .carriage)) (q .count) (q .next) out (further-strides tape out s cuts p) h (placed s c) e
+further-strides tape out s cuts {r = r} (sets {q} {k} p h e f) =
+    further-flashed false tape out (placed s (r .carriage)) (r .count) cuts (r .next) (placed s (q .carriage)) (q .count) (q .next) out (further-strides tape out s cuts p) h k e out refl refl

@@ -1,11 +1,13 @@
 -- The codes that are taken without the whole step: 00, flashes, escapes and leads.
 -- Assumes nothing.
-use mathlib.Core.Path.{_≡_, refl, sym, ap, _∙_}
+use mathlib.Core.Path.{_≡_, refl, sym, ap, subst, _∙_}
+use mathlib.Core.List.{List}
 use mathlib.Core.Bool.{Bool, true, false, cond}
-use Prim.Native.Nat.{ℕ, zero, suc, _-_, _*_, _/_, _%_, _≤_, _<_}
+use Prim.Native.Nat.{ℕ, zero, suc, _+_, _-_, _*_, _/_, _%_, _≤_, _<_}
 use native.Mathlib.Omega.{arith}
-use borrow.Author.Tests.{lt-ltb, le-ltb, lt-leb, ne-eqb, ltb-true, ltb-false, eqb-true, eqb-false}
+use borrow.Author.Tests.{le-ltb, lt-leb, ne-eqb, ltb-true, ltb-false, eqb-true, eqb-false}
 use lib.Dec.{ltb, eqb}
+use lib.ListN.{length, getD}
 use lib.IntN.{ℤ, pos, _+ℤ_}
 use Rattle.integers.specs.Parts.{integers, sum-parts}
 use Rattle.measure.specs.declared.Units.{Units}
@@ -17,39 +19,27 @@ use Rattle.measure.specs.Place.{directedBy, carriageAt, heightAt}
 use Rattle.measure.specs.PlaceLaws.{carriage-in}
 use Rattle.measure.specs.Target.{xOf}
 use Rattle.galley_file.specs.declared.character.Character.{Character}
-use Rattle.galley_file.specs.Font.{isDouble}
+use Rattle.galley_file.specs.Font.{fontNumber, isDouble}
 use Rattle.typesetter.specs.declared.code.Machine.{Machine}
-use Rattle.typesetter.specs.declared.code.Order.the-variants.{Flash, Lead, Escape}
-use Rattle.typesetter.specs.declared.code.Code.the-variants.{Ignored, Ordered}
+use Rattle.typesetter.specs.declared.machine.Modes.{Modes}
 use Rattle.typesetter.specs.declared.machine.State.{State}
 use Rattle.typesetter.specs.declared.machine.Effect.the-variants.{Moved, Flashed}
 use Rattle.tape.specs.declared.quick.Derived.{Derived}
+use Rattle.tape.specs.declared.quick.Stretch.{Stretch}
 use Rattle.typesetter.specs.Code.{codeOf}
-use Rattle.typesetter.specs.Machine.{pastHalf, codeIn, withHeight, orderOf, effectOf}
+use Rattle.typesetter.specs.CodeLaws.{not-zero, code-flash, code-escape, code-lead}
+use Rattle.typesetter.specs.Machine.{fontIn, pastHalf, codeIn, orderOf, effectOf}
+use Rattle.typesetter.specs.SoundLaws.{font-range}
 use Rattle.typesetter.specs.StepLaws.{placed}
-use Rattle.tape.specs.Quick.{Ready, halfSize, Flashing, DerivedFrom, Takes, escapeBy, flashesIn, Leads}
+use Rattle.tape.specs.Quick.{Ready, halfSize, Flashing, DerivedFrom, Takes, escapeBy, flashesIn, NoLead, Strides, moves, sets, Leads}
 use Rattle.typesetter.specs.StepLaws.{step-ignored, order-taken, flash-set, lead-to, escape-at}
+
+pub number-range : (machine : Machine) (m : Modes) (size : ℕ) → size < 15 → fontNumber (fontIn machine m) size < 120
+number-range machine m size h = omega (arith, font-range machine (m .«upper_rail») (m .«upper_mag») (m .«tilt_down») .1)
 
 pub half-taken : (u : Bool) (v : ℕ) → v ≤ halfSize u → (v < 64) × (pastHalf u v ≡ false)
 half-taken true v h = (omega arith, le-ltb _ _ h)
 half-taken false v h = (omega arith, refl)
-
-not-zero : (b : ℕ) → 1 ≤ b → b ≡ 0 → ⊥
-not-zero b h e = omega arith
-
-code-flash : (machine : Machine) (b : ℕ) → 1 ≤ b → b < 64 → codeOf machine b ≡ Ordered (Flash b)
-unfolding codeOf
-code-flash machine b h k = rw (ne-eqb b 0 (not-zero b h), lt-ltb _ _ k)
-
-code-escape : (machine : Machine) (b : ℕ) → 128 ≤ b → b < 255 → codeOf machine b ≡ Ordered (Escape (127 - b % 128))
-unfolding codeOf
-code-escape machine b h k =
-    rw (ne-eqb b 0 (not-zero b (omega arith)), le-ltb b 64 (omega arith), le-ltb b 80 (omega arith), le-ltb b 95 (omega arith), le-ltb b 96 (omega arith), le-ltb b 128 h, lt-ltb b 255 k)
-
-code-lead : (machine : Machine) (b : ℕ) → 96 ≤ b → b < 128 → codeOf machine b ≡ Ordered (Lead (31 - b % 32))
-unfolding codeOf
-code-lead machine b h k =
-    rw (ne-eqb b 0 (not-zero b (omega arith)), le-ltb b 64 (omega arith), le-ltb b 80 (omega arith), le-ltb b 95 (omega arith), le-ltb b 96 h, lt-ltb b 128 k)
 
 module _ (s : State) (b : ℕ) where
   pub quick-led : Ready s → 96 ≤ b → b < 128 → (r : Height) → heightAt (s .height .0 +ℤ directedBy (s .modes .«lead_back») (31 - b % 32)) ≡ r → Leads s b r
@@ -92,10 +82,10 @@ one-way zero k e = absurd (omega arith)
 one-way (suc zero) k e = omega arith
 one-way (suc (suc q)) k e = absurd (omega arith)
 
-stands : (back : Bool) (z : ℤ) → z +ℤ directedBy back 0 ≡ z
+stands-at : (back : Bool) (z : ℤ) → z +ℤ directedBy back 0 ≡ z
 unfolding directedBy
-stands true z = omega (integers, sum-parts z (pos 0))
-stands false z = omega (integers, sum-parts z (pos 0))
+stands-at true z = omega (integers, sum-parts z (pos 0))
+stands-at false z = omega (integers, sum-parts z (pos 0))
 
 pub one-at-most : (b : ℕ) → flashesIn b ≤ 1
 one-at-most b = go (eqb b 0)
@@ -103,43 +93,6 @@ one-at-most b = go (eqb b 0)
     go : (t : Bool) → cond t 0 (1 - b / 128) ≤ 1
     go true = omega arith
     go false = omega arith
-
--- a code that leaves the carriage at c: it moves, or it sets a character and stands
-pub data Counted (s : State) (b : ℕ) (c : Units) : Type 0 where
-  moves : effectOf s b ≡ Moved (placed s c) → flashesIn b ≡ 0 → Counted s b c
-  sets : (k : Character) → effectOf s b ≡ Flashed k → placed s c ≡ s → flashesIn b ≡ 1 → Counted s b c
-
-module _ (s : State) (b : ℕ) (d : Derived) (f : DerivedFrom s d) (t : Takes d b) (c : Units) (e : carriageAt (s .carriage .0 +ℤ directedBy (s .modes .«escape_back») (escapeBy b)) ≡ carriage.At c) where
-  stays : b < 128 → s .carriage ≡ c
-  stays l =
-      let back = s .modes .«escape_back» in
-      let z = s .carriage .0 in
-      let here : z +ℤ directedBy back (escapeBy b) ≡ z = ap (λ (n : ℕ). z +ℤ directedBy back n) (no-way (b / 128) (127 - b % 128) (omega arith)) ∙ stands back z in
-      λ i. record { 0 = sym (carriage-in (z +ℤ directedBy back (escapeBy b)) c e .0 ∙ here) i }
-
-  pub counted : Counted s b c
-  counted = high (ltb b 128) refl
-    where
-      low : b < 128 → (u : Bool) → eqb b 0 ≡ u → Counted s b c
-      low l true q =
-          moves (quick-ignored s b (eqb-true b 0 q) ∙ ap (λ (u : Units). Moved (placed s u)) (stays l)) (ap (λ (u : Bool). cond u 0 (1 - b / 128)) q)
-      low l false q =
-          let n = eqb-false b 0 q in
-          let k : 1 ≤ b = omega arith in
-          let last = t .flash l in
-          sets _ (quick-set s b d (f .flashing (omega arith)) k last _ _ refl refl) (ap (placed s) (sym (stays l)))
-          (ap (λ (u : Bool). cond u 0 (1 - b / 128)) q ∙ omega arith)
-
-      high : (u : Bool) → ltb b 128 ≡ u → Counted s b c
-      high true q = low (ltb-true b 128 q) (eqb b 0) refl
-      high false q =
-          let m : 128 ≤ b = ltb-false b 128 q in
-          let last = t .escape m in
-          let most = f .escapes in
-          moves
-          (quick-at s b (f .escaping (omega arith)) m (omega arith) c
-          (ap (λ (n : ℕ). carriageAt (s .carriage .0 +ℤ directedBy (s .modes .«escape_back») n)) (sym (one-way (b / 128) (127 - b % 128) (omega arith))) ∙ e))
-          (ap (λ (u : Bool). cond u 0 (1 - b / 128)) (ne-eqb b 0 (not-zero b (omega arith))) ∙ omega arith)
 
 -- a state with its carriage and its height elsewhere
 abbrev pub elsewhere : State → Units → Quanta → State
@@ -149,6 +102,7 @@ elsewhere s c h = record { machine = s .machine; initialized = s .initialized; p
 pub still-derived : (s : State) (c : Units) (q : Quanta) {d : Derived} → DerivedFrom s d → DerivedFrom (elsewhere s c q) d
 still-derived s c q f =
     record {
+      numbered = f .numbered;
       escapes = f .escapes;
       escaping = λ h. let r = f .escaping h in record { begun = r .begun; uncut = r .uncut; unstopped = r .unstopped; unparked = r .unparked };
       flashing = λ h.
@@ -160,3 +114,57 @@ still-derived s c q f =
             number = g .number;
           };
     }
+
+-- one code more: it leaves the carriage at c
+module _ (tape : List ℕ) (s : State) (d : Derived) (f : DerivedFrom s d) (r q : Stretch) (p : Strides tape s (d .font) r q) (h : q .next < length tape) (t : Takes d (getD tape (q .next) 0)) (c : Units) (e : carriageAt (q .carriage .0 +ℤ directedBy (s .modes .«escape_back») (escapeBy (getD tape (q .next) 0))) ≡ carriage.At c) where
+  abbrev b : ℕ
+  b = getD tape (q .next) 0
+
+  abbrev here : State
+  here = placed s (q .carriage)
+
+  stays : b < 128 → q .carriage ≡ c
+  stays l =
+      let back = s .modes .«escape_back» in
+      let z = q .carriage .0 in
+      let same : z +ℤ directedBy back (escapeBy b) ≡ z = ap (λ (n : ℕ). z +ℤ directedBy back n) (no-way (b / 128) (127 - b % 128) (omega arith)) ∙ stands-at back z in
+      λ i. record { 0 = sym (carriage-in (z +ℤ directedBy back (escapeBy b)) c e .0 ∙ same) i }
+
+  abbrev After : Units → ℕ → Type 0
+  After u n = Strides tape s (d .font) r (record { next = q .next + 1; carriage = u; count = n })
+
+  moving : effectOf here b ≡ Moved (placed s c) → NoLead b → flashesIn b ≡ 0 → After c (q .count + flashesIn b)
+  moving m l z = let same : q .count ≡ q .count + flashesIn b = omega (arith, z) in subst (After c) same (moves p h m l)
+
+  setting : {k : Character} → effectOf here b ≡ Flashed k → k .font ≡ d .font → q .carriage ≡ c → flashesIn b ≡ 1 → After c (q .count + flashesIn b)
+  setting m n u z =
+      let more : q .count + 1 ≡ q .count + flashesIn b = omega (arith, z) in
+      subst (After c) more (subst (λ (v : Units). After v (q .count + 1)) u (sets p h m n))
+
+  pub strides-more : After c (q .count + flashesIn b)
+  strides-more = high (ltb b 128) refl
+    where
+      g : DerivedFrom here d
+      g = still-derived s (q .carriage) (s .height) f
+
+      low : b < 128 → (u : Bool) → eqb b 0 ≡ u → After c (q .count + flashesIn b)
+      low l true z =
+          let zero = eqb-true b 0 z in
+          moving (quick-ignored here b zero ∙ ap (λ (u : Units). Moved (placed s u)) (stays l)) (λ n. absurd (omega arith)) (ap (λ (u : Bool). cond u 0 (1 - b / 128)) z)
+      low l false z =
+          let n = eqb-false b 0 z in
+          let k : 1 ≤ b = omega arith in
+          let last = t .flash l in
+          setting (quick-set here b d (g .flashing (omega arith)) k last _ _ refl refl) refl (stays l) (ap (λ (u : Bool). cond u 0 (1 - b / 128)) z ∙ omega arith)
+
+      high : (u : Bool) → ltb b 128 ≡ u → After c (q .count + flashesIn b)
+      high true z = low (ltb-true b 128 z) (eqb b 0) refl
+      high false z =
+          let m : 128 ≤ b = ltb-false b 128 z in
+          let last = t .escape m in
+          let most = f .escapes in
+          moving
+          (quick-at here b (g .escaping (omega arith)) m (omega arith) c
+          (ap (λ (n : ℕ). carriageAt (q .carriage .0 +ℤ directedBy (s .modes .«escape_back») n)) (sym (one-way (b / 128) (127 - b % 128) (omega arith))) ∙ e))
+          (λ _. m)
+          (ap (λ (u : Bool). cond u 0 (1 - b / 128)) (ne-eqb b 0 (not-zero b (omega arith))) ∙ omega arith)

@@ -1,10 +1,14 @@
 -- What the quick step's contracts cite; nothing here is part of what a call promises.
 use mathlib.Core.Path.{_≡_}
 use mathlib.Core.Bool.{Bool, true, false, cond}
-use Prim.Native.Nat.{ℕ, _-_, _*_, _/_, _%_, _≤_, _<_}
+use mathlib.Core.List.{List}
+use Prim.Native.Nat.{ℕ, _+_, _-_, _*_, _/_, _%_, _≤_, _<_}
 use lib.Dec.{eqb}
+use lib.ListN.{length, getD}
+use Rattle.measure.specs.declared.Units.{Units}
 use Rattle.measure.specs.declared.Height.{Height}
 use Rattle.measure.specs.declared.Height.the-variants as height
+use Rattle.galley_file.specs.declared.character.Character.{Character}
 use Rattle.galley_file.specs.Font.{fontNumber}
 use Rattle.typesetter.specs.declared.code.Machine.{Machine}
 use Rattle.typesetter.specs.declared.code.Machine.the-variants.{Eight}
@@ -39,6 +43,7 @@ pub record Flashing (s : State) (d : Derived) : Type 0 where
 
 -- what is derived from a state: nothing of it is about the carriage or the height
 pub record DerivedFrom (s : State) (d : Derived) : Type 0 where
+  pub numbered : d .font < 120
   pub escapes : d .«last_escape» ≤ 254
   pub escaping : 1 ≤ d .«last_escape» → Ready s
   pub flashing : 1 ≤ d .«last_flash» → Flashing s d
@@ -60,6 +65,20 @@ abbrev pub Quickly : State → ℕ → Quick → Type 0
 Quickly s b (quick.Set c) = effectOf s b ≡ Flashed c
 Quickly s b (quick.At place) = effectOf s b ≡ Moved (placed s place)
 Quickly s b quick.Slow = Unit {0}
+
+-- no lead
+abbrev pub NoLead : ℕ → Type 0
+NoLead b = 96 ≤ b → 128 ≤ b
+
+-- codes from one place of a stretch to another, each of which moves the carriage or sets a character of one font number
+pub data Strides (tape : List ℕ) (s : State) (font : ℕ) (r : Stretch) : Stretch → Type 0 where
+  stands : Strides tape s font r r
+  moves : {q : Stretch} {c : Units} → Strides tape s font r q → q .next < length tape
+      → effectOf (placed s (q .carriage)) (getD tape (q .next) 0) ≡ Moved (placed s c) → NoLead (getD tape (q .next) 0)
+      → Strides tape s font r (record { next = q .next + 1; carriage = c; count = q .count })
+  sets : {q : Stretch} {k : Character} → Strides tape s font r q → q .next < length tape
+      → effectOf (placed s (q .carriage)) (getD tape (q .next) 0) ≡ Flashed k → k .font ≡ font
+      → Strides tape s font r (record { next = q .next + 1; carriage = q .carriage; count = q .count + 1 })
 
 -- a stretch of no codes
 abbrev pub stretchAt : State → ℕ → ℕ → Stretch

@@ -2,6 +2,7 @@
 --     run-append       a tape cut in two: the second piece is run from the state that the first reaches, at its place on the tape
 --     run-moved, run-set, run-refused       the byte after a prefix
 --     run-length       at most one item a byte
+--     run-machine      on one machine all along
 --     run-valid        from a sound state, valid characters
 --     run-sound        and a sound state again
 --     run-fault        what a run is refused with is one of 2 to 10
@@ -12,7 +13,7 @@ use Prim.Native.Nat.{ℕ, suc, _+_, _≤_, _<_}
 use native.Mathlib.Nat.{add-zero}
 use native.Mathlib.Numerals.{add-one}
 use native.Mathlib.Omega.{arith}
-use lib.ListN.{length, getD, take, drop, take-append-drop, length-append}
+use lib.ListN.{length, getD, take, drop, take-append-drop}
 use lib.Seq.{take-suc, drop-cons, length-take-le}
 use Rattle.measure.specs.Place.{heightEnd}
 use Rattle.galley_file.specs.declared.character.Character.{Character}
@@ -26,8 +27,8 @@ use Rattle.tape.specs.declared.Ending.{Ending}
 use Rattle.tape.specs.declared.Ending.the-variants.{Reached, Fault}
 use Rattle.typesetter.specs.Machine.{effectOf}
 use Rattle.typesetter.specs.Sound.{Sound}
+use Rattle.typesetter.specs.EffectLaws.{IsFault, fault-effect, moved-machine, parted-machine}
 use Rattle.typesetter.specs.SoundLaws.{stays-sound, parted-sound, flashed-valid}
-use Rattle.typesetter.specs.FaultLaws.{IsFault, FaultOf, fault-effect}
 use Rattle.tape.specs.Tape.{Run, after, run}
 
 -- a run after items that were set, by how these ended
@@ -70,6 +71,22 @@ run-length s at (b ∷ bs) = go (λ t. run-length t (suc at) bs) (effectOf s b) 
     go later (Flashed c) q = rw (q, run) (omega (arith, later s))
     go later (Parted t) q = rw (q, run) (omega (arith, later t))
     go later (Refused n) q = rw (q, run) (omega arith)
+
+-- ---- the state reached, or the refusal
+
+pub fault-never : {n p : ℕ} {t : State} {X : Type 0} → Fault n p ≡ Reached t → X
+fault-never e = let z : _≡_ {A = ℕ} 0 1 = cc in absurd (omega arith)
+
+pub run-machine : (s : State) (at : ℕ) (bs : List ℕ) {t : State} → run s at bs .ending ≡ Reached t → t .machine ≡ s .machine
+unfolding run
+run-machine s at [] {t} e = let same : s ≡ t = cc in ap (λ (u : State). u .machine) (sym same)
+run-machine s at (b ∷ bs) {t} e = go (λ u. run-machine u (suc at) bs) (effectOf s b) refl
+  where
+    go : ((u : State) → run u (suc at) bs .ending ≡ Reached t → t .machine ≡ u .machine) → (x : Effect) → effectOf s b ≡ x → t .machine ≡ s .machine
+    go later (Moved u) q = later u (rw (q, run) at e) ∙ moved-machine s b q
+    go later (Flashed c) q = later s (rw (q, run) at e)
+    go later (Parted u) q = later u (rw (q, run) at e) ∙ parted-machine s b q
+    go later (Refused n) q = let f : Fault n at ≡ Reached t = rw (q, run) at e in fault-never f
 
 -- ---- an effect that sets an item and leaves a state
 
@@ -148,7 +165,7 @@ run-sound s at (b ∷ bs) r {t} h = go (λ u q. run-sound u (suc at) bs q {t = t
     go later (Moved u) q = rw (q, run) (later u (stays-sound s r b q))
     go later (Flashed c) q = rw (q, run) (later s r)
     go later (Parted u) q = rw (q, run) (later u (parted-sound s r b q))
-    go later (Refused n) q = rw (q, run) (λ e. absurd (let z : _≡_ {A = ℕ} 0 1 = cc in omega arith))
+    go later (Refused n) q = rw (q, run) (λ e. fault-never e)
 
 abbrev pub FaultIn : Ending → Type 0
 FaultIn (Reached t) = Unit {0}
@@ -157,10 +174,10 @@ FaultIn (Fault n place) = IsFault n
 pub run-fault : (s : State) (at : ℕ) (bs : List ℕ) → FaultIn (run s at bs .ending)
 unfolding run
 run-fault s at [] = tt
-run-fault s at (b ∷ bs) = go (λ t. run-fault t (suc at) bs) (effectOf s b) refl (fault-effect s b)
+run-fault s at (b ∷ bs) = go (λ t. run-fault t (suc at) bs) (effectOf s b) refl
   where
-    go : ((t : State) → FaultIn (run t (suc at) bs .ending)) → (e : Effect) → effectOf s b ≡ e → FaultOf e → FaultIn (run s at (b ∷ bs) .ending)
-    go later (Moved t) q f = rw (q, run) (later t)
-    go later (Flashed c) q f = rw (q, run) (later s)
-    go later (Parted t) q f = rw (q, run) (later t)
-    go later (Refused n) q f = rw (q, run) f
+    go : ((t : State) → FaultIn (run t (suc at) bs .ending)) → (e : Effect) → effectOf s b ≡ e → FaultIn (run s at (b ∷ bs) .ending)
+    go later (Moved t) q = rw (q, run) (later t)
+    go later (Flashed c) q = rw (q, run) (later s)
+    go later (Parted t) q = rw (q, run) (later t)
+    go later (Refused n) q = rw (q, run) (fault-effect s b q)

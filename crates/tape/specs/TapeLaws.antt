@@ -1,15 +1,17 @@
 -- What an accepted tape gives: the galley of exactly the characters that it flashes and its cuts, in tape order, which the check accepts.
+--     accepted-tape    all of this
+--     tape-room        what is accepted has room
 -- Assumes nothing.
-use mathlib.Core.Path.{_≡_, refl, sym, ap, _∙_}
+use mathlib.Core.Path.{_≡_, refl, ap, _∙_}
 use mathlib.Core.Bool.{Bool, true, false, cond}
 use mathlib.Core.List.{List}
 use mathlib.Core.Option.{Option, none, some}
-use Prim.Native.Nat.{ℕ, _+_, _*_, _≤_}
+use Prim.Native.Nat.{ℕ, _≤_}
 use native.Mathlib.Omega.{arith}
 use borrow.Author.Tests.{ltb-false}
 use lib.Dec.{ltb}
 use lib.ListN.{length}
-use Rattle.octets.specs.Answer.{Result, refusal, written, outcome, ifRoom, accepted, tapeTooLong, afterCut, noStop, noGalleyRoom, noMachine}
+use Rattle.octets.specs.Answer.{refusal, written, outcome, ifRoom, accepted, tapeTooLong, afterCut, noStop, noGalleyRoom}
 use Rattle.octets.specs.AnswerLaws.{accepted-room}
 use Rattle.galley_file.specs.declared.form.Form.the-variants.{New}
 use Rattle.galley_file.specs.Form.{maxGalley}
@@ -31,6 +33,17 @@ use Rattle.typesetter.specs.SoundLaws.{start-sound}
 -- the characters that a tape flashes on a machine, and its cuts
 abbrev pub itemsOn : Machine → List ℕ → List Item
 itemsOn kind tape = run (start kind) 0 tape .items
+
+-- a tape within the limit sets no more items than a galley holds; what it sets is what its galley is read as
+module _ (kind : Machine) (tape : List ℕ) (short : length tape ≤ maxTape) where
+  pub few-items : length (itemsOn kind tape) ≤ maxItems
+  few-items = omega (arith, run-length (start kind) 0 tape, short)
+
+  pub items-read : readGalley New (galley New (itemsOn kind tape)) ≡ whole (itemsOn kind tape)
+  items-read = accepts New (itemsOn kind tape) (run-valid (start kind) 0 tape (start-sound kind)) few-items
+
+  pub items-fit : length (galley New (itemsOn kind tape)) ≤ maxGalley New
+  items-fit = galley-fits New (itemsOn kind tape) few-items
 
 pub record AcceptedTape (tape : List ℕ) (machine : ℕ) (bs : List ℕ) : Type 0 where
   pub kind : Machine
@@ -77,16 +90,15 @@ accepted-tape tape machine room bs q = whole-tape (ltb maxTape (length tape)) re
     on kind m l g =
         let is = itemsOn kind tape in
         let v = run-valid (start kind) 0 tape (start-sound kind) in
-        let few : length is ≤ maxItems = omega (arith, run-length (start kind) 0 tape, l) in
         record {
           kind = kind;
           named = m;
           short-enough = l;
           bytes-are = g;
           valid = v;
-          read-as = ap (readGalley New) g ∙ accepts New is v few;
-          checked = ap (checkOutcome New) g ∙ accepts-check New is v few;
-          size = omega (arith, ap length g, galley-fits New is few);
+          read-as = ap (readGalley New) g ∙ items-read kind tape l;
+          checked = ap (checkOutcome New) g ∙ accepts-check New is v (few-items kind tape l);
+          size = omega (arith, ap length g, items-fit kind tape l);
         }
 
     by-machine : (k : Option Machine) → machineOf machine ≡ k → length tape ≤ maxTape → onMachine tape room k ≡ written bs → AcceptedTape tape machine bs

@@ -1,5 +1,5 @@
 // C/A/T phototypesetter tapes (source 000, document 01), read into galleys.
-mod quick;
+pub mod quick;
 
 use typesetter::code::Machine;
 ghost use Rattle.galley_file.specs.declared.form.Form.the-variants.{New};

@@ -14,11 +14,10 @@ use typesetter::machine::Modes;
 use typesetter::machine::State;
 ghost use mathlib.Core.Path.{_≡_};
 ghost use mathlib.Core.Bool.{true, false};
-ghost use mathlib.Core.List.{List};
-ghost use Prim.Native.Nat.{ℕ, _≤_};
+ghost use Prim.Native.Nat.{_≤_};
 ghost use Rattle.typesetter.specs.Sound.{Sound};
 ghost use Rattle.typesetter.specs.StepLaws.{placed};
-ghost use Rattle.tape.specs.Quick.{Ready, halfSize, DerivedFrom, Takes, escapeBy, flashesIn, Turn, turnedBy, modesAfter, sizeAfter, Leads, stretchAt, Quickly};
+ghost use Rattle.tape.specs.Quick.{Ready, halfSize, DerivedFrom, Takes, escapeBy, flashesIn, Strides, Turn, turnedBy, modesAfter, sizeAfter, Leads, stretchAt, Quickly};
 ghost use Rattle.tape.specs.Pass.{Further, Stretched};
 
 // What is derived from a state and outlives flashes and escapes: the last escape and the last flash that are taken, or 0, and the font number.
@@ -98,7 +97,7 @@ fn half_size(upper: bool) -> u8
     }
 }
 
-fn derived_of(s: State) -> Derived
+pub fn derived_of(s: State) -> Derived
     ensures { λ r. ⌜ DerivedFrom s r ⌝ }
 {
     let size = s.size;
@@ -184,9 +183,9 @@ fn flashes_in(b: u8) -> usize
 }
 
 // A stretch from `from` on, after `before` characters: counts. Flashes and escapes mix at random, so no branch tells them apart.
-fn count_stretch(s: State, d: Derived, tape: &[u8], from: usize, before: usize) -> Stretch
+pub fn count_stretch(s: State, d: Derived, tape: &[u8], from: usize, before: usize) -> Stretch
     requires { ⌜ ((Sound s) × (DerivedFrom s d)) × (before ≤ from) ⌝ }
-    ensures { λ r. ⌜ ((out : List ℕ) (cuts : ℕ) → Stretched false (now (tape .entry)) out s before cuts from r out) ⌝ }
+    ensures { λ r. ⌜ Strides (now (tape .entry)) s (d .font) (stretchAt s from before) r ⌝ }
 {
     let mut r = at_state(s, from, before);
     while r.next < tape.len() {
@@ -297,7 +296,7 @@ fn turns(machine: Machine, b: u8) -> bool
 }
 
 // Whether b turns a mode or sets a size of a running machine.
-fn takes_turn(s: State, b: u8) -> bool
+pub fn takes_turn(s: State, b: u8) -> bool
     ensures { λ r. ⌜ (r ≡ true → ((Ready s) × (Turn (s .machine) b))) ⌝ }
 {
     if running(s) {
@@ -316,7 +315,7 @@ fn turned(mode: bool, b: u8, on: u8, off: u8) -> bool
 }
 
 // The modes after a code that turns one or sets a size. Which one comes is hard to foresee, so every mode is computed.
-fn modes_after(m: Modes, b: u8) -> Modes
+pub fn modes_after(m: Modes, b: u8) -> Modes
     ensures { λ r. ⌜ r ≡ modesAfter m b ⌝ }
 {
     Modes {
@@ -330,14 +329,14 @@ fn modes_after(m: Modes, b: u8) -> Modes
 }
 
 // The size after a code that turns a mode or sets a size.
-fn size_after(size: u8, b: u8) -> u8
+pub fn size_after(size: u8, b: u8) -> u8
     ensures { λ r. ⌜ r ≡ sizeAfter size b ⌝ }
 {
     if b >> 4 == 5 { b & 15 } else { size }
 }
 
 // The height after b, where b is a lead that a running machine takes; Outside is every other code and every refusal.
-fn led(s: State, b: u8) -> Height
+pub fn led(s: State, b: u8) -> Height
     ensures { λ r. ⌜ Leads s b r ⌝ }
 {
     if b >> 5 != 3 {

@@ -1,29 +1,22 @@
 -- Every step from a sound state leaves a sound state or sets a valid character.
 -- Assumes nothing.
-use mathlib.Core.Path.{_≡_, refl, sym, ap, subst, _∙_}
+use mathlib.Core.Path.{_≡_, refl, ap, _∙_}
 use mathlib.Core.Bool.{Bool, true, false, cond}
 use mathlib.Core.List.{List, [], _∷_}
-use Prim.Native.Nat.{ℕ, zero, suc, _+_, _-_, _*_, _%_, _≤_, _<_}
+use Prim.Native.Nat.{ℕ, zero, suc, _-_, _%_, _≤_, _<_}
 use native.Mathlib.Omega.{arith}
-use borrow.Author.Tests.{ltb-true, ltb-false, leb-false, eqb-false, lt-ltb, le-leb}
-use lib.Dec.{leb, ltb, eqb, lit≤}
+use borrow.Author.Tests.{ltb-true, ltb-false, eqb-false}
+use lib.Dec.{ltb, eqb, lit≤}
 use lib.IntN.{ℤ, pos, negsuc, _+ℤ_, _-ℤ_}
-use lib.ListN.{length, getD}
-use lib.Signed.{leZ, _≤ℤ_}
+use lib.ListN.{getD}
 use Rattle.integers.specs.Parts.{integers, dif-parts, true-leZ}
-use Rattle.octets.specs.Answer.{Result, refusal, written, accepted, illegalCode, notInitialized, afterCut, afterStop, stillParked, noSize, outOfRange, aboveHalf}
-use Rattle.measure.specs.declared.Carriage.{Carriage}
-use Rattle.measure.specs.declared.Carriage.the-variants as carriage
-use Rattle.measure.specs.declared.Height.{Height}
-use Rattle.measure.specs.declared.Height.the-variants as height
-use Rattle.measure.specs.Place.{carriageEnd, heightEnd, directedBy, within, carriageAt, heightAt}
-use Rattle.measure.specs.PlaceLaws.{InRange, carriage-in, height-in}
+use Rattle.measure.specs.Place.{carriageEnd, heightEnd, directedBy, within}
+use Rattle.measure.specs.PlaceLaws.{InRange, height-in}
 use Rattle.measure.specs.Target.{xOf}
 use Rattle.galley_file.specs.declared.character.Character.{Character}
 use Rattle.galley_file.specs.Font.{fontNumber, sizeIndex, isDouble}
 use Rattle.galley_file.specs.Character.{validX, valid}
 use Rattle.galley_file.specs.CharacterLaws.{parts-valid}
-use Rattle.galley_file.specs.Galley.{AllValid, nil, more}
 use Rattle.typesetter.specs.declared.code.Machine.{Machine}
 use Rattle.typesetter.specs.declared.code.Machine.the-variants.{Four, Eight}
 use Rattle.typesetter.specs.declared.code.Order.{Order}
@@ -34,7 +27,8 @@ use Rattle.typesetter.specs.declared.machine.State.{State}
 use Rattle.typesetter.specs.declared.machine.Effect.{Effect}
 use Rattle.typesetter.specs.declared.machine.Effect.the-variants.{Moved, Flashed, Parted, Refused}
 use Rattle.typesetter.specs.Code.{tiltOf, codeOf, controls}
-use Rattle.typesetter.specs.Machine.{start, noSizeYet, origin, initializedOf, pairOf, fontAt, fontIn, pastHalf, codeIn, characterIn, leavesSwitch, withCarriage, toCarriage, toHeight, flashOf, escapeOf, leadOf, orderOf, codeEffect, effectOf}
+use Rattle.typesetter.specs.Machine.{start, pairOf, fontAt, fontIn, pastHalf, codeIn, characterIn, effectOf}
+use Rattle.typesetter.specs.EffectLaws.{Causes, refuses, ignores, initializes, flashes, turns, sizes, stops, cuts, leads, escapes, causes, at-origin}
 use Rattle.typesetter.specs.Sound.{Sound}
 
 -- ---- a flash is of 1 to 63
@@ -102,7 +96,7 @@ pair-range true false = lit≤ tt
 pair-range false true = lit≤ tt
 pair-range true true = lit≤ tt
 
-font-range : (machine : Machine) (rail mag tilt : Bool) → (1 ≤ fontAt machine rail mag tilt) × (fontAt machine rail mag tilt ≤ 8)
+pub font-range : (machine : Machine) (rail mag tilt : Bool) → (1 ≤ fontAt machine rail mag tilt) × (fontAt machine rail mag tilt ≤ 8)
 font-range Four rail mag tilt = let p = pair-range rail mag in (omega arith, omega arith)
 font-range Eight rail mag false = let p = pair-range rail mag in (omega arith, omega arith)
 font-range Eight rail mag true = let p = pair-range rail mag in (omega arith, omega arith)
@@ -145,88 +139,37 @@ Good (Flashed c) = valid heightEnd c ≡ true
 Good (Parted t) = Sound t
 Good (Refused n) = Unit {0}
 
-good-cond : (t : Bool) (x y : Effect) → (t ≡ true → Good x) → (t ≡ false → Good y) → Good (cond t x y)
-good-cond true x y f g = f refl
-good-cond false x y f g = g refl
-
 module _ (s : State) (r : Sound s) where
   -- the same carriage and height
   same : (t : State) → t .carriage ≡ s .carriage → t .height ≡ s .height → Sound t
   same t c h = record { carriage-in = rw c (r .carriage-in); height-in = rw h (r .height-in) }
 
-  good-flash : (v : ℕ) → (1 ≤ v) × (v ≤ 63) → Good (flashOf s v)
-  unfolding flashOf
-  good-flash v fv =
-      let up = s .modes .«upper_half» in
-      let done = cond (pastHalf up v) (Refused aboveHalf) (Flashed (characterIn s v)) in
-      good-cond (s .parked) (Refused stillParked) (cond (leb noSizeYet (s .size)) (Refused noSize) done) (λ _. tt) (λ _.
-      good-cond (leb noSizeYet (s .size)) (Refused noSize) done (λ _. tt) (λ z.
-      good-cond (pastHalf up v) (Refused aboveHalf) (Flashed (characterIn s v)) (λ _. tt) (set-valid s r v fv (leb-false noSizeYet (s .size) z))))
-
-  good-height : (z : ℤ) (h : Height) → heightAt z ≡ h → Good (toHeight s h)
-  good-height z (height.At h) e = record { carriage-in = r .carriage-in; height-in = height-in z h e .1 }
-  good-height z height.Outside e = tt
-
-  good-carriage : (z : ℤ) (c : Carriage) → carriageAt z ≡ c → Good (toCarriage s c)
-  good-carriage z (carriage.At c) e = record { carriage-in = carriage-in z c e .1; height-in = r .height-in }
-  good-carriage z carriage.Outside e = tt
-
   at-top : InRange heightEnd (pos 0)
   at-top = record { low = omega integers; high = omega integers }
 
-  at-origin : InRange carriageEnd (origin .0)
-  at-origin = record { low = omega integers; high = omega integers }
+  good-by : {k : Code} {x : Effect} → Fine k → Causes s k x → Good x
+  good-by f (refuses h) = tt
+  good-by f ignores = r
+  good-by f initializes = record { carriage-in = at-origin; height-in = r .height-in }
+  good-by f (flashes {v} z a) = set-valid s r v f z a
+  good-by f (turns t) = same _ refl refl
+  good-by f sizes = same _ refl refl
+  good-by f (stops p) = same _ refl refl
+  good-by f (cuts p) = record { carriage-in = r .carriage-in; height-in = at-top }
+  good-by f (leads {n} {h} p e) = record { carriage-in = r .carriage-in; height-in = height-in (s .height .0 +ℤ directedBy (s .modes .«lead_back») n) h e .1 }
+  good-by f (escapes c) = record { carriage-in = c; height-in = r .height-in }
 
-  good-escape : (n : ℕ) → Good (escapeOf s n)
-  unfolding escapeOf
-  good-escape n =
-      let back = s .modes .«escape_back» in
-      let z = s .carriage .0 +ℤ directedBy back n in
-      good-cond (s .parked) (cond (leavesSwitch back n) (Moved (withCarriage s origin)) (Refused stillParked)) (toCarriage s (carriageAt z))
-      (λ _. good-cond (leavesSwitch back n) (Moved (withCarriage s origin)) (Refused stillParked) (λ _. record { carriage-in = at-origin; height-in = r .height-in }) (λ _. tt))
-      (λ _. good-carriage z (carriageAt z) refl)
-
-  good-order : (o : Order) → Flashes o → Good (orderOf s o)
-  unfolding orderOf leadOf
-  good-order (Flash v) f = good-flash v f
-  good-order (Rail up) f = same _ refl refl
-  good-order (Mag up) f = same _ refl refl
-  good-order (Half up) f = same _ refl refl
-  good-order (EscapeWay back) f = same _ refl refl
-  good-order (LeadWay back) f = same _ refl refl
-  good-order (Tilt down) f = same _ refl refl
-  good-order (Size index) f = same _ refl refl
-  good-order Stop f = same _ refl refl
-  good-order Cut f = record { carriage-in = r .carriage-in; height-in = at-top }
-  good-order (Lead n) f = let z = s .height .0 +ℤ directedBy (s .modes .«lead_back») n in good-height z (heightAt z) refl
-  good-order (Escape n) f = good-escape n
-
-  good-code : (k : Code) → Fine k → Good (codeEffect s k)
-  unfolding codeEffect
-  good-code Ignored f = r
-  good-code Illegal f = tt
-  good-code Initialize f =
-      good-cond (s .stopped) (Refused afterStop) (Moved (initializedOf s)) (λ _. tt) (λ _. record { carriage-in = at-origin; height-in = r .height-in })
-  good-code (Ordered o) f =
-      let taken = cond (s .stopped) (Refused afterStop) (orderOf s o) in
-      good-cond (s .initialized) (cond (s .cut) (Refused afterCut) taken) (Refused notInitialized)
-      (λ _.
-      good-cond (s .cut) (Refused afterCut) taken (λ _. tt)
-      (λ _. good-cond (s .stopped) (Refused afterStop) (orderOf s o) (λ _. tt) (λ _. good-order o f)))
-      (λ _. tt)
-
-  good : (b : ℕ) → Good (effectOf s b)
-  unfolding effectOf
-  good b = good-code (codeOf (s .machine) b) (fine-code (s .machine) b)
+  good : (b : ℕ) {x : Effect} → effectOf s b ≡ x → Good x
+  good b e = good-by (fine-code (s .machine) b) (causes s b e)
 
   pub stays-sound : (b : ℕ) {t : State} → effectOf s b ≡ Moved t → Sound t
-  stays-sound b e = subst Good e (good b)
+  stays-sound b e = good b e
 
   pub parted-sound : (b : ℕ) {t : State} → effectOf s b ≡ Parted t → Sound t
-  parted-sound b e = subst Good e (good b)
+  parted-sound b e = good b e
 
   pub flashed-valid : (b : ℕ) {c : Character} → effectOf s b ≡ Flashed c → valid heightEnd c ≡ true
-  flashed-valid b e = subst Good e (good b)
+  flashed-valid b e = good b e
 
 pub start-sound : (machine : Machine) → Sound (start machine)
 start-sound machine =

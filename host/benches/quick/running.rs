@@ -133,7 +133,7 @@ fn scan(from: Reached, piece: &[u8]) -> Result<Piece, (usize, usize)> {
     let (mut index, mut count, mut cuts) = (0, 0, 0);
     loop {
         if stage == Stage::Working {
-            let (codes, flashes) = machine.take_common(&piece[index..]);
+            let (codes, flashes) = machine.take_common(&piece[index..], &mut |_, _| ());
             index += codes;
             count += flashes;
             match piece.get(index) {

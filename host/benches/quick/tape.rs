@@ -4,15 +4,10 @@
 use super::{accepted, refused};
 
 pub fn read_tape(tape: &[u8], machine: u32, galley: &mut [u8]) -> [usize; 3] {
-    if tape.len() > 1_048_576 {
-        return refused((1, 0));
-    }
-    let Some(effects) = effects_of(machine) else {
-        return refused((50, 0));
-    };
-    match scan(effects, tape) {
+    match scan(tape, machine, |_, _| ()) {
         Err(refusal) => refused(refusal),
         Ok(codes) => {
+            let effects = codes.effects;
             let needed = 11 * codes.count + 3 * codes.cuts + 7;
             if galley.len() < needed {
                 return refused((12, needed));
@@ -40,7 +35,7 @@ const SIZED: u32 = 1 << 8;
 const LOWER_HALF: u32 = 1 << 9;
 const UNPARKED: u32 = 1 << 10;
 const ESCAPE_BACKWARD: u32 = 1 << 11;
-const LEAD_BACKWARD: u32 = 1 << 12;
+pub const LEAD_BACKWARD: u32 = 1 << 12;
 /// Never set: codes that need one of them take the slow way.
 const NEVER: u32 = 1 << 13;
 const ILLEGAL: u32 = 1 << 14;
@@ -191,9 +186,10 @@ impl Machine {
         Machine { effects, modes: first_modes(effects), place: 0 }
     }
 
-    /// Takes codes as long as they need no second look: how many, and how many flashes among them.
+    /// Takes codes as long as they need no second look: how many, and how many flashes among them. `each` sees
+    /// the modes and the code.
     #[inline(never)]
-    pub(super) fn take_common(&mut self, codes: &[u8]) -> (usize, usize) {
+    pub(super) fn take_common(&mut self, codes: &[u8], each: &mut impl FnMut(u32, u8)) -> (usize, usize) {
         let Machine { effects, mut modes, mut place } = *self;
         let mut count = 0;
         let mut taken = codes.len();
@@ -206,6 +202,7 @@ impl Machine {
                 taken = index;
                 break;
             }
+            each(modes, code);
             place = after;
             modes = modes & effect.keep | effect.set;
             count += usize::from(is_flash(code));
@@ -251,20 +248,26 @@ impl Machine {
 }
 
 /// The codes between the first initialize and stop, and their numbers of flashes and cuts.
-struct Codes {
+pub struct Codes {
+    effects: &'static Effects,
     start: usize,
     stop: usize,
     count: usize,
     cuts: usize,
 }
 
-fn scan(effects: &'static Effects, tape: &[u8]) -> Result<Codes, (usize, usize)> {
+/// The first pass; `each` sees every flash and motion that is taken, with the modes before it.
+pub fn scan(tape: &[u8], machine: u32, mut each: impl FnMut(u32, u8)) -> Result<Codes, (usize, usize)> {
+    if tape.len() > 1_048_576 {
+        return Err((1, 0));
+    }
+    let effects = effects_of(machine).ok_or((50, 0))?;
     let start = match next_code(tape, 0) {
         None => return Err((9, tape.len())),
         Some((0x40, place)) => place + 1,
         Some((code, place)) => return Err((other_code(effects, code, 3), place)),
     };
-    let codes = run(effects, tape, start)?;
+    let codes = run(effects, tape, start, &mut each)?;
     match next_code(tape, codes.stop + 1) {
         None => Ok(codes),
         Some((code, place)) => Err((other_code(effects, code, 4), place)),
@@ -305,16 +308,21 @@ fn initialize_from(effects: &Effects, tape: &[u8], from: usize) -> Result<usize,
 }
 
 /// Runs the machine up to stop.
-fn run(effects: &'static Effects, tape: &[u8], start: usize) -> Result<Codes, (usize, usize)> {
+fn run(
+    effects: &'static Effects,
+    tape: &[u8],
+    start: usize,
+    each: &mut impl FnMut(u32, u8),
+) -> Result<Codes, (usize, usize)> {
     let mut machine = Machine::new(effects);
     let (mut index, mut count, mut cuts) = (start, 0, 0);
     loop {
-        let (codes, flashes) = machine.take_common(&tape[index..]);
+        let (codes, flashes) = machine.take_common(&tape[index..], each);
         index += codes;
         count += flashes;
         match tape.get(index) {
             None => return Err((9, index)),
-            Some(0x49) => return Ok(Codes { start, stop: index, count, cuts }),
+            Some(0x49) => return Ok(Codes { effects, start, stop: index, count, cuts }),
             Some(0x4B) => {
                 index = initialize_from(effects, tape, index + 1)?;
                 machine.cut();
@@ -332,7 +340,7 @@ fn run(effects: &'static Effects, tape: &[u8], start: usize) -> Result<Codes, (u
 }
 
 #[inline(always)]
-fn is_flash(code: u8) -> bool {
+pub fn is_flash(code: u8) -> bool {
     code.wrapping_sub(1) < 63
 }
 
@@ -388,6 +396,12 @@ const BODY_HEIGHT: u64 = 0xFFFF_FFFF_0000;
 /// Parked: the escape of 16 leads to 0.
 const BODY_PARKED: u64 = BODY.word(0, -16);
 
+/// The font number that the modes choose.
+#[inline(always)]
+pub fn font_number(modes: u32) -> u32 {
+    (modes & 127) - (modes >> 4 & 7)
+}
+
 /// What the modes do to the fields.
 struct Setting {
     shift_and_font: u64,
@@ -399,7 +413,7 @@ impl Setting {
     #[inline(always)]
     fn of(modes: u32) -> Setting {
         let shift = 55 * i64::from(modes >> 7 & 1);
-        let font_number = (modes & 127) - (modes >> 4 & 7);
+        let font_number = font_number(modes);
         Setting {
             shift_and_font: BODY.word(0, -shift).wrapping_add(u64::from(font_number) << 8),
             half: 63 & ((modes >> 9 & 1) as u8).wrapping_sub(1),

@@ -1,6 +1,6 @@
 //! One call of an implementation against the plain reading: every answer, every byte.
 
-use crate::implementation::{Answer, Implementation, RunningTape, PLAIN};
+use crate::implementation::{Answer, Implementation, ReportWords, RunningTape, PLAIN};
 use crate::plain;
 use spatecanter::sample::Random;
 use std::collections::BTreeMap;
@@ -327,6 +327,18 @@ impl Comparison {
             shown(input)
         );
         answer
+    }
+
+    /// A tape counted in a report, which both change the same way.
+    pub fn count_tape(&mut self, tape: &[u8], machine: u32, report: &mut ReportWords) {
+        let lent = Lent::holding(&mut self.random, tape);
+        let mut expected = *report;
+        let answer = (self.implementation.count_tape)(lent.slice(), machine, report);
+        let expected_answer = (PLAIN.count_tape)(tape, machine, &mut expected);
+        lent.still_holds(tape);
+        let name = self.implementation.name;
+        assert_eq!(*report, expected, "{name}, the report after {}", shown(tape));
+        self.agree("count_tape", tape, answer, expected_answer);
     }
 
     /// A call that fills one buffer.

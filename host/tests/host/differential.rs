@@ -39,6 +39,7 @@ fn compare(implementation: Implementation) {
     conversions(&mut comparison);
     each_dvi_file(|dvi, widths| comparison.dvi(dvi, widths));
     shown_galleys(&mut comparison);
+    reports(&mut comparison);
     comparison.print();
     every_number_is_met(&comparison);
 }
@@ -177,6 +178,46 @@ fn any_words_are_answered() {
         }
     }
     assert!(refusals >= 20_000);
+}
+
+/// Sessions of tapes of all kinds and machines, each also in another order; reports that nobody counted, and
+/// full ones.
+fn reports(comparison: &mut Comparison) {
+    let mut random = Random::new(SEED + 7);
+    let mut all = [0; 135];
+    for _ in 0..200 {
+        let mut tapes = Vec::new();
+        for _ in 0..random.below(100) {
+            let fonts = random.pick(&[4, 8]);
+            let machine = if random.one_in(20) { random.pick(&[0, 5, 7, 80, u32::MAX]) } else { fonts };
+            tapes.push((cases::tape(&mut random, fonts), machine));
+        }
+        let report = counted(comparison, &tapes);
+        for index in (1..tapes.len()).rev() {
+            tapes.swap(index, random.below(index + 1));
+        }
+        assert_eq!(report, counted(comparison, &tapes), "another order of the tapes");
+        all.iter_mut().zip(report).for_each(|(sum, word)| *sum += word);
+    }
+    // These tapes are too short for 1; under all other numbers some were counted, and lead both ways.
+    assert!((0..13).chain(133..135).all(|word| word == 2 || all[word] >= 20), "{all:?}");
+    for _ in 0..2_000 {
+        let mut report = [0; 135];
+        report.fill_with(|| random.bits() >> random.below(64));
+        report[0] = random.pick(&[0, 65_535, 65_536, 65_537, u64::MAX]);
+        let fonts = random.pick(&[4, 8]);
+        comparison.count_tape(&cases::tape(&mut random, fonts), fonts, &mut report);
+    }
+}
+
+fn counted(comparison: &mut Comparison, tapes: &[(Vec<u8>, u32)]) -> [u64; 135] {
+    let mut report = [0; 135];
+    for (tape, machine) in tapes {
+        comparison.count_tape(tape, *machine, &mut report);
+    }
+    let refused: u64 = report[2..13].iter().sum();
+    assert_eq!([report[0], report[1] + refused], [tapes.len() as u64; 2]);
+    report
 }
 
 fn galleys(comparison: &mut Comparison) {
@@ -333,7 +374,7 @@ fn each_byte_set(bytes: &[u8], value: u8, mut take: impl FnMut(&[u8])) {
 
 /// The cases are worth their number: each answer that small inputs can get was met often.
 fn every_number_is_met(comparison: &Comparison) {
-    let numbers: [(&str, &[usize]); 15] = [
+    let numbers: [(&str, &[usize]); 16] = [
         ("read_tape, 4 fonts", &[0, 2, 3, 4, 5, 6, 7, 8, 9, 10, 12]),
         ("read_tape, 8 fonts", &[0, 2, 3, 4, 5, 6, 7, 8, 9, 10, 12]),
         ("read_tape, no machine", &[50]),
@@ -349,6 +390,7 @@ fn every_number_is_met(comparison: &Comparison) {
         ("punch_tape", &[0, 41, 48, 49]),
         ("to_new", &[0, 41, 44]),
         ("to_old", &[0, 41, 43, 44]),
+        ("count_tape", &[0, 47]),
     ];
     for (operation, expected) in numbers {
         for &number in expected {

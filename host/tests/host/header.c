@@ -314,6 +314,43 @@ static void heights(void)
     height(SP_HEIGHT_LIMIT + 1, SP_GALLEY_MALFORMED, SP_GALLEY_MALFORMED, SP_GALLEY_MALFORMED);
 }
 
+/* Characters of font numbers 2 and 17, leads of 31 forward and 1 backward, and a page that ends by a cut. */
+static const uint8_t lead_tape[] = {0x40, 0xEF, 0x52, 0x4E, 0x01, 0x60, 0x4B, 0x40, 0xEF, 0x02, 0x7E, 0x4C, 0x7E, 0x49};
+
+static void count(const char *what, const uint8_t *bytes, size_t length, uint32_t machine, uint64_t *report)
+{
+    sp_count_tape(bytes, length, machine, report, answer);
+    expect(what, SP_ACCEPTED, 0, 0);
+}
+
+static void reports(void)
+{
+    static uint64_t report[SP_REPORT_WORDS], expected[SP_REPORT_WORDS];
+    size_t number;
+    count("a tape counted", tape, sizeof tape, 8, report);
+    count("leads counted", lead_tape, sizeof lead_tape, 8, report);
+    count("a refused tape counted", BYTES(0x40, 0xEF, 0x52, 0x01, 0x60, 0xFF), 8, report);
+    count("an empty tape counted", NULL, 0, 4, report);
+    count("no machine counted", tape, sizeof tape, 5, report);
+    expected[SP_REPORT_TAPES] = 5;
+    expected[SP_REPORT_ACCEPTED] = 2;
+    expected[SP_REPORT_REFUSED + SP_ILLEGAL_CODE] = 1;
+    expected[SP_REPORT_REFUSED + SP_NO_STOP] = 1;
+    expected[SP_REPORT_NO_MACHINE] = 1;
+    expected[SP_REPORT_FONTS + 2] = 3;
+    expected[SP_REPORT_FONTS + 17] = 1;
+    expected[SP_REPORT_FORWARD] = 32;
+    expected[SP_REPORT_BACKWARD] = 1;
+    expect_true("a report of five tapes", memcmp(report, expected, sizeof report) == 0);
+    for (number = 5; number < SP_REPORT_LIMIT; number++)
+        sp_count_tape(NULL, 0, 8, report, answer);
+    expect("the last tape of a report", SP_ACCEPTED, 0, 0);
+    memcpy(expected, report, sizeof report);
+    sp_count_tape(tape, sizeof tape, 5, report, answer);
+    expect("one tape more", SP_REPORT_FULL, 0, 0);
+    expect_true("a full report", memcmp(report, expected, sizeof report) == 0);
+}
+
 static void nulls(void)
 {
     int32_t character[4];
@@ -383,6 +420,7 @@ int main(void)
     lengths();
     items();
     heights();
+    reports();
     nulls();
     return differ;
 }

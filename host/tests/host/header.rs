@@ -1,6 +1,6 @@
 //! The C header, by programs in C that are compiled over it and linked with the library.
 
-use spatecanter::number;
+use spatecanter::{number, Report};
 use std::collections::BTreeMap;
 use std::fs;
 use std::path::{Path, PathBuf};
@@ -93,6 +93,18 @@ fn the_header_has_the_package_s_numbers() {
         ("SP_DVI_HEIGHT_LIMIT", spatecanter::DVI_HEIGHT_LIMIT as usize),
         ("SP_TAPE_WORDS", spatecanter::ffi::TAPE_WORDS),
     ];
+    let report = [
+        ("SP_REPORT_LIMIT", spatecanter::REPORT_LIMIT as usize),
+        ("SP_REPORT_WORDS", spatecanter::REPORT_WORDS),
+        ("SP_REPORT_TAPES", Report::TAPES),
+        ("SP_REPORT_ACCEPTED", Report::ACCEPTED),
+        ("SP_REPORT_REFUSED", Report::REFUSED),
+        ("SP_REPORT_NO_MACHINE", Report::NO_MACHINE),
+        ("SP_REPORT_FONTS", Report::FONTS),
+        ("SP_REPORT_FORWARD", Report::FORWARD),
+        ("SP_REPORT_BACKWARD", Report::BACKWARD),
+    ];
+    numbers.extend(report.map(|(name, word)| (name.to_string(), word)));
     numbers.extend(limits.map(|(name, limit)| (name.to_string(), limit)));
     let names: Vec<&String> = numbers.keys().collect();
     let in_header: Vec<String> = words(&header(), "SP_");

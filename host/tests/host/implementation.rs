@@ -29,6 +29,7 @@ pub struct Implementation {
     pub punch_tape: Fill,
     pub to_new: Fill,
     pub to_old: Fill,
+    pub count_tape: fn(&[u8], u32, &mut ReportWords) -> Answer,
     pub new_tape: fn() -> Box<dyn RunningTape>,
 }
 
@@ -45,6 +46,9 @@ pub trait RunningTape {
 fn marked([low, high]: [u64; 2]) -> Vec<i32> {
     (0..128).filter(|&font| (if font < 64 { low } else { high }) >> (font % 64) & 1 == 1).collect()
 }
+
+/// The words of a report.
+pub type ReportWords = [u64; 135];
 
 /// The plain reading, with buffers.
 pub const PLAIN: Implementation = Implementation {
@@ -73,6 +77,10 @@ pub const PLAIN: Implementation = Implementation {
     punch_tape: |galley, tape| filled(plain::punch_tape(galley), tape, 49),
     to_new: |old, new| filled(plain::to_new(old), new, 44),
     to_old: |new, old| filled(plain::to_old(new), old, 44),
+    count_tape: |tape, machine, report| match plain::count_tape(tape, machine, report) {
+        Ok(()) => [0; 3],
+        Err((number, place)) => [number, place, 0],
+    },
     new_tape: || Box::new(plain::RunningTape::new()),
 };
 
@@ -117,6 +125,7 @@ pub const QUICK: Implementation = Implementation {
     punch_tape: quick::punch_tape,
     to_new: quick::to_new,
     to_old: quick::to_old,
+    count_tape: quick::count_tape,
     new_tape: || Box::new(quick::RunningTape::new()),
 };
 
@@ -220,6 +229,17 @@ pub const LIBRARY: Implementation = Implementation {
         answered(|answer| unsafe {
             ffi::sp_galley_to_old(new.as_ptr(), new.len(), old.as_mut_ptr(), old.len(), answer)
         })
+    },
+    count_tape: |tape, machine, report| {
+        let mut lent = [0x5A5A_5A5A_5A5A_5A5A_u64; 137];
+        lent[1..136].copy_from_slice(report);
+        let words = lent[1..136].as_mut_ptr().cast();
+        let answer = answered(|answer| unsafe {
+            ffi::sp_count_tape(tape.as_ptr(), tape.len(), machine, words, answer)
+        });
+        assert_eq!([lent[0], lent[136]], [0x5A5A_5A5A_5A5A_5A5A; 2], "written beside the report");
+        report.copy_from_slice(&lent[1..136]);
+        answer
     },
     new_tape: || {
         let mut tape = Words([GUARD; ffi::TAPE_WORDS + 2]);

@@ -44,6 +44,7 @@ fn on_a_small_stack(implementation: Implementation) {
         conversions(&mut comparison);
         each_dvi_file(|dvi, widths| comparison.dvi(dvi, widths));
         back_to_galleys(&mut comparison);
+        reports(&mut comparison);
         comparison.print();
         needs_the_largest_sheet(implementation);
     });
@@ -99,6 +100,33 @@ fn sessions(comparison: &mut Comparison) {
     comparison.session(&flashes.chunks(1_000).collect::<Vec<_>>(), 8);
     let cuts = [0x40, 0x4B].repeat(TAPE_LIMIT / 2);
     comparison.session(&cuts.chunks(999).collect::<Vec<_>>(), 8);
+}
+
+/// The longest tapes of text, of flashes and of leads, and one byte more; then as many tapes as a report takes,
+/// and one more.
+fn reports(comparison: &mut Comparison) {
+    let mut report = [0; 135];
+    for code in [0x2A, 0x60, 0x7F, 0x80] {
+        let mut tape = vec![code; TAPE_LIMIT];
+        tape[..3].copy_from_slice(&[0x40, 0xEF, 0x52]);
+        tape[TAPE_LIMIT - 1] = 0x49;
+        comparison.count_tape(&tape, 8, &mut report);
+        tape.push(0);
+        comparison.count_tape(&tape, 8, &mut report);
+    }
+    // Up and down to the end: more lead than any height.
+    let mut tape = [0x4A, 0x60, 0x4C, 0x60].repeat(TAPE_LIMIT / 4);
+    tape[0] = 0x40;
+    tape[TAPE_LIMIT - 1] = 0x49;
+    comparison.count_tape(&tape, 4, &mut report);
+    for machine in [Machine::Four, Machine::Eight] {
+        comparison.count_tape(&yearbook(machine, 7, TAPE_LIMIT), machine.fonts(), &mut report);
+    }
+    while report[0] < 65_536 {
+        comparison.count_tape(&[0x40, 0xEF, 0x52, 0x60, 0x01, 0x49], 8, &mut report);
+    }
+    comparison.count_tape(&tape, 4, &mut report);
+    comparison.count_tape(&tape, 5, &mut report);
 }
 
 fn galleys(comparison: &mut Comparison) {

@@ -6,7 +6,9 @@ use std::ffi::{OsStr, OsString};
 
 #[derive(Default)]
 pub struct Arguments {
+    /// The first input, and all.
     pub input: OsString,
+    pub inputs: Vec<OsString>,
     /// -o
     pub output: Option<OsString>,
     /// --widths
@@ -25,12 +27,18 @@ pub struct Arguments {
     pub to: Option<OsString>,
     /// --pieces
     pub pieces: Option<OsString>,
+    /// --list
+    pub list: Option<OsString>,
+    /// --format
+    pub format: Option<OsString>,
     /// --force
     pub force: bool,
     /// --plain
     pub plain: bool,
     /// --check
     pub check: bool,
+    /// --tapes
+    pub tapes: bool,
 }
 
 /// Whether --help or -h is among the options.
@@ -38,7 +46,7 @@ pub fn ask_for_help(words: &[OsString]) -> bool {
     words.iter().take_while(|word| *word != "--").any(|word| word == "--help" || word == "-h")
 }
 
-/// One input, and the options that the command has.
+/// The inputs and the options that the command has.
 pub fn parse(command: &Command, words: &[OsString]) -> Result<Arguments, Failure> {
     let wrong = |what: String| Failure::Usage(format!("{what}\nUsage: spatecanter {}", command.usage));
     let mut arguments = Arguments::default();
@@ -53,12 +61,32 @@ pub fn parse(command: &Command, words: &[OsString]) -> Result<Arguments, Failure
             inputs.push(word);
         }
     }
-    match inputs[..] {
-        [input] => arguments.input = input.clone(),
-        [] => return Err(wrong("no input is given".into())),
-        _ => return Err(wrong("more than one input is given".into())),
+    arguments.inputs = inputs.into_iter().cloned().collect();
+    if let Some(fault) = command.inputs.fault(&arguments) {
+        return Err(wrong(fault.into()));
     }
+    arguments.input = arguments.inputs.first().cloned().unwrap_or_default();
     Ok(arguments)
+}
+
+/// How many inputs a command has.
+#[derive(Clone, Copy)]
+pub enum Inputs {
+    One,
+    /// Any number; some, unless there is a list.
+    Some,
+}
+
+impl Inputs {
+    fn fault(self, arguments: &Arguments) -> Option<&'static str> {
+        match (self, arguments.inputs.len()) {
+            (Inputs::One, 1) => None,
+            (Inputs::Some, 0) if arguments.list.is_some() => None,
+            (_, 0) => Some("no input is given"),
+            (Inputs::Some, _) => None,
+            (Inputs::One, _) => Some("more than one input is given"),
+        }
+    }
 }
 
 impl Arguments {
@@ -92,11 +120,12 @@ impl Arguments {
         match name {
             "--plain" => &mut self.plain,
             "--check" => &mut self.check,
+            "--tapes" => &mut self.tapes,
             _ => &mut self.force,
         }
     }
 
-    /// Where an option's value goes; --force, --plain and --check have none.
+    /// Where an option's value goes; --force, --plain, --check and --tapes have none.
     fn slot(&mut self, name: &str) -> Option<&mut Option<OsString>> {
         match name {
             "-o" => Some(&mut self.output),
@@ -108,6 +137,8 @@ impl Arguments {
             "--from" => Some(&mut self.from),
             "--to" => Some(&mut self.to),
             "--pieces" => Some(&mut self.pieces),
+            "--list" => Some(&mut self.list),
+            "--format" => Some(&mut self.format),
             _ => None,
         }
     }

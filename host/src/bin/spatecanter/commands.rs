@@ -1,15 +1,16 @@
 //! The commands.
 
-use crate::arguments::Arguments;
+use crate::arguments::{Arguments, Inputs};
 use crate::explain::{self, Form};
 use crate::failure::{say, Failure};
 use crate::fonts::Fonts;
 use crate::input::{self, shown};
 use crate::output::{self, named_after, Draft, Place};
 use crate::plot::{self, Picture};
+use crate::report::Counted;
 use crate::summary::Summary;
 use crate::text::{self, counted};
-use crate::{help, options, pieces, progress};
+use crate::{help, options, pieces, progress, tapes};
 use spatecanter::galley::characters;
 use spatecanter::{
     sheet, Extents, Machine, Refusal, Reprint, RunningTape, DVI_LIMIT, GALLEY_LIMIT, OLD_GALLEY_LIMIT,
@@ -21,24 +22,41 @@ use std::io::{self, Write};
 pub struct Command {
     pub name: &'static str,
     pub usage: &'static str,
+    pub inputs: Inputs,
     pub options: &'static [&'static str],
     pub help: &'static str,
     pub run: fn(&Arguments) -> Result<(), Failure>,
 }
 
-pub const COMMANDS: [Command; 11] = [
+pub const COMMANDS: [Command; 12] = [
     Command {
         name: "read",
         usage: "read TAPE [--machine 4|8] [--pieces N] [-o GALLEY] [--force]",
+        inputs: Inputs::One,
         options: &["--machine", "--pieces", "-o", "--force"],
         help: help::READ,
         run: read,
     },
-    Command { name: "check", usage: "check GALLEY", options: &[], help: help::CHECK, run: check },
-    Command { name: "list", usage: "list GALLEY", options: &[], help: help::LIST, run: list },
+    Command {
+        name: "check",
+        usage: "check GALLEY",
+        inputs: Inputs::One,
+        options: &[],
+        help: help::CHECK,
+        run: check,
+    },
+    Command {
+        name: "list",
+        usage: "list GALLEY",
+        inputs: Inputs::One,
+        options: &[],
+        help: help::LIST,
+        run: list,
+    },
     Command {
         name: "set",
         usage: "set GALLEY [-o DVI] [--force]",
+        inputs: Inputs::One,
         options: &["-o", "--force"],
         help: help::SET,
         run: set,
@@ -46,6 +64,7 @@ pub const COMMANDS: [Command; 11] = [
     Command {
         name: "show",
         usage: "show DVI [--widths FILE] [--plain|--check] [-o SHEET] [--force]",
+        inputs: Inputs::One,
         options: &["--widths", "--plain", "--check", "-o", "--force"],
         help: help::SHOW,
         run: show,
@@ -53,14 +72,23 @@ pub const COMMANDS: [Command; 11] = [
     Command {
         name: "back",
         usage: "back DVI [--widths FILE] [-o GALLEY] [--force]",
+        inputs: Inputs::One,
         options: &["--widths", "-o", "--force"],
         help: help::BACK,
         run: back,
     },
-    Command { name: "sheet", usage: "sheet SHEET", options: &[], help: help::SHEET, run: list_sheet },
+    Command {
+        name: "sheet",
+        usage: "sheet SHEET",
+        inputs: Inputs::One,
+        options: &[],
+        help: help::SHEET,
+        run: list_sheet,
+    },
     Command {
         name: "reprint",
         usage: REPRINT_USAGE,
+        inputs: Inputs::One,
         options: &["--machine", "--fonts", "-d", "--force"],
         help: help::REPRINT,
         run: reprint,
@@ -68,6 +96,7 @@ pub const COMMANDS: [Command; 11] = [
     Command {
         name: "plot",
         usage: PLOT_USAGE,
+        inputs: Inputs::One,
         options: &["--machine", "--fonts", "--page", "--from", "--to", "-o", "--force"],
         help: help::PLOT,
         run: draw,
@@ -75,6 +104,7 @@ pub const COMMANDS: [Command; 11] = [
     Command {
         name: "punch",
         usage: "punch GALLEY [-o TAPE] [--force]",
+        inputs: Inputs::One,
         options: &["-o", "--force"],
         help: help::PUNCH,
         run: punch,
@@ -82,14 +112,24 @@ pub const COMMANDS: [Command; 11] = [
     Command {
         name: "convert",
         usage: CONVERT_USAGE,
+        inputs: Inputs::One,
         options: &["--to", "-o", "--force"],
         help: help::CONVERT,
         run: convert,
+    },
+    Command {
+        name: "report",
+        usage: REPORT_USAGE,
+        inputs: Inputs::Some,
+        options: &["--machine", "--list", "--format", "--tapes"],
+        help: help::REPORT,
+        run: report,
     },
 ];
 
 pub const REPRINT_USAGE: &str = "reprint TAPE [--machine 4|8] [--fonts NAMES] -d FOLDER [--force]";
 pub const CONVERT_USAGE: &str = "convert --to new|old GALLEY [-o GALLEY] [--force]";
+const REPORT_USAGE: &str = "report PATH... [--machine 4|8] [--list FILE] [--format csv|json] [--tapes]";
 const PLOT_USAGE: &str = "plot TAPE|GALLEY [--machine 4|8] [--fonts NAMES] [--page N] [--from HEIGHT] \
                           [--to HEIGHT] [-o SVG] [--force]";
 
@@ -267,6 +307,13 @@ fn draw(arguments: &Arguments) -> Result<(), Failure> {
         ));
     }
     Ok(())
+}
+
+fn report(arguments: &Arguments) -> Result<(), Failure> {
+    let format = options::format(arguments)?;
+    let tapes = tapes::named(arguments)?;
+    let counted = Counted::of(&tapes, arguments.tapes)?;
+    print(|out| counted.write(format, out))
 }
 
 /// The galley of an input that is a galley or a tape, and its machine: a galley's is the one named, if any.

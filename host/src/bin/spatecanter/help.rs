@@ -2,7 +2,8 @@
 
 pub const WHOLE: &str = "\
 C/A/T phototypesetter tapes to galleys, galleys to DVI files of 1980, and DVI files to
-sheets and back to galleys; galleys back to tapes, and old galleys to new ones and back.
+sheets and back to galleys; galleys back to tapes, and old galleys to new ones and back;
+and reports over many tapes.
 
 Usage: spatecanter COMMAND ...
 
@@ -17,11 +18,12 @@ Usage: spatecanter COMMAND ...
   plot TAPE|GALLEY [--page N] [-o SVG]  a picture of the pages
   punch GALLEY [-o TAPE]                a galley to a tape of the 8-font machine
   convert --to new|old GALLEY           an old galley to a new one, or back
+  report PATH... [--tapes]              many tapes in numbers
 
   COMMAND --help                        more about a command
   --version                             the version
 
-Machines. A tape does not say whether its machine had 4 or 8 fonts: read, reprint and plot
+Machines. A tape does not say whether its machine had 4 or 8 fonts: commands that take tapes
 take --machine 4 or --machine 8. Without it the machine has 8, and a tape without a tilt code
 gives a hint, since it may be of the other.
 
@@ -262,4 +264,31 @@ Numbers:
 
 Without -o the new form of page.galley is page.galley.new.galley, its old form
 page.galley.old.galley. --force writes over a file that is there already.
+";
+
+pub const REPORT: &str = "\
+Reads many tapes and tells in numbers what they hold. Nothing is written but the report, to
+standard output.
+
+Usage: spatecanter report PATH... [--machine 4|8] [--list FILE] [--format csv|json] [--tapes]
+
+A path is a tape, or a folder: all files in it and in the folders below are tapes, but for
+names that start with a dot. The machine of all is that of --machine, without it 8. A list has a line for each tape, with its path and
+its machine, as in shelf/3.tape 4; empty lines and lines that start with # count for nothing,
+and paths are as on the command line. With --list no other path is needed; the tapes of the
+list come first.
+
+The report has the tapes accepted, and refused under each number of read (50 for a machine in
+the list other than 4 or 8); the characters of accepted tapes, for each font and size; and
+their forward and backward lead, in quanta of 1/144 inch. Forward less backward lead is the
+sum of the heights at which their pages ended. The order of the tapes makes no difference.
+
+--tapes adds a line for each tape: its characters and pages, or its refusal with number and
+place. --format csv has the columns count, of and value, with a line for each number and each
+font number, 0 to 119; with --tapes it has instead a line for each tape, with the columns
+path, machine, number, place, characters and pages. --format json is one object, with the
+tapes in the list each if --tapes is given.
+
+Refused tapes are counted, and the exit status is 0. The number is
+  47  there are more than 65,536 tapes; at 0
 ";

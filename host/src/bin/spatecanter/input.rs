@@ -20,13 +20,29 @@ pub fn read_while(
     limit: usize,
     mut looks_good: impl FnMut(&[u8]) -> bool,
 ) -> Result<Vec<u8>, Failure> {
-    let result = progress::during(&format!("reading {}", shown(name)), || {
-        let mut input = open(name)?.take(limit as u64 + 1);
-        let mut bytes = Vec::new();
-        while input.by_ref().take(PIECE).read_to_end(&mut bytes)? > 0 && looks_good(&bytes) {}
-        Ok(bytes)
-    });
-    result.map_err(|error: io::Error| Failure::File(format!("cannot read {}: {error}", shown(name))))
+    progress::during(&format!("reading {}", shown(name)), || read_pieces(name, limit, &mut looks_good))
+        .map_err(|error| unread(name, &error))
+}
+
+/// Reads one of many inputs, of which none is told by itself.
+pub fn read_one_of_many(name: &OsStr, limit: usize) -> Result<Vec<u8>, Failure> {
+    read_pieces(name, limit, &mut |_| true).map_err(|error| unread(name, &error))
+}
+
+fn read_pieces(
+    name: &OsStr,
+    limit: usize,
+    looks_good: &mut impl FnMut(&[u8]) -> bool,
+) -> io::Result<Vec<u8>> {
+    let mut input = open(name)?.take(limit as u64 + 1);
+    let mut bytes = Vec::new();
+    while input.by_ref().take(PIECE).read_to_end(&mut bytes)? > 0 && looks_good(&bytes) {}
+    Ok(bytes)
+}
+
+/// An input or a folder that cannot be read.
+pub fn unread(name: &OsStr, error: &io::Error) -> Failure {
+    Failure::File(format!("cannot read {}: {error}", shown(name)))
 }
 
 /// Reads an input as it comes, and has `take` take each piece of at most so many bytes.

@@ -12,8 +12,10 @@ mod output;
 mod pieces;
 mod plot;
 mod progress;
+mod report;
 mod signals;
 mod summary;
+mod tapes;
 mod targets;
 mod text;
 

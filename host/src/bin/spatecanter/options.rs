@@ -4,6 +4,7 @@ use crate::arguments::Arguments;
 use crate::commands::{CONVERT_USAGE, REPRINT_USAGE};
 use crate::explain::Form;
 use crate::failure::Failure;
+use crate::report::Format;
 use crate::text::grouped;
 use spatecanter::{Machine, HEIGHT_LIMIT, TAPE_LIMIT};
 use std::ffi::OsStr;
@@ -61,6 +62,21 @@ pub fn form(arguments: &Arguments) -> Result<Form, Failure> {
         Some("old") => Ok(Form::Old),
         _ => Err(Failure::Usage(format!(
             "--to {} is no form of a galley: it is new or old",
+            word.to_string_lossy()
+        ))),
+    }
+}
+
+/// The format that --format names.
+pub fn format(arguments: &Arguments) -> Result<Format, Failure> {
+    let Some(word) = &arguments.format else {
+        return Ok(Format::Table);
+    };
+    match word.to_str() {
+        Some("csv") => Ok(Format::Csv),
+        Some("json") => Ok(Format::Json),
+        _ => Err(Failure::Usage(format!(
+            "--format {} is no format: it is csv or json, and a table for people without it",
             word.to_string_lossy()
         ))),
     }

@@ -4,6 +4,7 @@ mod outputs;
 mod pictures;
 mod pieces;
 mod refusals;
+mod reports;
 mod usage;
 mod ways;
 

@@ -7,9 +7,10 @@ fn help_for_the_whole_and_for_each_command() {
     let folder = folder("help");
     let whole = run(&folder, &["--help"]);
     assert_eq!((whole.status, whole.err.as_str()), (0, ""));
-    for name in
-        ["read", "check", "list", "set", "show", "back", "sheet", "reprint", "plot", "punch", "convert"]
-    {
+    for name in [
+        "read", "check", "list", "set", "show", "back", "sheet", "reprint", "plot", "punch", "convert",
+        "report",
+    ] {
         assert!(whole.text().contains(&format!("\n  {name} ")), "{name} in the whole help");
         let usage = format!("Usage: spatecanter {name} ");
         for words in [[name, "--help"], [name, "-h"], ["help", name]] {
@@ -24,7 +25,7 @@ fn help_for_the_whole_and_for_each_command() {
 fn wrong_usage_is_2() {
     let folder = folder("usage");
     fs::write(folder.join("p3.tape"), hex(P3_TAPE)).unwrap();
-    let calls: [&[&str]; 39] = [
+    let calls: [&[&str]; 47] = [
         &[],
         &["reed", "p3.tape"],
         &["read"],
@@ -64,6 +65,14 @@ fn wrong_usage_is_2() {
         &["convert", "--to=", "p3.tape"],
         &["convert", "--to", "new", "--to", "old", "p3.tape"],
         &["check", "p3.tape", "--to", "new"],
+        &["report"],
+        &["report", "p3.tape", "--format", "xml"],
+        &["report", "p3.tape", "--tapes=yes"],
+        &["report", "p3.tape", "--tapes", "--tapes"],
+        &["report", "p3.tape", "--machine", "5"],
+        &["report", "p3.tape", "missing.tape"],
+        &["report", "--list", "missing.list"],
+        &["report", "--list", "p3.tape"],
     ];
     for words in calls {
         let run = run(&folder, words);

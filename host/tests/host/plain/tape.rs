@@ -21,9 +21,24 @@ pub struct Machine {
     upper_mag: bool,
     tilt_down: bool,
     size_index: Option<i32>,
+    /// The leads taken so far.
+    forward: u64,
+    backward: u64,
+}
+
+/// What an accepted tape holds.
+pub struct Reading {
+    pub items: Vec<Item>,
+    /// The sums of the leads that were taken in each direction.
+    pub forward: u64,
+    pub backward: u64,
 }
 
 pub fn read_tape(tape: &[u8], fonts: u32) -> Result<Vec<u8>, Refused> {
+    Ok(galley_of(NEW, &reading(tape, fonts)?.items))
+}
+
+pub fn reading(tape: &[u8], fonts: u32) -> Result<Reading, Refused> {
     if tape.len() > 1_048_576 {
         return Err((1, 0));
     }
@@ -45,7 +60,7 @@ pub fn read_tape(tape: &[u8], fonts: u32) -> Result<Vec<u8>, Refused> {
     if !machine.stopped {
         return Err((9, tape.len()));
     }
-    Ok(galley_of(NEW, &items))
+    Ok(Reading { items, forward: machine.forward, backward: machine.backward })
 }
 
 impl Machine {
@@ -66,6 +81,8 @@ impl Machine {
             upper_mag: false,
             tilt_down: false,
             size_index: None,
+            forward: 0,
+            backward: 0,
         }
     }
 
@@ -191,6 +208,11 @@ impl Machine {
             return Err(7);
         }
         self.height = height;
+        if self.lead_backward {
+            self.backward += size as u64;
+        } else {
+            self.forward += size as u64;
+        }
         Ok(())
     }
 }

@@ -1,7 +1,7 @@
 //! The operations that directed cases name, with their inputs and buffers named as in include/spatecanter.h.
 
 use super::text::{bytes, number, numbers, Words};
-use crate::implementation::{Answer, Implementation, RunningTape};
+use crate::implementation::{Answer, Implementation, ReportWords, RunningTape};
 
 /// A call of any implementation, with the names of the buffers that are lent to it.
 pub struct Call {
@@ -68,6 +68,15 @@ impl Call {
                 let new_galley = inputs.take("new_galley", bytes)?;
                 Call::of(&["old_galley"], move |them, lent| (them.to_old)(&new_galley, lent[0]))
             }
+            "count_tape" => {
+                let (tape, machine) = (inputs.take("tape", bytes)?, inputs.take("machine", number)?);
+                let before = inputs.find("report", report)?.unwrap_or([0; 135]);
+                Call::of(&[], move |them, _| {
+                    let mut report = before;
+                    let answer = (them.count_tape)(&tape, machine, &mut report);
+                    (answer, report)
+                })
+            }
             other => Err(format!("there is no operation `{other}`")),
         }
     }
@@ -87,12 +96,13 @@ impl Call {
     }
 }
 
-/// What a call gives back beside what it writes: its answer, and reading back a character, or extents, too.
+/// What a call gives back beside what it writes: its answer, and reading back a character, extents or a report too.
 #[derive(PartialEq, Debug)]
 pub struct Given {
     answer: Answer,
     character: Option<[i32; 4]>,
     extents: Option<([i32; 2], Vec<i32>)>,
+    report: Option<Box<ReportWords>>,
 }
 
 impl Given {
@@ -104,6 +114,7 @@ impl Given {
                 let reach = outputs.find("reach", reach)?.unwrap_or_default();
                 Ok((reach, outputs.find("fonts", numbers)?.unwrap_or_default()).into())
             }
+            "count_tape" => Ok((answer, outputs.take("report", report)?).into()),
             _ => Ok(answer.into()),
         }
     }
@@ -111,20 +122,31 @@ impl Given {
 
 impl From<Answer> for Given {
     fn from(answer: Answer) -> Given {
-        Given { answer, character: None, extents: None }
+        Given { answer, character: None, extents: None, report: None }
     }
 }
 
 impl From<(Answer, [i32; 4])> for Given {
     fn from((answer, character): (Answer, [i32; 4])) -> Given {
-        Given { answer, character: Some(character), extents: None }
+        Given { answer, character: Some(character), extents: None, report: None }
     }
 }
 
 impl From<([i32; 2], Vec<i32>)> for Given {
     fn from(extents: ([i32; 2], Vec<i32>)) -> Given {
-        Given { answer: [0; 3], character: None, extents: Some(extents) }
+        Given { answer: [0; 3], character: None, extents: Some(extents), report: None }
     }
+}
+
+impl From<(Answer, ReportWords)> for Given {
+    fn from((answer, report): (Answer, ReportWords)) -> Given {
+        Given { answer, character: None, extents: None, report: Some(Box::new(report)) }
+    }
+}
+
+/// The words of a report.
+fn report(text: &str) -> Result<ReportWords, String> {
+    numbers(text)?.try_into().map_err(|_| "135 numbers are wanted".into())
 }
 
 /// Two numbers: x, height.

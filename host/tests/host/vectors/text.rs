@@ -69,14 +69,14 @@ pub fn number<T: FromStr>(text: &str) -> Result<T, String> {
 }
 
 /// Numbers with commas between them; `n*count` is a number so many times.
-pub fn numbers(text: &str) -> Result<Vec<i32>, String> {
+pub fn numbers<T: FromStr + Clone>(text: &str) -> Result<Vec<T>, String> {
     let mut numbers = Vec::new();
     if text.is_empty() {
         return Ok(numbers);
     }
     for part in text.split(',') {
         let (value, count) = part.split_once('*').unwrap_or((part, "1"));
-        let (value, count): (i32, usize) = (number(value)?, number(count)?);
+        let (value, count): (T, usize) = (number(value)?, number(count)?);
         in_reach(count.saturating_add(numbers.len()))?;
         numbers.extend(vec![value; count]);
     }
@@ -170,5 +170,5 @@ fn bytes_are_written_short() {
         assert!(bytes(text).is_err(), "{text}");
     }
     assert_eq!(numbers("-1,3*2,7"), Ok(vec![-1, 3, 3, 7]));
-    assert_eq!(numbers(""), Ok(vec![]));
+    assert_eq!(numbers::<i32>(""), Ok(vec![]));
 }

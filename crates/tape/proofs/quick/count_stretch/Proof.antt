@@ -1,24 +1,18 @@
--- `tape::quick::count_stretch` meets its contract. What a pass keeps is kept code by code, whatever it started from.
+-- `tape::quick::count_stretch` meets its contract. Each turn is one code more.
 -- Assumes nothing.
-use mathlib.Core.Path.{_≡_, sym, subst}
-use mathlib.Core.Bool.{false}
-use mathlib.Core.List.{List}
-use Prim.Native.Nat.{ℕ, _+_, _-_, _≤_, _<_}
+use mathlib.Core.Path.{sym, subst}
+use Prim.Native.Nat.{ℕ, _+_, _-_, _≤_}
 use native.Mathlib.Omega.{arith}
 use borrow.Author.Needs.{needs}
 use lib.ListN.{length, getD}
-use Rattle.measure.specs.declared.Units.{Units}
 use Rattle.tape.specs.declared.quick.Stretch.{Stretch}
-use Rattle.typesetter.specs.StepLaws.{placed}
-use Rattle.tape.specs.Quick.{stretchAt}
-use Rattle.tape.specs.Pass.{Stretched}
-use Rattle.tape.proofs.Quicks.{one-at-most, counted, still-derived}
-use Rattle.tape.proofs.Passes.{further-start, further-counted}
+use Rattle.tape.specs.Quick.{stretchAt, Strides, stands}
+use Rattle.tape.proofs.Quicks.{one-at-most, strides-more}
 use Rattle.tape.proofs.quick.count_stretch.Statement.{statement}
 use Rattle.tape.proofs.quick.count_stretch.Tie as tie
 
 abbrev Inv-loop : tie.InvT-loop
-Inv-loop s d tape from before r₀ r = ((out : List ℕ) (cuts : ℕ) → Stretched false tape out s before cuts from r out) × (r .count ≤ r .next)
+Inv-loop s d tape from before r₀ r = Strides tape s (d .font) (stretchAt s from before) r × (r .count ≤ r .next)
 
 abbrev μ-loop : tie.MeasureT-loop
 μ-loop s d tape from before r₀ r = length tape - r .next
@@ -30,8 +24,8 @@ loop-holds : tie.Need-loop-holds Inv-loop μ-loop
 loop-holds c =
     let start = c .before .before in
     let a = start .args in
-    subst (λ (r : Stretch). ((out : List ℕ) (cuts : ℕ) → Stretched false (a .tape .now) out (a .s) (a .before) cuts (a .from) r out) × (r .count ≤ r .next)) (sym (c .at-state .ensures))
-    (λ out cuts. further-start false (a .tape .now) out (a .s) (a .before) cuts (a .from), start .pre .1)
+    subst (λ (r : Stretch). Strides (a .tape .now) (a .s) (a .d .font) (stretchAt (a .s) (a .from) (a .before)) r × (r .count ≤ r .next)) (sym (c .at-state .ensures))
+    (stands, start .pre .1)
 
 shared-slice-read-b : tie.Need-shared-slice-read-b Inv-loop μ-loop
 shared-slice-read-b c = search needs
@@ -75,10 +69,8 @@ loop-again c =
     let way = c .before .before .before .before .before .before in
     let k = c .before .before .before .before .c .given in
     let n = c .before .before .flashes-in in
-    let one = counted (placed (a .s) (r .carriage)) code (a .d) (still-derived (a .s) (r .carriage) (a .s .height) (start .pre .0 .1)) takes (k .0 .0) (cc (way .escape .ensures, way .before .escape-by .ensures, k .1)) in (
-      λ out cuts.
-          subst (λ (m : ℕ). Stretched false (a .tape .now) out (a .s) (a .before) cuts (a .from) (record { next = r .next + 1; carriage = k .0 .0; count = r .count + m }) out) (sym (n .ensures))
-          (further-counted (a .tape .now) out (a .s) (a .before) cuts (a .from) r (l .inv .0 out cuts) test (k .0 .0) one),
+    let more = strides-more (a .tape .now) (a .s) (a .d) (start .pre .0 .1) (stretchAt (a .s) (a .from) (a .before)) r (l .inv .0) test takes (k .0 .0) (cc (way .escape .ensures, way .before .escape-by .ensures, k .1)) in (
+      subst (λ (m : ℕ). Strides (a .tape .now) (a .s) (a .d .font) (stretchAt (a .s) (a .from) (a .before)) (record { next = r .next + 1; carriage = k .0 .0; count = r .count + m })) (sym (n .ensures)) more,
       omega (arith, n .ensures, one-at-most code, l .inv .1),
     )
 

@@ -4,6 +4,7 @@ use mathlib.Core.Path.{sym, subst}
 use mathlib.Core.Bool.{Bool}
 use borrow.Author.Needs.{needs}
 use Rattle.tape.specs.Pass.{Stretched}
+use Rattle.tape.proofs.Passes.{further-strides}
 use Rattle.tape.proofs.quick.quick_stretch.Statement.{statement}
 use Rattle.tape.proofs.quick.quick_stretch.Tie as tie
 
@@ -26,7 +27,7 @@ returns-2 : tie.Need-returns-2
 returns-2 c =
     let a = c .before .before .before .before .args in
     let n = c .count-stretch in
-    subst (λ (t : Bool). Stretched t (a .tape .now) (a .out .now) (a .s) (a .before) (a .cuts) (a .from) (n .result) (a .out .now)) (sym (c .before .if1 .left)) (n .ensures (a .out .now) (a .cuts))
+    subst (λ (t : Bool). Stretched t (a .tape .now) (a .out .now) (a .s) (a .before) (a .cuts) (a .from) (n .result) (a .out .now)) (sym (c .before .if1 .left)) (further-strides (a .tape .now) (a .out .now) (a .s) (a .cuts) (n .ensures))
 
 pub quick-stretch-spec : {M : Type 1} → statement M
 quick-stretch-spec =

@@ -1,0 +1,215 @@
+-- `figures::quick_tally` meets its contract: what a count keeps is kept by each stretch, each turn and each lead.
+-- Assumes nothing.
+use mathlib.Core.Path.{_≡_, sym, subst}
+use mathlib.Core.List.{List}
+use Prim.Native.Nat.{ℕ, _+_, _-_, _<_}
+use native.Mathlib.Omega.{arith}
+use borrow.Author.Needs.{needs}
+use lib.ListN.{length, getD}
+use mir.Syntax.{w64}
+use mir.Val.{Fits}
+use Rattle.typesetter.specs.declared.machine.State.{State}
+use Rattle.typesetter.specs.StepLaws.{placed}
+use Rattle.tape.specs.Quick.{DerivedFrom, Leads}
+use Rattle.tape.proofs.Turns.{turn-taken}
+use Rattle.tape.proofs.Quicks.{still-derived}
+use Rattle.figures.specs.declared.Halt.{Halt}
+use Rattle.figures.specs.Counting.{Onward}
+use Rattle.figures.proofs.Countings.{onward-start, onward-strides, onward-turned, onward-led, strides-onward}
+use Rattle.figures.proofs.quick_tally.Statement.{statement}
+use Rattle.figures.proofs.quick_tally.Tie as tie
+
+abbrev Inv-loop : tie.InvT-loop
+Inv-loop tape from ahead back fonts₀ s₀ d₀ forward₀ backward₀ i₀ fonts s d forward backward i = Onward tape fonts₀ s₀ ahead back from fonts s forward backward i × DerivedFrom s d
+
+abbrev μ-loop : tie.MeasureT-loop
+μ-loop tape from ahead back fonts₀ s₀ d₀ forward₀ backward₀ i₀ fonts s d forward backward i = length tape - i
+
+-- the laws of a turn of the loop, after its stretch
+module _ (c : tie.After-slice-known2 Inv-loop μ-loop) where
+  abbrev start : tie.Start Inv-loop μ-loop
+  start = c .before .before .before .before .before .before .before .before .before .before .before .before
+
+  abbrev now : State
+  now = placed (c .before .before .before .before .before .before .before .before .loop .s) (c .before .before .before .before .before .before .count-stretch .result .carriage)
+
+  abbrev i : ℕ
+  i = c .before .before .before .before .before .before .count-stretch .result .next
+
+  abbrev fonts : List ℕ
+  fonts = c .before .before .add-at .last .0
+
+  onward : let a = start .args in let l = c .before .before .before .before .before .before .before .before .loop in Onward (a .tape .now) (a .fonts .now) (a .first) (a .ahead) (a .back) (a .from) fonts now (l .forward) (l .backward) i
+  onward =
+      let a = start .args in
+      let l = c .before .before .before .before .before .before .before .before .loop in
+      onward-strides (a .tape .now) (a .fonts .now) (a .first) (a .ahead) (a .back) (a .from) (l .fonts) (l .s) (l .forward) (l .backward) (l .i) (l .inv .0) (c .before .before .before .before .before .before .count-stretch .ensures)
+      (omega (arith, l .inv .1 .numbered, l .inv .0 .same, start .pre .1)) fonts (c .before .before .add-at .ensures)
+
+  derived : DerivedFrom now (c .before .before .before .before .before .before .before .before .loop .d)
+  derived = let l = c .before .before .before .before .before .before .before .before .loop in still-derived (l .s) (c .before .before .before .before .before .before .count-stretch .result .carriage) (l .s .height) (l .inv .1)
+
+  module _ (h : i < length (start .args .tape .now)) where
+    next-i : Fits w64 (i + 1)
+    next-i = omega (arith, h, start .good)
+
+    less : length (start .args .tape .now) - (i + 1) < length (start .args .tape .now) - c .before .before .before .before .before .before .before .before .loop .i
+    less = omega (arith, h, strides-onward (c .before .before .before .before .before .before .count-stretch .ensures))
+
+-- what is kept, said of the answer
+halts : (s : tie.Start Inv-loop μ-loop) {t : State} {f b j : ℕ} {later : List ℕ} {h : Halt} → h ≡ record { next = j; state = t; forward = f; backward = b }
+    → let a = s .args in Onward (a .tape .now) (a .fonts .now) (a .first) (a .ahead) (a .back) (a .from) later t f b j
+    → Onward (a .tape .now) (a .fonts .now) (a .first) (a .ahead) (a .back) (a .from) later (h .state) (h .forward) (h .backward) (h .next)
+halts s {later = later} e f =
+    let a = s .args in
+    subst (λ (h : Halt). Onward (a .tape .now) (a .fonts .now) (a .first) (a .ahead) (a .back) (a .from) later (h .state) (h .forward) (h .backward) (h .next)) (sym e) f
+
+derived-of-requires : tie.Need-derived-of-requires Inv-loop μ-loop
+derived-of-requires c κs = search needs
+
+loop-holds : tie.Need-loop-holds Inv-loop μ-loop
+loop-holds c = let a = c .before .before .before .args in (onward-start (a .tape .now) (a .fonts .now) (a .first) (a .ahead) (a .back) (a .from), c .derived-of .ensures)
+
+count-stretch-requires : tie.Need-count-stretch-requires Inv-loop μ-loop
+count-stretch-requires c κs = let l = c .before .loop in ((l .inv .0 .sound (c .before .before .before .before .before .pre .0), l .inv .1), omega arith)
+
+cast-add-at : tie.Need-cast-add-at Inv-loop μ-loop
+cast-add-at c = search needs
+
+add-at-requires : tie.Need-add-at-requires Inv-loop μ-loop
+add-at-requires c κs = let l = c .before .before .before .before .before .loop in omega (arith, l .inv .1 .numbered, l .inv .0 .same, c .before .before .before .before .before .before .before .before .before .pre .1)
+
+shared-slice-read-b : tie.Need-shared-slice-read-b Inv-loop μ-loop
+shared-slice-read-b c = search needs
+
+takes-turn-requires : tie.Need-takes-turn-requires Inv-loop μ-loop
+takes-turn-requires c κs = search needs
+
+modes-after-requires : tie.Need-modes-after-requires Inv-loop μ-loop
+modes-after-requires c κs = search needs
+
+size-after-requires : tie.Need-size-after-requires Inv-loop μ-loop
+size-after-requires c κs = search needs
+
+derived-of-requires-2 : tie.Need-derived-of-requires-2 Inv-loop μ-loop
+derived-of-requires-2 c κs = search needs
+
+add-i : tie.Need-add-i Inv-loop μ-loop
+add-i c = next-i (c .before .before .before .before .before .before .before) (c .before .before .before .before .before .before .if1 .taken)
+
+loop-less : tie.Need-loop-less Inv-loop μ-loop
+loop-less c = less (c .before .before .before .before .before .before .before) (c .before .before .before .before .before .before .if1 .taken)
+
+loop-again : tie.Need-loop-again Inv-loop μ-loop
+loop-again c = let t = c .before .before .before .before .before .before .before in
+    let a = start t .args in
+    let l = c .before .before .before .before .before .before .before .before .before .before .before .before .before .before .before .loop in
+    let turn = c .before .before .before .before .takes-turn .ensures (c .before .before .before .if2 .taken) in
+    let m = c .before .before .modes-after in
+    let z = c .before .size-after in
+    let high = turn .1 .high in (
+      onward-turned (a .tape .now) (a .fonts .now) (a .first) (a .ahead) (a .back) (a .from) (fonts t) (now t) (l .forward) (l .backward) (i t) (onward t) (c .before .before .before .before .before .before .if1 .taken) _
+          (turn-taken (now t) (turn .0) (getD (a .tape .now) (i t) 0) (turn .1) (m .result) (m .ensures) (z .result) (z .ensures)) (λ h. absurd (omega (arith, high))),
+      c .derived-of2 .ensures,
+    )
+
+led-requires : tie.Need-led-requires Inv-loop μ-loop
+led-requires c κs = search needs
+
+enum-known-h : tie.Need-enum-known-h Inv-loop μ-loop
+enum-known-h c = search needs
+
+forward-by-requires : tie.Need-forward-by-requires Inv-loop μ-loop
+forward-by-requires c κs = search needs
+
+wrapping-add-u64-requires : tie.Need-wrapping-add-u64-requires Inv-loop μ-loop
+wrapping-add-u64-requires c κs = search needs
+
+backward-by-requires : tie.Need-backward-by-requires Inv-loop μ-loop
+backward-by-requires c κs = search needs
+
+wrapping-add-u64-requires-2 : tie.Need-wrapping-add-u64-requires-2 Inv-loop μ-loop
+wrapping-add-u64-requires-2 c κs = search needs
+
+add-i-2 : tie.Need-add-i-2 Inv-loop μ-loop
+add-i-2 c = next-i (c .before .before .before .before .before .before .before .before .before .before .before .before) (c .before .before .before .before .before .before .before .before .before .before .before .if1 .taken)
+
+loop-less-2 : tie.Need-loop-less-2 Inv-loop μ-loop
+loop-less-2 c = less (c .before .before .before .before .before .before .before .before .before .before .before .before) (c .before .before .before .before .before .before .before .before .before .before .before .if1 .taken)
+
+loop-again-2 : tie.Need-loop-again-2 Inv-loop μ-loop
+loop-again-2 c = let t = c .before .before .before .before .before .before .before .before .before .before .before .before in
+    let a = start t .args in
+    let l = c .before .before .before .before .before .before .before .before .before .before .before .before .before .before .before .before .before .before .before .before .loop in
+    let k = c .before .before .before .before .before .h .given in
+    let f = c .before .before .before .forward-by in
+    let b = c .before .backward-by in (
+      onward-led (a .tape .now) (a .fonts .now) (a .first) (a .ahead) (a .back) (a .from) (fonts t) (now t) (l .forward) (l .backward) (i t) (onward t) (c .before .before .before .before .before .before .before .before .before .before .before .if1 .taken) _
+          (subst (Leads (now t) (getD (a .tape .now) (i t) 0)) (k .1) (c .before .before .before .before .before .before .before .led .ensures)) (f .result) (b .result) (f .ensures .0) (b .ensures .0) (f .ensures .1) (b .ensures .1) _ _ (c .before .before .wrapping-add-u64 .ensures) (c .wrapping-add-u642 .ensures),
+      still-derived (now t) (now t .carriage) (k .0 .0) (derived t),
+    )
+
+enum-told : tie.Need-enum-told Inv-loop μ-loop
+enum-told c = search needs
+
+halted-requires : tie.Need-halted-requires Inv-loop μ-loop
+halted-requires c κs = search needs
+
+same-length : tie.Need-same-length Inv-loop μ-loop
+same-length c = onward (c .before .before .before .before .before .before .before .before) .same
+
+returns : tie.Need-returns Inv-loop μ-loop
+returns c = halts (start (c .before .before .before .before .before .before .before .before)) (c .halted .ensures) (onward (c .before .before .before .before .before .before .before .before))
+
+loop-less-3 : tie.Need-loop-less-3 Inv-loop μ-loop
+loop-less-3 c = omega (arith, c .if1 .left, c .before .before .before .before .before .before .before .before .loop-test .taken)
+
+loop-again-3 : tie.Need-loop-again-3 Inv-loop μ-loop
+loop-again-3 c = (onward (c .before), derived (c .before))
+
+halted-requires-2 : tie.Need-halted-requires-2 Inv-loop μ-loop
+halted-requires-2 c κs = search needs
+
+same-length-2 : tie.Need-same-length-2 Inv-loop μ-loop
+same-length-2 c = c .before .before .loop .inv .0 .same
+
+returns-2 : tie.Need-returns-2 Inv-loop μ-loop
+returns-2 c = halts (c .before .before .before .before .before .before) (c .halted2 .ensures) (c .before .before .loop .inv .0)
+
+pub quick-tally-spec : {M : Type 1} → statement M
+quick-tally-spec =
+    tie.close
+    (tie.spec
+    Inv-loop
+    μ-loop
+    derived-of-requires
+    loop-holds
+    count-stretch-requires
+    cast-add-at
+    add-at-requires
+    shared-slice-read-b
+    takes-turn-requires
+    modes-after-requires
+    size-after-requires
+    derived-of-requires-2
+    add-i
+    loop-less
+    loop-again
+    led-requires
+    enum-known-h
+    forward-by-requires
+    wrapping-add-u64-requires
+    backward-by-requires
+    wrapping-add-u64-requires-2
+    add-i-2
+    loop-less-2
+    loop-again-2
+    enum-told
+    halted-requires
+    same-length
+    returns
+    loop-less-3
+    loop-again-3
+    halted-requires-2
+    same-length-2
+    returns-2)
