@@ -69,6 +69,18 @@ pub fn characters(galley: &[u8]) -> impl Iterator<Item = Character> + '_ {
     })
 }
 
+/// The characters of each page of a galley that the check accepts; a cut ends a page.
+pub fn pages(galley: &[u8]) -> Vec<Vec<Character>> {
+    let mut pages = vec![vec![]];
+    for item in items(galley) {
+        match item {
+            Item::Character(character) => pages.last_mut().expect("there is a page").push(character),
+            Item::Cut => pages.push(vec![]),
+        }
+    }
+    pages
+}
+
 /// The first field and what follows it; nothing at End.
 fn split(rest: &[u8]) -> Option<(Item, &[u8])> {
     let (header, body) = rest.split_first_chunk()?;

@@ -31,6 +31,8 @@ pub struct Arguments {
     pub list: Option<OsString>,
     /// --format
     pub format: Option<OsString>,
+    /// --order
+    pub order: Option<OsString>,
     /// --force
     pub force: bool,
     /// --plain
@@ -73,6 +75,7 @@ pub fn parse(command: &Command, words: &[OsString]) -> Result<Arguments, Failure
 #[derive(Clone, Copy)]
 pub enum Inputs {
     One,
+    Two,
     /// Any number; some, unless there is a list.
     Some,
 }
@@ -80,11 +83,13 @@ pub enum Inputs {
 impl Inputs {
     fn fault(self, arguments: &Arguments) -> Option<&'static str> {
         match (self, arguments.inputs.len()) {
-            (Inputs::One, 1) => None,
+            (Inputs::One, 1) | (Inputs::Two, 2) => None,
             (Inputs::Some, 0) if arguments.list.is_some() => None,
             (_, 0) => Some("no input is given"),
             (Inputs::Some, _) => None,
             (Inputs::One, _) => Some("more than one input is given"),
+            (Inputs::Two, 1) => Some("only one input is given"),
+            (Inputs::Two, _) => Some("more than two inputs are given"),
         }
     }
 }
@@ -139,6 +144,7 @@ impl Arguments {
             "--pieces" => Some(&mut self.pieces),
             "--list" => Some(&mut self.list),
             "--format" => Some(&mut self.format),
+            "--order" => Some(&mut self.order),
             _ => None,
         }
     }

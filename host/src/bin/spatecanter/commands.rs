@@ -1,6 +1,7 @@
 //! The commands.
 
 use crate::arguments::{Arguments, Inputs};
+use crate::differences::{Differences, Named};
 use crate::explain::{self, Form};
 use crate::failure::{say, Failure};
 use crate::fonts::Fonts;
@@ -28,7 +29,7 @@ pub struct Command {
     pub run: fn(&Arguments) -> Result<(), Failure>,
 }
 
-pub const COMMANDS: [Command; 12] = [
+pub const COMMANDS: [Command; 13] = [
     Command {
         name: "read",
         usage: "read TAPE [--machine 4|8] [--pieces N] [-o GALLEY] [--force]",
@@ -118,6 +119,14 @@ pub const COMMANDS: [Command; 12] = [
         run: convert,
     },
     Command {
+        name: "compare",
+        usage: COMPARE_USAGE,
+        inputs: Inputs::Two,
+        options: &["--machine", "--order"],
+        help: help::COMPARE,
+        run: compare,
+    },
+    Command {
         name: "report",
         usage: REPORT_USAGE,
         inputs: Inputs::Some,
@@ -129,6 +138,7 @@ pub const COMMANDS: [Command; 12] = [
 
 pub const REPRINT_USAGE: &str = "reprint TAPE [--machine 4|8] [--fonts NAMES] -d FOLDER [--force]";
 pub const CONVERT_USAGE: &str = "convert --to new|old GALLEY [-o GALLEY] [--force]";
+const COMPARE_USAGE: &str = "compare TAPE|GALLEY TAPE|GALLEY [--machine 4|8] [--order any]";
 const REPORT_USAGE: &str = "report PATH... [--machine 4|8] [--list FILE] [--format csv|json] [--tapes]";
 const PLOT_USAGE: &str = "plot TAPE|GALLEY [--machine 4|8] [--fonts NAMES] [--page N] [--from HEIGHT] \
                           [--to HEIGHT] [-o SVG] [--force]";
@@ -289,7 +299,7 @@ fn reprint(arguments: &Arguments) -> Result<(), Failure> {
 
 fn draw(arguments: &Arguments) -> Result<(), Failure> {
     let place = place(arguments, &[&arguments.input], "svg")?;
-    let (galley, machine) = galley_to_draw(&arguments.input, options::machine(arguments)?)?;
+    let (galley, machine) = galley_or_tape(&arguments.input, options::machine(arguments)?)?;
     let fonts = Fonts::choose(arguments.fonts.as_deref(), machine)?;
     let pages = plot::pages(&galley);
     let shown_pages = options::pages(arguments, pages.len())?;
@@ -309,6 +319,27 @@ fn draw(arguments: &Arguments) -> Result<(), Failure> {
     Ok(())
 }
 
+fn compare(arguments: &Arguments) -> Result<(), Failure> {
+    let order = options::order(arguments)?;
+    let machine = options::machine(arguments)?;
+    let [one, other] = &arguments.inputs[..] else { unreachable!("there are two inputs") };
+    if one == "-" && other == "-" {
+        return Err(Failure::Usage("the two inputs cannot both be standard input".into()));
+    }
+    let (galley, _) = galley_or_tape(one, machine)?;
+    let (other_galley, _) = galley_or_tape(other, machine)?;
+    let (name, other_name) = (shown(one), shown(other));
+    let named = Named { name: &name, galley: &galley };
+    let other_named = Named { name: &other_name, galley: &other_galley };
+    let differences = progress::during("comparing", || Differences::between(&named, &other_named, order));
+    print(|out| differences.write(out))?;
+    if differences.is_none() {
+        Ok(())
+    } else {
+        Err(Failure::Different)
+    }
+}
+
 fn report(arguments: &Arguments) -> Result<(), Failure> {
     let format = options::format(arguments)?;
     let tapes = tapes::named(arguments)?;
@@ -317,7 +348,7 @@ fn report(arguments: &Arguments) -> Result<(), Failure> {
 }
 
 /// The galley of an input that is a galley or a tape, and its machine: a galley's is the one named, if any.
-fn galley_to_draw(name: &OsStr, named: Option<Machine>) -> Result<(Vec<u8>, Option<Machine>), Failure> {
+fn galley_or_tape(name: &OsStr, named: Option<Machine>) -> Result<(Vec<u8>, Option<Machine>), Failure> {
     let bytes = input::read(name, GALLEY_LIMIT)?;
     match bytes.first() {
         Some(1 | 2 | 6 | 7) => {

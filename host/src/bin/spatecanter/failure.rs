@@ -10,12 +10,14 @@ pub enum Failure {
     Usage(String),
     /// A file could not be read or written.
     File(String),
+    /// Two inputs differ, as standard output says.
+    Different,
     /// Whoever read standard output has seen enough.
     Closed,
 }
 
 impl Failure {
-    /// Says it on standard error; 1 for a refusal, 0 where nobody reads on, else 2.
+    /// Says it on standard error; 1 for a refusal or a difference, 0 where nobody reads on, else 2.
     pub fn report(self) -> ExitCode {
         match self {
             Failure::Refused(message) => {
@@ -30,6 +32,7 @@ impl Failure {
                 say(&format!("spatecanter: {message}"));
                 ExitCode::from(2)
             }
+            Failure::Different => ExitCode::from(1),
             Failure::Closed => ExitCode::SUCCESS,
         }
     }

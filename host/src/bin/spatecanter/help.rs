@@ -18,6 +18,7 @@ Usage: spatecanter COMMAND ...
   plot TAPE|GALLEY [--page N] [-o SVG]  a picture of the pages
   punch GALLEY [-o TAPE]                a galley to a tape of the 8-font machine
   convert --to new|old GALLEY           an old galley to a new one, or back
+  compare TAPE|GALLEY TAPE|GALLEY       do two set the same pages, and where do they differ?
   report PATH... [--tapes]              many tapes in numbers
 
   COMMAND --help                        more about a command
@@ -36,9 +37,9 @@ output is standard output. Folders on the way to an output are made. An output f
 written whole or not at all, whatever ends the run; it never takes the place of an input, and
 that of another file only with --force.
 
-Exit status. 0: accepted, also where whoever reads standard output leaves early. 1: refused;
-standard error says why, with the refusal's number and its place. 2: wrong usage, or a file
-that cannot be read or written.
+Exit status. 0: accepted, also where whoever reads standard output leaves early. 1: refused,
+or two inputs differ; standard error says why, with the refusal's number and its place.
+2: wrong usage, or a file that cannot be read or written.
 ";
 
 pub const READ: &str = "\
@@ -264,6 +265,27 @@ Numbers:
 
 Without -o the new form of page.galley is page.galley.new.galley, its old form
 page.galley.old.galley. --force writes over a file that is there already.
+";
+
+pub const COMPARE: &str = "\
+Says whether two tapes or galleys set the same pages, and if not, where they differ.
+
+Usage: spatecanter compare TAPE|GALLEY TAPE|GALLEY [--machine 4|8] [--order any]
+
+Each input is a tape or a galley, told apart as in plot. Tapes with codes in different order
+may well give the same galley: what is compared is what they set, not their bytes. The same
+galley is told with its characters and pages, and the exit status is 0.
+
+Else it is 1, and standard output has for each page that differs, counted from 1: how many
+characters it has in either input; how many differ in font alone, which is all that tells
+measured values from estimates; and the first difference, with place, font and character in
+both. A character differs in font alone if the other page has one at its place with its
+number, but in another font or size.
+
+With --order any a page's characters are compared as a whole, whatever their order; the first
+difference is then the uppermost. Two readings of one reel are compared this way too.
+
+--machine and refusals are those of read and check; both tapes are of one machine.
 ";
 
 pub const REPORT: &str = "\

@@ -2,6 +2,7 @@
 
 mod arguments;
 mod commands;
+mod differences;
 mod explain;
 mod failure;
 mod fonts;

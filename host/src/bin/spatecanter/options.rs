@@ -2,6 +2,7 @@
 
 use crate::arguments::Arguments;
 use crate::commands::{CONVERT_USAGE, REPRINT_USAGE};
+use crate::differences::Order;
 use crate::explain::Form;
 use crate::failure::Failure;
 use crate::report::Format;
@@ -77,6 +78,18 @@ pub fn format(arguments: &Arguments) -> Result<Format, Failure> {
         Some("json") => Ok(Format::Json),
         _ => Err(Failure::Usage(format!(
             "--format {} is no format: it is csv or json, and a table for people without it",
+            word.to_string_lossy()
+        ))),
+    }
+}
+
+/// The order that --order names.
+pub fn order(arguments: &Arguments) -> Result<Order, Failure> {
+    match &arguments.order {
+        None => Ok(Order::Kept),
+        Some(word) if word == "any" => Ok(Order::Any),
+        Some(word) => Err(Failure::Usage(format!(
+            "--order {} is no order: it is any; without it characters have to come in the same order",
             word.to_string_lossy()
         ))),
     }

@@ -2,7 +2,7 @@
 
 use crate::fonts::Fonts;
 use crate::text::{counted, grouped};
-use spatecanter::galley::{items, Character, Item};
+use spatecanter::galley::{self, Character};
 use spatecanter::{Machine, HEIGHT_LIMIT};
 use std::io::{self, Write};
 use std::ops::{Range, RangeInclusive};
@@ -55,19 +55,11 @@ fn mark_height(is_double: bool) -> i32 {
 }
 
 /// A page's characters.
-#[derive(Default)]
 pub struct Page(Vec<Character>);
 
 /// The pages of a galley that the check accepts.
 pub fn pages(galley: &[u8]) -> Vec<Page> {
-    let mut pages = vec![Page::default()];
-    for item in items(galley) {
-        match item {
-            Item::Character(character) => pages.last_mut().expect("there is a page").0.push(character),
-            Item::Cut => pages.push(Page::default()),
-        }
-    }
-    pages
+    galley::pages(galley).into_iter().map(Page).collect()
 }
 
 impl Page {

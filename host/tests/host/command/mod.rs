@@ -1,5 +1,6 @@
 //! The command `spatecanter`: files, exit status and texts.
 
+mod comparisons;
 mod outputs;
 mod pictures;
 mod pieces;

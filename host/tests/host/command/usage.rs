@@ -9,7 +9,7 @@ fn help_for_the_whole_and_for_each_command() {
     assert_eq!((whole.status, whole.err.as_str()), (0, ""));
     for name in [
         "read", "check", "list", "set", "show", "back", "sheet", "reprint", "plot", "punch", "convert",
-        "report",
+        "compare", "report",
     ] {
         assert!(whole.text().contains(&format!("\n  {name} ")), "{name} in the whole help");
         let usage = format!("Usage: spatecanter {name} ");
@@ -25,7 +25,7 @@ fn help_for_the_whole_and_for_each_command() {
 fn wrong_usage_is_2() {
     let folder = folder("usage");
     fs::write(folder.join("p3.tape"), hex(P3_TAPE)).unwrap();
-    let calls: [&[&str]; 47] = [
+    let calls: [&[&str]; 54] = [
         &[],
         &["reed", "p3.tape"],
         &["read"],
@@ -65,6 +65,13 @@ fn wrong_usage_is_2() {
         &["convert", "--to=", "p3.tape"],
         &["convert", "--to", "new", "--to", "old", "p3.tape"],
         &["check", "p3.tape", "--to", "new"],
+        &["compare"],
+        &["compare", "p3.tape"],
+        &["compare", "p3.tape", "p3.tape", "p3.tape"],
+        &["compare", "p3.tape", "p3.tape", "--order", "kept"],
+        &["compare", "p3.tape", "missing.tape"],
+        &["compare", "-", "-"],
+        &["compare", "p3.tape", "p3.tape", "--machine", "5"],
         &["report"],
         &["report", "p3.tape", "--format", "xml"],
         &["report", "p3.tape", "--tapes=yes"],
