@@ -150,13 +150,22 @@ impl Buffer {
 fn faults_name_their_lines() {
     for (text, starts) in [
         ("# P1\n\nread_tape machine=8 tape= -> 9 0 0", &[][..]),
-        ("read_tape machine=8 tape= -> 9 1 0", &["a:1: plain", "a:1: library", "a:1: quick"]),
+        (
+            "read_tape machine=8 tape= -> 9 1 0",
+            &["a:1: plain", "a:1: library:", "a:1: library's", "a:1: quick"],
+        ),
         (
             "\nread_tape machine=8 tape=4049 -> 0 0 7 galley=02000400000001",
-            &["a:2: plain", "a:2: lib", "a:2: qu"],
+            &["a:2: plain", "a:2: library:", "a:2: library's", "a:2: quick"],
         ),
-        ("read_tape machine=8 tape=4049 room=8 -> 0 0 7", &["a:1: plain", "a:1: library", "a:1: quick"]),
-        ("read_back galley= n=0 -> 41 0 0 character=1,0,0,0", &["a:1: plain", "a:1: library", "a:1: quick"]),
+        (
+            "read_tape machine=8 tape=4049 room=8 -> 0 0 7",
+            &["a:1: plain", "a:1: library:", "a:1: library's", "a:1: quick"],
+        ),
+        (
+            "read_back galley= n=0 -> 41 0 0 character=1,0,0,0",
+            &["a:1: plain", "a:1: library:", "a:1: library's", "a:1: quick"],
+        ),
         ("read_tape machine=8 tape=", &["a:1: there is no ` -> `"]),
         ("read_tape machine=8 tape= -> 9 0", &["a:1: number, place and length"]),
         ("read_tape machine=8 -> 9 0 0", &["a:1: `tape` is missing"]),
@@ -167,7 +176,10 @@ fn faults_name_their_lines() {
         ("check_galley galley= -> 41 0 0 dvi=", &["a:1: `dvi` has no meaning"]),
         ("read galley= -> 41 0 0", &["a:1: there is no operation `read`"]),
         ("start machine=8 -> 0 0 0\nclose -> 9 0 0\n\nclose -> 13 0 0", &[]),
-        ("start machine=8 -> 0 0 0\n\nclose -> 9 0 0", &["a:3: plain", "a:3: library", "a:3: quick"]),
+        (
+            "start machine=8 -> 0 0 0\n\nclose -> 9 0 0",
+            &["a:3: plain", "a:3: library:", "a:3: library's", "a:3: quick"],
+        ),
     ] {
         let mut faults = Vec::new();
         run("a", text, &mut faults);
