@@ -6,6 +6,8 @@ use std::fs;
 use std::os::unix::fs::{symlink, PermissionsExt};
 use std::path::{Path, PathBuf};
 use std::process::{self, Command, Output};
+use std::thread;
+use std::time::Duration;
 
 /// Proves everything but the crates that the file `unproved` names, and exports sp_NAME from crate NAME.
 const RT: &str = r#"#!/usr/bin/env bash
@@ -98,15 +100,18 @@ impl Repository {
         fs::remove_file(self.root.join(name)).unwrap();
     }
 
-    /// Runs a script with nothing on the PATH but the tools and the stand-ins.
+    /// Runs a script with nothing on the PATH but the tools and the stand-ins. What is written after it is newer
+    /// than all that it made, also where a file's time is that of the last tick.
     fn run(&self, script: &str, words: &[&str]) -> Output {
-        Command::new(self.root.join(script))
+        let output = Command::new(self.root.join(script))
             .args(words)
             .current_dir(&self.root)
             .env("PATH", self.root.join("bin"))
             .env_remove("SPATECANTER_LIB_DIR")
             .output()
-            .unwrap()
+            .unwrap();
+        thread::sleep(Duration::from_millis(50));
+        output
     }
 
     /// What was called since the last time.
