@@ -19,10 +19,10 @@ use Rattle.galley_file.specs.ItemLaws.{length-itemField, all-counted}
 use Rattle.galley_file.specs.Galley.{maxItems, fields, galley, readGalley, itemsOf}
 use Rattle.galley_file.specs.GalleyLaws.{checked, read-as, reading-length, length-fields, fields-append, fields-one, length-galley}
 use Rattle.galley_file.specs.Outcome.{checkOutcome}
-use Rattle.galley_file.specs.OutcomeLaws.{result-refused, result-made}
+use Rattle.galley_check.specs.ResultLaws.{result-refused, result-made}
 use Rattle.galley_file.specs.Walk.{Midway, Onward, midway-start, midway-inside, midway-end, midway-next, midway-whole}
-use Rattle.galley_file.specs.Low.{lowOutcome}
-use Rattle.galley_file.specs.LowLaws.{low-made, low-refused}
+use Rattle.galley_check.specs.Low.{lowOutcome}
+use Rattle.galley_check.specs.LowLaws.{low-made, low-refused}
 use Rattle.conversion.specs.Conversion.{newResult, oldResult, formResult}
 
 module _ (from to : Form) (g : List ℕ) where

@@ -18,8 +18,8 @@ use Rattle.galley_file.specs.declared.form.Form.the-variants.{Old, New}
 use Rattle.galley_file.specs.declared.item.Item.{Item}
 use Rattle.galley_file.specs.Item.{charactersOf}
 use Rattle.galley_file.specs.Galley.{fields, galley, whole, readGalley, itemsOf}
-use Rattle.galley_file.specs.Outcome.{checkedResult}
-use Rattle.galley_file.specs.Low.{lowResult}
+use Rattle.galley_check.specs.Result.{checkedResult}
+use Rattle.galley_check.specs.Low.{lowResult}
 
 -- 40 and 41, else the items in the new form; 44 last
 unfoldable pub newResult : List ℕ → ℕ → Result

@@ -30,10 +30,11 @@ use Rattle.galley_file.specs.Form.{maxGalley}
 use Rattle.galley_file.specs.Item.{itemSize, isLow, charactersOf}
 use Rattle.galley_file.specs.Galley.{maxItems, AllValid, galley, Reading, whole, malformed, readGalley, itemsIn, itemsOf}
 use Rattle.galley_file.specs.GalleyLaws.{checked, Accepted, accepted-is, accepts, accepts-check, galley-fits, read-accepted}
-use Rattle.galley_file.specs.Outcome.{checkOutcome, checkedResult}
-use Rattle.galley_file.specs.OutcomeLaws.{result-written}
-use Rattle.galley_file.specs.Low.{firstHigh, orTooGreat, lowReading, lowResult}
-use Rattle.galley_file.specs.LowLaws.{low-accepts, low-made, low-valid, raised}
+use Rattle.galley_file.specs.Outcome.{checkOutcome}
+use Rattle.galley_check.specs.Result.{checkedResult}
+use Rattle.galley_check.specs.ResultLaws.{result-written}
+use Rattle.galley_check.specs.Low.{firstHigh, orTooGreat, lowReading, lowResult}
+use Rattle.galley_check.specs.LowLaws.{low-accepts, low-made, low-valid, raised}
 use Rattle.conversion.specs.Conversion.{newResult, oldResult, Same, Above, here, later}
 
 -- ---- galleys of the same items

@@ -48,7 +48,7 @@ fn convert(from: Form, to: Form, g: &[u8], count: usize, out: &mut [u8]) -> Answ
 pub fn galley_to_new(old: &[u8], new: &mut [u8]) -> Answer
     ensures { λ r. ⌜ Gives (outcomeOf r) (newResult (now (old .entry))) (now (new .entry)) (now (new .exit)) ⌝ }
 {
-    let checked = galley_file::check_form(Form::Old, old);
+    let checked = galley_check::check_form(Form::Old, old);
     match checked {
         Answer::Refused(number, place) => Answer::Refused(number, place),
         Answer::Accepted(count) => convert(Form::Old, Form::New, old, count, new),
@@ -59,7 +59,7 @@ pub fn galley_to_new(old: &[u8], new: &mut [u8]) -> Answer
 pub fn galley_to_old(new: &[u8], old: &mut [u8]) -> Answer
     ensures { λ r. ⌜ Gives (outcomeOf r) (oldResult (now (new .entry))) (now (old .entry)) (now (old .exit)) ⌝ }
 {
-    let checked = galley_file::check_low(new);
+    let checked = galley_check::check_low(new);
     match checked {
         Answer::Refused(number, place) => Answer::Refused(number, place),
         Answer::Accepted(count) => convert(Form::New, Form::Old, new, count, old),

@@ -31,8 +31,8 @@ use Rattle.galley_file.specs.ItemLaws.{cuts-append}
 use Rattle.galley_file.specs.declared.form.Form.the-variants.{New}
 use Rattle.galley_file.specs.Galley.{maxItems, AllValid, nil, more, galley, itemsIn, itemsOf}
 use Rattle.galley_file.specs.GalleyLaws.{accepted-is}
-use Rattle.galley_file.specs.Low.{lowOutcome, lowResult}
-use Rattle.galley_file.specs.LowLaws.{raised, low-checked, low-made}
+use Rattle.galley_check.specs.Low.{lowOutcome, lowResult}
+use Rattle.galley_check.specs.LowLaws.{raised, low-checked, low-made}
 use Rattle.sheet.specs.Sheet.{Mark, pageMark, charMark, ruleMark}
 use Rattle.dvi.specs.Page.{fontChars}
 use Rattle.sheet.specs.Shown.{ShownAs, refusedAt, shows}

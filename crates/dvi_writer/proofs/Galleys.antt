@@ -15,8 +15,8 @@ use Rattle.galley_file.specs.Galley.{maxItems, AllValid, itemsOf}
 use Rattle.galley_file.specs.Galley as galley
 use Rattle.galley_file.specs.GalleyLaws.{checked, read-as}
 use Rattle.galley_file.specs.Walk.{Midway, midway-start, midway-next}
-use Rattle.galley_file.specs.Low.{lowOutcome}
-use Rattle.galley_file.specs.LowLaws.{low-checked, raised}
+use Rattle.galley_check.specs.Low.{lowOutcome}
+use Rattle.galley_check.specs.LowLaws.{low-checked, raised}
 
 module _ (g : List ℕ) (count : ℕ) (a : accepted count ≡ lowOutcome g) where
   pub within : length g ≤ maxGalley New

@@ -18,7 +18,7 @@ use Rattle.measure.specs.Place.{lowEnd}
 use Rattle.galley_file.specs.Item.{validItem, itemSize, itemAt, WholeAt, charactersOf}
 use Rattle.galley_file.specs.Galley.{maxItems, AllValid, itemsOf}
 use Rattle.galley_file.specs.Walk.{Midway, Onward, midway-inside, midway-end, midway-next, midway-whole}
-use Rattle.galley_file.specs.Low.{lowOutcome}
+use Rattle.galley_check.specs.Low.{lowOutcome}
 use Rattle.extents.specs.declared.Extents.{Extents}
 use Rattle.extents.specs.Extents.{noExtents, withCharacters, extentsOf, withItem}
 use Rattle.extents.specs.ExtentsLaws.{with-item}

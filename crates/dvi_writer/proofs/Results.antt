@@ -15,8 +15,8 @@ use Rattle.galley_file.specs.declared.form.Form.the-variants.{New}
 use Rattle.galley_file.specs.declared.item.Item.{Item}
 use Rattle.galley_file.specs.Item.{charactersOf}
 use Rattle.galley_file.specs.Galley.{AllValid, itemsOf}
-use Rattle.galley_file.specs.Low.{lowOutcome}
-use Rattle.galley_file.specs.LowLaws.{low-made, low-refused}
+use Rattle.galley_check.specs.Low.{lowOutcome}
+use Rattle.galley_check.specs.LowLaws.{low-made, low-refused}
 use Rattle.dvi.specs.Writer.{firstPress, pressAll, pagesBytes, postambleBytes, dviFile}
 use Rattle.dvi.specs.WriterLaws.{length-file}
 use Rattle.measure.specs.Place.{lowEnd}

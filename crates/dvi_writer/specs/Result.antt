@@ -2,7 +2,7 @@
 use Prim.Native.Nat.{ℕ}
 use mathlib.Core.List.{List}
 use Rattle.octets.specs.Answer.{Result, ifRoom, noDviRoom}
-use Rattle.galley_file.specs.Low.{lowResult}
+use Rattle.galley_check.specs.Low.{lowResult}
 use Rattle.dvi.specs.Writer.{dviFile}
 
 -- 40, 41 and 43, else the file of the items; 42 last

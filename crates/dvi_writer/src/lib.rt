@@ -17,7 +17,7 @@ ghost use Rattle.octets.specs.Answer.{accepted, outcomeOf, Gives};
 ghost use Rattle.galley_file.specs.declared.form.Form.the-variants.{New};
 ghost use Rattle.galley_file.specs.Item.{charactersOf};
 ghost use Rattle.galley_file.specs.Galley.{itemsOf};
-ghost use Rattle.galley_file.specs.Low.{lowOutcome};
+ghost use Rattle.galley_check.specs.Low.{lowOutcome};
 ghost use Rattle.extents.specs.Extents.{extentsOf};
 ghost use Rattle.dvi.specs.Writer.{dviFile};
 ghost use Rattle.dvi_writer.specs.Result.{dviResult};
@@ -52,7 +52,7 @@ fn write_checked(g: &[u8], count: usize, out: &mut [u8]) -> Answer
 pub fn write_dvi(galley: &[u8], dvi: &mut [u8]) -> Answer
     ensures { λ r. ⌜ Gives (outcomeOf r) (dviResult (now (galley .entry))) (now (dvi .entry)) (now (dvi .exit)) ⌝ }
 {
-    let checked = galley_file::check_low(galley);
+    let checked = galley_check::check_low(galley);
     match checked {
         Answer::Refused(number, place) => Answer::Refused(number, place),
         Answer::Accepted(count) => write_checked(galley, count, dvi),

@@ -24,7 +24,7 @@ ghost use Rattle.measure.specs.Target.{xTargets};
 ghost use Rattle.galley_file.specs.declared.item.Item.the-variants.{Placed, Cut};
 ghost use Rattle.galley_file.specs.Item.{validItem};
 ghost use Rattle.galley_file.specs.Galley.{itemsOf};
-ghost use Rattle.galley_file.specs.Low.{lowOutcome};
+ghost use Rattle.galley_check.specs.Low.{lowOutcome};
 ghost use Rattle.dvi.specs.Writer.{newPen, fontChange, move, commandsOf, bopBytes, firstPress, itemBytes, pressAfter, itemsBytes, pressAll, pagesBytes};
 ghost use Rattle.dvi_writer.specs.Pen.{fontIn, penOf, OnPage, PenIs, PenAt};
 ghost use Rattle.dvi_writer.specs.Press.{pressOf, PressIs};

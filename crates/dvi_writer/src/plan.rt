@@ -21,7 +21,7 @@ ghost use Rattle.octets.specs.Answer.{accepted};
 ghost use Rattle.measure.specs.Place.{lowEnd};
 ghost use Rattle.galley_file.specs.Item.{validItem};
 ghost use Rattle.galley_file.specs.Galley.{itemsOf};
-ghost use Rattle.galley_file.specs.Low.{lowOutcome};
+ghost use Rattle.galley_check.specs.Low.{lowOutcome};
 ghost use Rattle.dvi.specs.Writer.{fontChange, move, commandsOf};
 ghost use Rattle.dvi_writer.specs.Pen.{fontIn, penOf, OnPage, PenIs, penPast, PenAt};
 ghost use Rattle.extents.specs.Extents.{withItem};

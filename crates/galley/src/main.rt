@@ -81,7 +81,7 @@ fn write_refusal(number: u8, place: usize) {
 
 // A galley that a tape gave: the check accepts it, and counts its characters.
 fn write_galley(g: &[u8]) {
-    let checked = galley_file::check_galley(g);
+    let checked = galley_check::check_galley(g);
     match checked {
         Answer::Refused(number, place) => write_refusal(number, place),
         Answer::Accepted(count) => {

@@ -1,4 +1,4 @@
--- The galley (document 01, "Galley"), and what its check and its reading back answer.
+-- The galley (document 01, "Galley"), and what its check answers.
 pub mod Font
 pub mod Form
 pub mod FormLaws
@@ -7,11 +7,7 @@ pub mod CharacterLaws
 pub mod Item
 pub mod ItemLaws
 pub mod Galley
-pub mod Span
 pub mod Outcome
 pub mod GalleyLaws
-pub mod OutcomeLaws
 pub mod Walk
-pub mod Low
-pub mod LowLaws
 pub mod Faults

@@ -21,7 +21,7 @@ use Rattle.extents.specs.FontMarks.{uses, usedFonts}
 use Rattle.extents.specs.Extents.{largest}
 use Rattle.dvi.specs.Command.{Y4}
 use Rattle.dvi.specs.Writer.{newPen, penAt, fontCommand, fontChange, shortest, move, commandsOf, bopBytes, firstPress, itemBytes, pressAfter, itemsBytes, pressAll, pagesBytes, nameOf, definition, definitionBytes, trailerBytes, postambleBytes, dviFile}
-use Rattle.galley_file.specs.Low.{firstHigh, lowResult}
+use Rattle.galley_check.specs.Low.{firstHigh, lowResult}
 use Rattle.dvi_writer.specs.Result.{dviResult}
 use Rattle.typesetter.specs.Code.{codeOf}
 use Rattle.typesetter.specs.Machine.{flashOf, escapeOf, leadOf, orderOf, codeEffect, effectOf}

@@ -18,7 +18,7 @@ use Rattle.galley_file.specs.ItemLaws.{size-least}
 use Rattle.galley_file.specs.Galley.{itemsOf}
 use Rattle.galley_file.specs.GalleyLaws.{checked, read-as}
 use Rattle.galley_file.specs.Outcome.{checkOutcome}
-use Rattle.galley_file.specs.OutcomeLaws.{result-refused, result-made}
+use Rattle.galley_check.specs.ResultLaws.{result-refused, result-made}
 use Rattle.galley_file.specs.Walk.{Midway, Onward, midway-start, midway-inside, midway-end, midway-next, midway-whole}
 use Rattle.typesetter.specs.declared.machine.State.{State}
 use Rattle.typesetter.specs.Sound.{Sound}

@@ -12,7 +12,7 @@ use lib.ListN.{length, take}
 use Rattle.octets.specs.Answer.{Outcome, accepted, Result, refusal, written, ifRoom, punchedTooLong, noTapeRoom}
 use Rattle.galley_file.specs.declared.form.Form.the-variants.{New}
 use Rattle.galley_file.specs.declared.item.Item.{Item}
-use Rattle.galley_file.specs.Outcome.{checkedResult}
+use Rattle.galley_check.specs.Result.{checkedResult}
 use Rattle.typesetter.specs.declared.machine.State.{State}
 use Rattle.tape.specs.Tape.{maxTape, tapeResult}
 use Rattle.punch_codes.specs.Codes.{startCodes, begun, itemCodes, stateAfter}

@@ -28,7 +28,7 @@ use Rattle.galley_file.specs.declared.item.Item.{Item}
 use Rattle.galley_file.specs.declared.item.Item.the-variants.{Placed, Cut}
 use Rattle.galley_file.specs.CharacterLaws.{valid-parts}
 use Rattle.galley_file.specs.Galley.{AllValid, nil, more, galley}
-use Rattle.galley_file.specs.OutcomeLaws.{result-written}
+use Rattle.galley_check.specs.ResultLaws.{result-written}
 use Rattle.typesetter.specs.declared.code.Machine.the-variants.{Eight}
 use Rattle.typesetter.specs.declared.code.Code.the-variants.{Ordered}
 use Rattle.typesetter.specs.declared.code.Order.the-variants.{Stop}

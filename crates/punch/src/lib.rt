@@ -73,7 +73,7 @@ fn punch_checked(g: &[u8], count: usize, out: &mut [u8]) -> Answer
 pub fn punch_tape(galley: &[u8], tape: &mut [u8]) -> Answer
     ensures { λ r. ⌜ Gives (outcomeOf r) (punchResult (now (galley .entry))) (now (tape .entry)) (now (tape .exit)) × RoundTrip (now (galley .entry)) (outcomeOf r) (now (tape .exit)) ⌝ }
 {
-    let checked = galley_file::check_galley(galley);
+    let checked = galley_check::check_galley(galley);
     match checked {
         Answer::Refused(number, place) => Answer::Refused(number, place),
         Answer::Accepted(count) => punch_checked(galley, count, tape),

@@ -15,8 +15,8 @@ use Rattle.galley_file.specs.Form.{maxGalley}
 use Rattle.galley_file.specs.Item.{charactersOf, cutsOf}
 use Rattle.galley_file.specs.Galley.{maxItems, Reading, readGalley, itemsIn, itemsOf}
 use Rattle.galley_file.specs.GalleyLaws.{checked, reading-length, length-fields}
-use Rattle.galley_file.specs.Low.{lowOutcome}
-use Rattle.galley_file.specs.LowLaws.{low-checked}
+use Rattle.galley_check.specs.Low.{lowOutcome}
+use Rattle.galley_check.specs.LowLaws.{low-checked}
 use Rattle.dvi.specs.Page.{fontChars}
 use Rattle.dvi.specs.Sheet.{sheetResult}
 use Rattle.dvi.specs.Writer.{dviFile}

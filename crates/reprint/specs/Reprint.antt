@@ -22,7 +22,7 @@ use Rattle.galley_file.specs.declared.form.Form.the-variants.{New}
 use Rattle.galley_file.specs.declared.item.Item.{Item}
 use Rattle.galley_file.specs.Item.{charactersOf, cutsOf}
 use Rattle.galley_file.specs.Galley.{AllValid, galley, whole, readGalley}
-use Rattle.galley_file.specs.Low.{lowResult}
+use Rattle.galley_check.specs.Low.{lowResult}
 use Rattle.galley_file.specs.Outcome.{checkOutcome}
 use Rattle.sheet.specs.Sheet.{Mark, pageMark, sheet}
 use Rattle.dvi.specs.Page.{fontChars}

@@ -17,8 +17,8 @@ use Rattle.galley_file.specs.declared.item.Item.{Item}
 use Rattle.galley_file.specs.Item.{charactersOf, cutsOf}
 use Rattle.galley_file.specs.Galley.{maxItems, AllValid, galley, whole, readGalley, itemsIn, itemsOf}
 use Rattle.galley_file.specs.GalleyLaws.{Accepted, accepted-is}
-use Rattle.galley_file.specs.Low.{lowOutcome, lowResult}
-use Rattle.galley_file.specs.LowLaws.{low-checked, low-made, low-refused, low-accepts}
+use Rattle.galley_check.specs.Low.{lowOutcome, lowResult}
+use Rattle.galley_check.specs.LowLaws.{low-checked, low-made, low-refused, low-accepts}
 use Rattle.sheet.specs.Sheet.{Mark, pageMark, sheet}
 use Rattle.dvi.specs.Page.{fontChars}
 use Rattle.sheet.specs.Shown.{shows}

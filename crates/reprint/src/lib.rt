@@ -9,7 +9,7 @@ ghost use mathlib.Core.Path.{_≡_};
 ghost use lib.ListN.{length};
 ghost use Rattle.octets.specs.Answer.{accepted, outcomeOf};
 ghost use Rattle.galley_file.specs.Galley.{itemsOf};
-ghost use Rattle.galley_file.specs.Low.{lowOutcome};
+ghost use Rattle.galley_check.specs.Low.{lowOutcome};
 ghost use Rattle.dvi.specs.Writer.{dviFile};
 ghost use Rattle.reprint.specs.Reprint.{reprintResult, reprintOutcome, dviAfter, sheetAfter, sheetSize, ReprintedWhenever};
 
@@ -79,7 +79,7 @@ fn reprint_checked(
 pub fn reprint(galley: &[u8], widths: &[i32], dvi: &mut [u8], sheet: &mut [u8]) -> Answer
     ensures { λ r. ⌜ (outcomeOf r ≡ reprintOutcome (reprintResult (now (galley .entry)) (now (widths .entry)) (length (now (dvi .entry))) (length (now (sheet .entry))))) × ((now (dvi .exit) ≡ dviAfter (now (dvi .entry)) (reprintResult (now (galley .entry)) (now (widths .entry)) (length (now (dvi .entry))) (length (now (sheet .entry))))) × ((now (sheet .exit) ≡ sheetAfter (now (sheet .entry)) (reprintResult (now (galley .entry)) (now (widths .entry)) (length (now (dvi .entry))) (length (now (sheet .entry))))) × ReprintedWhenever (now (galley .entry)) (now (widths .entry)) (now (dvi .entry)) (now (sheet .entry)) (outcomeOf r) (now (dvi .exit)) (now (sheet .exit)))) ⌝ }
 {
-    let checked = galley_file::check_low(galley);
+    let checked = galley_check::check_low(galley);
     match checked {
         Answer::Refused(number, place) => Answer::Refused(number, place),
         Answer::Accepted(count) => reprint_checked(galley, count, widths, dvi, sheet),

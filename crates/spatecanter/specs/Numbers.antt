@@ -2,7 +2,7 @@
 use mathlib.Core.List.{List, [], _∷_}
 use lib.IntN.{ℤ, pos}
 use Rattle.galley_file.specs.declared.character.Character.{Character}
-use Rattle.galley_file.specs.Outcome.{FoundOutcome, characterOfFound}
+use Rattle.galley_check.specs.Found.{FoundOutcome, characterOfFound}
 
 -- x, height, font number and character
 abbrev pub characterNumbers : Character → List ℤ

@@ -1,11 +1,12 @@
 // The operations for C and Rust callers: each answer goes into an array that the caller lends.
 ghost use Rattle.galley_file.specs.declared.form.Form.the-variants.{New};
-use galley_file::Found;
+use galley_check::Found;
 use octets::answer;
 ghost use mathlib.Core.Path.{_≡_};
 ghost use lib.ListN.{length};
 ghost use Rattle.octets.specs.Answer.{numbersOf, GivesNumbers};
-ghost use Rattle.galley_file.specs.Outcome.{checkOutcome, foundOf, outcomeOfFound, readBackOutcome};
+ghost use Rattle.galley_file.specs.Outcome.{checkOutcome};
+ghost use Rattle.galley_check.specs.Found.{foundOf, outcomeOfFound, readBackOutcome};
 ghost use Rattle.tape.specs.Tape.{tapeResult};
 ghost use Rattle.conversion.specs.Conversion.{newResult, oldResult};
 ghost use Rattle.dvi.specs.Sheet.{sheetResult};
@@ -52,7 +53,7 @@ pub extern "C" fn sp_read_tape(
 pub extern "C" fn sp_check_galley(galley: &[u8], answer: &mut [usize; 3])
     ensures { λ _. ⌜ now (answer .exit) ≡ numbersOf (checkOutcome New (now (galley .entry))) ⌝ }
 {
-    let a = galley_file::check_galley(galley);
+    let a = galley_check::check_galley(galley);
     *answer = answer::numbers(a);
 }
 
@@ -66,7 +67,7 @@ pub extern "C" fn sp_read_back(
 )
     ensures { λ _. ⌜ (now (answer .exit) ≡ numbersOf (outcomeOfFound (readBackOutcome (now (galley .entry)) n))) × (now (character .exit) ≡ foundNumbers (readBackOutcome (now (galley .entry)) n)) ⌝ }
 {
-    let f = galley_file::read_back(galley, n);
+    let f = galley_check::read_back(galley, n);
     *answer = found_numbers(f);
     *character = found_character(f);
 }

@@ -5,8 +5,8 @@ use borrow.Author.Needs.{needs}
 use lib.ListN.{length}
 use Rattle.octets.specs.Answer.{accepted, outcomeOf}
 use Rattle.octets.specs.AnswerLaws.{gives, gives-same}
-use Rattle.galley_file.specs.Low.{lowOutcome}
-use Rattle.galley_file.specs.LowLaws.{low-checked}
+use Rattle.galley_check.specs.Low.{lowOutcome}
+use Rattle.galley_check.specs.LowLaws.{low-checked}
 use Rattle.conversion.proofs.Forms.{old-refused, old-accepted}
 use Rattle.conversion.proofs.galley_to_old.Statement.{statement}
 use Rattle.conversion.proofs.galley_to_old.Tie as tie

@@ -5,7 +5,7 @@ use borrow.Author.Needs.{needs}
 use lib.ListN.{length}
 use Rattle.octets.specs.Answer.{accepted, outcomeOf}
 use Rattle.octets.specs.AnswerLaws.{gives}
-use Rattle.galley_file.specs.Low.{lowOutcome}
+use Rattle.galley_check.specs.Low.{lowOutcome}
 use Rattle.dvi_writer.proofs.Results.{check-refused}
 use Rattle.dvi_writer.proofs.write_dvi.Statement.{statement}
 use Rattle.dvi_writer.proofs.write_dvi.Tie as tie

@@ -6,8 +6,8 @@ use lib.IntN.{pos}
 use mir.Syntax.{w32}
 use mir.Val.{SFits}
 use Rattle.integers.specs.Parts.{integers, plain, plain-pos}
-use Rattle.galley_file.specs.declared.Found.{Found}
-use Rattle.galley_file.specs.Outcome.{foundOf}
+use Rattle.galley_check.specs.declared.Found.{Found}
+use Rattle.galley_check.specs.Found.{foundOf}
 use Rattle.spatecanter.specs.Numbers.{foundNumbers}
 use Rattle.spatecanter.proofs.found_character.Statement.{statement}
 use Rattle.spatecanter.proofs.found_character.Tie as tie

@@ -2,8 +2,8 @@
 -- Assumes nothing.
 use mathlib.Core.Path.{sym, ap}
 use borrow.Author.Needs.{needs}
-use Rattle.galley_file.specs.declared.Found.{Found}
-use Rattle.galley_file.specs.Outcome.{foundOf, outcomeOfFound}
+use Rattle.galley_check.specs.declared.Found.{Found}
+use Rattle.galley_check.specs.Found.{foundOf, outcomeOfFound}
 use Rattle.octets.specs.Answer.{numbersOf}
 use Rattle.spatecanter.proofs.found_numbers.Statement.{statement}
 use Rattle.spatecanter.proofs.found_numbers.Tie as tie

@@ -2,7 +2,7 @@
 -- Assumes nothing.
 use mathlib.Core.Path.{ap, _∙_}
 use borrow.Author.Needs.{needs}
-use Rattle.galley_file.specs.Outcome.{FoundOutcome, outcomeOfFound}
+use Rattle.galley_check.specs.Found.{FoundOutcome, outcomeOfFound}
 use Rattle.octets.specs.Answer.{numbersOf}
 use Rattle.spatecanter.specs.Numbers.{foundNumbers}
 use Rattle.spatecanter.proofs.sp_read_back.Statement.{statement}

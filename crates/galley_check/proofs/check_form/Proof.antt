@@ -1,4 +1,4 @@
--- `galley_file::check_form` meets its contract: the limit decides first, and then the run of fields.
+-- `galley_check::check_form` meets its contract: the limit decides first, and then the run of fields.
 -- Assumes nothing.
 use mathlib.Core.Path.{_≡_, sym, ap, _∙_}
 use Prim.Native.Nat.{ℕ, _<_}
@@ -6,12 +6,12 @@ use native.Mathlib.Omega.{arith}
 use borrow.Author.Tests.{le-ltb, lt-ltb}
 use borrow.Author.Needs.{needs}
 use lib.ListN.{length}
 use Rattle.galley_file.specs.Form.{maxGalley}
 use Rattle.galley_file.specs.FormLaws.{form-sizes}
 use Rattle.galley_file.specs.Galley.{readGalley}
 use Rattle.galley_file.specs.Outcome.{checkOutcome}
-use Rattle.galley_file.proofs.check_form.Statement.{statement}
-use Rattle.galley_file.proofs.check_form.Tie as tie
+use Rattle.galley_check.proofs.check_form.Statement.{statement}
+use Rattle.galley_check.proofs.check_form.Tie as tie
 
 max-galley-requires : tie.Need-max-galley-requires
 max-galley-requires c κs = search needs

@@ -1,4 +1,4 @@
--- `galley_file::check_heights` meets its contract: the items behind are low, and what is left of the galley falls.
+-- `galley_check::check_heights` meets its contract: the items behind are low, and what is left of the galley falls.
 -- Assumes nothing.
 use mathlib.Core.Path.{_≡_, sym, ap, _∙_}
 use Prim.Native.Nat.{ℕ, _+_, _-_, _≤_}
@@ -6,12 +6,12 @@ use native.Mathlib.Omega.{arith}
 use borrow.Author.Needs.{needs}
 use borrow.Author.Tests.{not-true, not-false}
 use lib.ListN.{length}
 use Rattle.galley_file.specs.declared.form.Form.the-variants.{New}
 use Rattle.galley_file.specs.GalleyLaws.{checked}
 use Rattle.galley_file.specs.ItemLaws.{size-least}
-use Rattle.galley_file.proofs.Heights.{Lower, lower-start, lower-inside, lower-whole, lower-size, lower-next, lower-high, lower-end}
-use Rattle.galley_file.proofs.check_heights.Statement.{statement}
-use Rattle.galley_file.proofs.check_heights.Tie as tie
+use Rattle.galley_check.proofs.Heights.{Lower, lower-start, lower-inside, lower-whole, lower-size, lower-next, lower-high, lower-end}
+use Rattle.galley_check.proofs.check_heights.Statement.{statement}
+use Rattle.galley_check.proofs.check_heights.Tie as tie
 
 abbrev Inv-loop : tie.InvT-loop
 Inv-loop g count at₀ at = Lower g at

@@ -20,18 +20,18 @@ use Rattle.integers.specs.Parts.{integers, true-leZ}
 use Rattle.octets.specs.Answer.{accepted, refused, refusal, written, galleyTooLong, galleyMalformed, heightTooGreat}
 use Rattle.octets.specs.FieldLaws.{both}
 use Rattle.measure.specs.Place.{heightEnd, lowEnd}
 use Rattle.galley_file.specs.declared.character.Character.{Character}
 use Rattle.galley_file.specs.declared.item.Item.{Item}
 use Rattle.galley_file.specs.declared.item.Item.the-variants.{Placed, Cut}
 use Rattle.galley_file.specs.declared.form.Form.the-variants.{New}
 use Rattle.galley_file.specs.Form.{greatestHeight, maxGalley}
 use Rattle.galley_file.specs.CharacterLaws.{valid-parts, parts-valid, height-range}
 use Rattle.galley_file.specs.Item.{validItem, itemField, itemSize, isLow, charactersOf}
 use Rattle.galley_file.specs.ItemLaws.{length-itemField}
 use Rattle.galley_file.specs.Galley.{maxItems, AllValid, nil, more, fields, Reading, whole, malformed, readGalley, itemsIn, itemsOf}
 use Rattle.galley_file.specs.GalleyLaws.{checked, read-as, reading-valid}
 use Rattle.galley_file.specs.Outcome.{countOutcome, checkOutcome}
-use Rattle.galley_file.specs.Low.{firstHigh, lowCount, lowCheck, lowOutcome, orTooGreat, lowReading, lowResult}
+use Rattle.galley_check.specs.Low.{firstHigh, lowCount, lowCheck, lowOutcome, orTooGreat, lowReading, lowResult}
 
 -- ---- the first greater height
 

@@ -6,19 +6,19 @@ use lib.ListN.{length, take, drop}
 use borrow.Author.Needs.{needs}
 use borrow.Fn.Kinds.{In}
 use borrow.Fn.PlainCycle.{Measures, is, falls, and}
 use Rattle.galley_file.specs.Galley.{leading}
-use Rattle.galley_file.specs.Span.{runNumber}
+use Rattle.galley_check.specs.Span.{runNumber}
 use Rattle.galley_file.specs.CharacterLaws.{read-character}
 use Rattle.galley_file.specs.ItemLaws.{cut-long}
-use Rattle.galley_file.proofs.Reading.{number-none, number-stop, number-character, number-cut, number-most}
-use Rattle.galley_file.proofs.leading_items.Reads as own
-use Rattle.galley_file.proofs.leading_items.Kinds as kinds
-use Rattle.galley_file.proofs.+leading_items.Lts-leading_items as lts
+use Rattle.galley_check.proofs.Reading.{number-none, number-stop, number-character, number-cut, number-most}
+use Rattle.galley_check.proofs.leading_items.Reads as own
+use Rattle.galley_check.proofs.leading_items.Kinds as kinds
+use Rattle.galley_check.proofs.+leading_items.Lts-leading_items as lts
 use Rattle.galley_file.proofs.character.is_character.Reads as is-character
 use Rattle.galley_file.proofs.form.character_size.Reads as character-size
 use Rattle.galley_file.proofs.item.is_cut.Reads as is-cut
-use Rattle.galley_file.proofs.+leading_items.{statement}
-use Rattle.galley_file.proofs.+leading_items.Tie.{close}
+use Rattle.galley_check.proofs.+leading_items.{statement}
+use Rattle.galley_check.proofs.+leading_items.Tie.{close}
 
 abbrev μ : Measures 1 kinds.ps ℕ
 μ κs a = a .1 .1 .0

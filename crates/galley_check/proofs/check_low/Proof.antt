@@ -1,11 +1,11 @@
--- `galley_file::check_low` meets its contract: the check decides first, and then the heights.
+-- `galley_check::check_low` meets its contract: the check decides first, and then the heights.
 -- Assumes nothing.
 use mathlib.Core.Path.{sym, ap, _∙_}
 use borrow.Author.Needs.{needs}
 use Rattle.octets.specs.Answer.{outcomeOf}
-use Rattle.galley_file.specs.LowLaws.{check-refused}
-use Rattle.galley_file.proofs.check_low.Statement.{statement}
-use Rattle.galley_file.proofs.check_low.Tie as tie
+use Rattle.galley_check.specs.LowLaws.{check-refused}
+use Rattle.galley_check.proofs.check_low.Statement.{statement}
+use Rattle.galley_check.proofs.check_low.Tie as tie
 
 check-galley-requires : tie.Need-check-galley-requires
 check-galley-requires c κs = search needs

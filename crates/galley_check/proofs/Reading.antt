@@ -11,18 +11,18 @@ use lib.ListN.{length, take, drop, length-drop, length-append}
 use lib.Seq.{take-all, drop-drop}
 use Rattle.octets.specs.Answer.{Outcome, accepted, refused, galleyMalformed}
 use Rattle.octets.specs.Field.{startsEnd}
 use Rattle.galley_file.specs.declared.item.Item.{Item}
 use Rattle.galley_file.specs.declared.item.Item.the-variants.{Placed, Cut}
-use Rattle.galley_file.specs.declared.Span.{Span}
+use Rattle.galley_check.specs.declared.Span.{Span}
 use Rattle.galley_file.specs.declared.form.Form.{Form}
 use Rattle.galley_file.specs.Form.{characterSize}
 use Rattle.galley_file.specs.Character.{characterAt, isCharacter}
 use Rattle.galley_file.specs.Item.{itemField, itemSize, isCut, nextItem, tally, charactersOf, cutsOf}
 use Rattle.galley_file.specs.ItemLaws.{length-itemField, next-is, count-item, all-counted}
 use Rattle.galley_file.specs.Galley.{Reading, whole, malformed, after, fields, readEnd, reading, leading}
-use Rattle.galley_file.specs.Span.{SpanOf, runNumber}
+use Rattle.galley_check.specs.Span.{SpanOf, runNumber}
 use Rattle.galley_file.specs.GalleyLaws.{reading-next, reading-end, length-fields}
 use Rattle.galley_file.specs.Outcome.{countOutcome}
 
 -- an item more before a run, and its count
 pub count-after : (n : ℕ) (i : Item) (r : Reading) → countOutcome n (after i r) ≡ countOutcome (n + tally i) r

@@ -3,9 +3,9 @@ use mathlib.Core.Path.{_≡_}
 use mathlib.Core.List.{List}
 use Prim.Native.Nat.{ℕ, _+_, _*_}
 use lib.ListN.{length}
 use Rattle.galley_file.specs.declared.item.Item.{Item}
-use Rattle.galley_file.specs.declared.Span.{Span}
+use Rattle.galley_check.specs.declared.Span.{Span}
 use Rattle.galley_file.specs.Item.{charactersOf, cutsOf}
 
 -- the characters and the cuts of a list of items
 pub record SpanOf (r : Span) (is : List Item) : Type 0 where

@@ -8,15 +8,15 @@ use Prim.Native.Nat.{ℕ, _+_, _<_, _≤_}
 use native.Mathlib.Omega.{arith}
 use lib.ListN.{length}
 use Rattle.octets.specs.Answer.{accepted, refused, heightTooGreat}
 use Rattle.galley_file.specs.declared.item.Item.{Item}
 use Rattle.galley_file.specs.declared.form.Form.the-variants.{New}
 use Rattle.galley_file.specs.Item.{itemSize, itemAt, WholeAt, isLow, charactersOf}
 use Rattle.galley_file.specs.Galley.{fields, itemsOf}
 use Rattle.galley_file.specs.GalleyLaws.{checked, read-as}
 use Rattle.galley_file.specs.Walk.{Midway, Onward, midway-start, midway-inside, midway-at, midway-end, midway-next, midway-whole}
 use Rattle.galley_file.specs.Outcome.{checkOutcome}
-use Rattle.galley_file.specs.Low.{firstHigh, lowCount, lowOutcome}
-use Rattle.galley_file.specs.LowLaws.{high-past, low-one, high-here, low-by-items}
+use Rattle.galley_check.specs.Low.{firstHigh, lowCount, lowOutcome}
+use Rattle.galley_check.specs.LowLaws.{high-past, low-one, high-here, low-by-items}
 
 -- the next field starts at `at`, and the items before it are low
 pub record Lower (g : List ℕ) (at : ℕ) : Type 0 where

@@ -1,10 +1,10 @@
--- `galley_file::leading_run` meets its contract: a run has at most 1,024 characters, so its number is taken apart.
+-- `galley_check::leading_run` meets its contract: a run has at most 1,024 characters, so its number is taken apart.
 -- Assumes nothing.
 use native.Mathlib.Omega.{arith}
 use borrow.Author.Needs.{needs}
-use Rattle.galley_file.proofs.Reading.{number-span}
-use Rattle.galley_file.proofs.leading_run.Statement.{statement}
-use Rattle.galley_file.proofs.leading_run.Tie as tie
+use Rattle.galley_check.proofs.Reading.{number-span}
+use Rattle.galley_check.proofs.leading_run.Statement.{statement}
+use Rattle.galley_check.proofs.leading_run.Tie as tie
 
 leading-items-requires : tie.Need-leading-items-requires
 leading-items-requires c κs = omega arith

@@ -1,9 +1,9 @@
--- `galley_file::check_end` meets its contract.
+-- `galley_check::check_end` meets its contract.
 use mathlib.Core.Path.{_≡_, sym, _∙_}
 use borrow.Author.Needs.{needs}
-use Rattle.galley_file.proofs.Reading.{ended, trailing, faulty}
-use Rattle.galley_file.proofs.check_end.Statement.{statement}
-use Rattle.galley_file.proofs.check_end.Tie as tie
+use Rattle.galley_check.proofs.Reading.{ended, trailing, faulty}
+use Rattle.galley_check.proofs.check_end.Statement.{statement}
+use Rattle.galley_check.proofs.check_end.Tie as tie
 
 starts-end-requires : tie.Need-starts-end-requires
 starts-end-requires c κs = search needs

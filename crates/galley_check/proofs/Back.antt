@@ -12,19 +12,20 @@ use lib.IntN.{pos}
 use lib.Signed.{_≤ℤ_}
 use Rattle.octets.specs.Octets.{natAt}
 use Rattle.octets.specs.Answer.{accepted, refused, noCharacter, galleyTooLong}
 use Rattle.galley_file.specs.declared.character.Character.{Character}
 use Rattle.galley_file.specs.declared.item.Item.{Item}
 use Rattle.galley_file.specs.declared.item.Item.the-variants.{Placed, Cut}
 use Rattle.galley_file.specs.declared.form.Form.the-variants.{New}
 use Rattle.galley_file.specs.Form.{greatestHeight, maxGalley}
 use Rattle.galley_file.specs.Character.{valid, characterAt}
 use Rattle.galley_file.specs.CharacterLaws.{height-number}
 use Rattle.galley_file.specs.Item.{validItem, itemAt, itemSize, WholeAt, tally, charactersOf, cutsOf}
 use Rattle.galley_file.specs.ItemLaws.{characters-append, count-item}
 use Rattle.galley_file.specs.Galley.{maxItems, Reading, whole, malformed, readGalley}
 use Rattle.galley_file.specs.GalleyLaws.{Checked, checked, reading-length, length-fields}
 use Rattle.galley_file.specs.Walk.{Walk, walk-start, walk-step, Midway, midway-start, midway-end, Onward, midway-next, midway-whole}
-use Rattle.galley_file.specs.Outcome.{countOutcome, checkOutcome, FoundOutcome, found, notFound, pickFound, readBackOutcome, zeros}
+use Rattle.galley_file.specs.Outcome.{countOutcome, checkOutcome}
+use Rattle.galley_check.specs.Found.{FoundOutcome, found, notFound, pickFound, readBackOutcome, zeros}
 
 -- where the check refuses, so does reading back
 pub back-refused : (g : List ℕ) (n number place : ℕ) → refused number place ≡ checkOutcome New g → notFound number place ≡ readBackOutcome g n

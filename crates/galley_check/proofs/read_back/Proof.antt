@@ -1,14 +1,15 @@
--- `galley_file::read_back` meets its contract: the check's answer decides; an accepted galley has its character n at byte 11 n where
+-- `galley_check::read_back` meets its contract: the check's answer decides; an accepted galley has its character n at byte 11 n where
 -- there are no cuts, and else it is looked for.
 use mathlib.Core.Path.{_≡_, sym, ap, _∙_}
 use native.Mathlib.Omega.{arith}
 use borrow.Author.Needs.{needs}
 use Rattle.galley_file.specs.declared.form.Form.the-variants.{New}
-use Rattle.galley_file.specs.Outcome.{checkOutcome, found}
+use Rattle.galley_file.specs.Outcome.{checkOutcome}
+use Rattle.galley_check.specs.Found.{found}
 use Rattle.octets.specs.Answer.{accepted, outcomeOf}
-use Rattle.galley_file.proofs.Back.{back-refused, back-few, back-room, back-found, back-none}
-use Rattle.galley_file.proofs.read_back.Statement.{statement}
-use Rattle.galley_file.proofs.read_back.Tie as tie
+use Rattle.galley_check.proofs.Back.{back-refused, back-few, back-room, back-found, back-none}
+use Rattle.galley_check.proofs.read_back.Statement.{statement}
+use Rattle.galley_check.proofs.read_back.Tie as tie
 
 check-galley-requires : tie.Need-check-galley-requires
 check-galley-requires c κs = search needs

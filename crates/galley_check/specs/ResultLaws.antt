@@ -13,13 +13,14 @@ use lib.Dec.{ltb}
 use lib.ListN.{length}
 use Rattle.octets.specs.Octets.{Bytes}
 use Rattle.octets.specs.Answer.{accepted, refused, Result, refusal, written, galleyTooLong}
 use Rattle.galley_file.specs.declared.form.Form.{Form}
 use Rattle.galley_file.specs.declared.item.Item.{Item}
 use Rattle.galley_file.specs.Form.{greatestHeight, maxGalley}
 use Rattle.galley_file.specs.Item.{charactersOf}
 use Rattle.galley_file.specs.Galley.{maxItems, AllValid, galley, Reading, whole, malformed, readGalley, itemsOf}
 use Rattle.galley_file.specs.GalleyLaws.{checked, read-as, read-accepted, accepted-is}
-use Rattle.galley_file.specs.Outcome.{countOutcome, checkOutcome, madeOf, checkedResult}
+use Rattle.galley_file.specs.Outcome.{countOutcome, checkOutcome}
+use Rattle.galley_check.specs.Result.{madeOf, checkedResult}
 
 module _ (form : Form) (make : List Item → Result) (g : List ℕ) where
   pub result-refused : (n place : ℕ) → refused n place ≡ checkOutcome form g → checkedResult form make g ≡ refusal n place
