@@ -44,8 +44,8 @@ use Rattle.running.specs.declared.Phase.the-variants.{AtRest, Open, Failed}
 use Rattle.running.specs.declared.Running.{Running}
 use Rattle.running.specs.Running.{Replied, failing, putting, isSound, fresh, startOn, startOf, grown, pieceEnds, feedWithin, feedOpen, feedOf, atRest, closeOpen, closeOf}
 use Rattle.running.specs.RunningLaws.{SoundTape, tape-sound, feed-phase, feed-long, feed-fits, piece-whole, close-phase, close-cut, close-unstopped, close-whole}
-use Rattle.session.specs.Session.{Call, starting, piece, closing, given, tapeAfter, bytesOf, output, Made, new, by-call, withoutRoom, Piece, joined, pieces, session, RoomFor, Roomy, none, more}
-use Rattle.session.specs.SessionLaws.{Later, a-piece, AllLater, Repeated, repeats, Stuck, failed-at, resting, unsound, Kind, roomless, still, keeps, adds, finishes, kind-of, stuck-gives, without-room}
+use Rattle.session_laws.specs.Session.{Call, starting, piece, closing, given, tapeAfter, bytesOf, output, Made, new, by-call, withoutRoom, Piece, joined, pieces, session, RoomFor, Roomy, none, more}
+use Rattle.session_laws.specs.SessionLaws.{Later, a-piece, AllLater, Repeated, repeats, Stuck, failed-at, resting, unsound, Kind, roomless, still, keeps, adds, finishes, kind-of, stuck-gives, without-room}
 
 never : {t : State} {n place : ℕ} {X : Type 0} → Fault n place ≡ Reached t → X
 never e = absurd (let z : _≡_ {A = ℕ} 0 1 = cc in omega arith)

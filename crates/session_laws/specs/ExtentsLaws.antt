@@ -25,8 +25,8 @@ use Rattle.tape.specs.Tape.{machineOf}
 use Rattle.running.specs.declared.Phase.the-variants.{AtRest}
 use Rattle.running.specs.declared.Running.{Running}
 use Rattle.running.specs.Running.{Replied, fresh, startOn, startOf, grown}
-use Rattle.session.specs.Session.{Call, starting, piece, closing, given, tapeAfter, bytesOf, output}
-use Rattle.session.specs.SessionLaws.{Later, resting, Kind, roomless, still, keeps, adds, finishes, kind-of, stuck-gives}
+use Rattle.session_laws.specs.Session.{Call, starting, piece, closing, given, tapeAfter, bytesOf, output}
+use Rattle.session_laws.specs.SessionLaws.{Later, resting, Kind, roomless, still, keeps, adds, finishes, kind-of, stuck-gives}
 
 -- ---- what has gone out since the start
 

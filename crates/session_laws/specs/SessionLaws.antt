@@ -31,7 +31,7 @@ use Rattle.running.specs.declared.Phase.the-variants.{AtRest, Open, Failed}
 use Rattle.running.specs.declared.Running.{Running}
 use Rattle.running.specs.Running.{Replied, refusing, failing, isSound, inPhase, startOn, startOf, grown, pieceEnds, feedWithin, feedOpen, feedOf, atRest, closeOpen, closeOf}
 use Rattle.running.specs.RunningLaws.{sound-tape, feed-unsound, close-unsound}
-use Rattle.session.specs.Session.{Call, starting, piece, closing, given, tapeAfter, results, bytesOf, output, isRoom, withoutRoom, withoutRooms}
+use Rattle.session_laws.specs.Session.{Call, starting, piece, closing, given, tapeAfter, results, bytesOf, output, isRoom, withoutRoom, withoutRooms}
 
 -- ---- what a piece or the close can give
 
