@@ -1,10 +1,10 @@
 -- Codes that may change places (document 02, "Order on the tape").
 --     Mode             what rail, mag, tilt and half are, and the two directions
---     turn             the order that sets a mode
+--     turn             the instruction that sets a mode
 --     Switch           a switch of a machine
 --     switchCode       its code
 --     Setting          a code that only sets a mode or the size
---     Commuting        two orders of which either may come first
+--     Commuting        two instructions of which either may come first
 --     Exchangeable     two codes of a machine that may change places
 --     Reordered        two tapes that differ by exchanges of neighbours
 --     Accepted         the tape is accepted, with this galley
@@ -15,9 +15,9 @@ use mathlib.Core.Path.{_≡_}
 use Rattle.octets.specs.Answer.{written}
 use Rattle.typesetter.specs.declared.code.Machine.{Machine}
 use Rattle.typesetter.specs.declared.code.Machine.the-variants.{Eight}
-use Rattle.typesetter.specs.declared.code.Order.{Order}
-use Rattle.typesetter.specs.declared.code.Order.the-variants.{Rail, Mag, Tilt, Half, EscapeWay, LeadWay, Size, Lead, Escape}
-use Rattle.typesetter.specs.declared.code.Code.the-variants.{Ignored, Ordered}
+use Rattle.typesetter.specs.declared.code.Instruction.{Instruction}
+use Rattle.typesetter.specs.declared.code.Instruction.the-variants.{Rail, Mag, Tilt, Half, EscapeWay, LeadWay, Size, Lead, Escape}
+use Rattle.typesetter.specs.declared.code.Code.the-variants.{Ignored, Instructs}
 use Rattle.typesetter.specs.Code.{codeOf}
 use Rattle.tape.specs.Tape.{tapeResult}
 
@@ -25,7 +25,7 @@ pub data Mode : Type 0 where
   rail mag tilt half escapeWay leadWay : Mode
 
 -- upper, for the tilt down, for a direction backward
-abbrev pub turn : Mode → Bool → Order
+abbrev pub turn : Mode → Bool → Instruction
 turn rail up = Rail up
 turn mag up = Mag up
 turn tilt down = Tilt down
@@ -56,9 +56,9 @@ pub data Setting : Type 0 where
   moded : Mode → Bool → Setting
   sized : ℕ → Setting
 
-abbrev pub orderIn : Setting → Order
-orderIn (moded m b) = turn m b
-orderIn (sized n) = Size n
+abbrev pub settingInstruction : Setting → Instruction
+settingInstruction (moded m b) = turn m b
+settingInstruction (sized n) = Size n
 
 -- of two different things
 abbrev pub Different : Setting → Setting → Type 0
@@ -74,16 +74,16 @@ Beside w (sized n) = Unit {0}
 
 -- "one an escape and one a lead"; "codes of two different switches" are settings of different modes. Further: any two settings of different
 -- things, and an escape or a lead with a setting of anything but its direction
-pub data Commuting : Order → Order → Type 0 where
+pub data Commuting : Instruction → Instruction → Type 0 where
   escape-lead : {n k : ℕ} → Commuting (Escape n) (Lead k)
-  settings : (x y : Setting) → Different x y → Commuting (orderIn x) (orderIn y)
-  escape-setting : {n : ℕ} (x : Setting) → Beside escapeWay x → Commuting (Escape n) (orderIn x)
-  lead-setting : {n : ℕ} (x : Setting) → Beside leadWay x → Commuting (Lead n) (orderIn x)
-  either : {o p : Order} → Commuting o p → Commuting p o
+  settings : (x y : Setting) → Different x y → Commuting (settingInstruction x) (settingInstruction y)
+  escape-setting : {n : ℕ} (x : Setting) → Beside escapeWay x → Commuting (Escape n) (settingInstruction x)
+  lead-setting : {n : ℕ} (x : Setting) → Beside leadWay x → Commuting (Lead n) (settingInstruction x)
+  either : {o p : Instruction} → Commuting o p → Commuting p o
 
 -- by the machine's table of codes; a 4-font machine has no tilt. A 00 does nothing and may stand on either side of any code
 pub data Exchangeable (machine : Machine) (a b : ℕ) : Type 0 where
-  orders : {o p : Order} → codeOf machine a ≡ Ordered o → codeOf machine b ≡ Ordered p → Commuting o p → Exchangeable machine a b
+  instructions : {o p : Instruction} → codeOf machine a ≡ Instructs o → codeOf machine b ≡ Instructs p → Commuting o p → Exchangeable machine a b
   ignored-first : codeOf machine a ≡ Ignored → Exchangeable machine a b
   ignored-second : codeOf machine b ≡ Ignored → Exchangeable machine a b
 

@@ -25,23 +25,23 @@ use Rattle.measure.specs.declared.Height.the-variants as height
 use Rattle.measure.specs.Place.{directedBy, carriageAt, heightAt}
 use Rattle.galley_file.specs.declared.item.Item.{Item}
 use Rattle.typesetter.specs.declared.code.Machine.{Machine}
-use Rattle.typesetter.specs.declared.code.Order.{Order}
-use Rattle.typesetter.specs.declared.code.Order.the-variants.{Lead, Escape}
-use Rattle.typesetter.specs.declared.code.Code.the-variants.{Ignored, Ordered}
+use Rattle.typesetter.specs.declared.code.Instruction.{Instruction}
+use Rattle.typesetter.specs.declared.code.Instruction.the-variants.{Lead, Escape}
+use Rattle.typesetter.specs.declared.code.Code.the-variants.{Ignored, Instructs}
 use Rattle.typesetter.specs.declared.machine.Modes.{Modes}
 use Rattle.typesetter.specs.declared.machine.State.{State}
 use Rattle.typesetter.specs.declared.machine.Effect.{Effect}
-use Rattle.typesetter.specs.declared.machine.Effect.the-variants.{Moved, Flashed, Parted, Refused}
+use Rattle.typesetter.specs.declared.machine.Effect.the-variants.{Moved, Flashed, PageEnded, Refused}
 use Rattle.typesetter.specs.Code.{codeOf}
-use Rattle.typesetter.specs.Machine.{withRail, withMag, withTilt, withHalf, withEscape, withLead, withModes, withSize, withCarriage, withHeight, start, origin, leavesSwitch, toCarriage, toHeight, escapeOf, leadOf, orderOf, effectOf}
+use Rattle.typesetter.specs.Machine.{withRail, withMag, withTilt, withHalf, withEscape, withLead, withModes, withSize, withCarriage, withHeight, start, origin, leavesSwitch, toCarriage, toHeight, escapeOf, leadOf, instructionEffect, effectOf}
 use Rattle.typesetter.specs.CodeLaws.{code-escape, code-lead}
-use Rattle.typesetter.specs.EffectLaws.{moved-machine, parted-machine}
-use Rattle.typesetter.specs.StepLaws.{step-ignored, order-early, order-cut, order-stopped, order-taken}
+use Rattle.typesetter.specs.EffectLaws.{moved-machine, page-ended-machine}
+use Rattle.typesetter.specs.StepLaws.{step-ignored, instruction-early, instruction-after-cut, instruction-after-stop, instruction-taken}
 use Rattle.tape.specs.declared.Ending.{Ending}
 use Rattle.tape.specs.declared.Ending.the-variants.{Reached, Fault}
 use Rattle.tape.specs.Tape.{maxTape, Run, run, closing, readResult, machineOf, onMachine, tapeResult}
 use Rattle.tape.specs.RunLaws.{goOn, run-append, run-machine}
-use Rattle.exchange.specs.Exchange.{Mode, rail, mag, tilt, half, escapeWay, leadWay, turn, Switch, railSwitch, magSwitch, tiltSwitch, halfSwitch, switchCode, Setting, moded, sized, orderIn, Different, Beside, Commuting, escape-lead, settings, escape-setting, lead-setting, either, Exchangeable, orders, ignored-first, ignored-second, Reordered, unchanged, exchanged, further, Accepted}
+use Rattle.exchange.specs.Exchange.{Mode, rail, mag, tilt, half, escapeWay, leadWay, turn, Switch, railSwitch, magSwitch, tiltSwitch, halfSwitch, switchCode, Setting, moded, sized, settingInstruction, Different, Beside, Commuting, escape-lead, settings, escape-setting, lead-setting, either, Exchangeable, instructions, ignored-first, ignored-second, Reordered, unchanged, exchanged, further, Accepted}
 
 -- ---- runs that are the same, or both refused
 
@@ -111,15 +111,15 @@ abbrev applied : State → Setting → State
 applied s (moded m u) = withModes s (withMode (s .modes) m u)
 applied s (sized n) = withSize s n
 
-setting-order : (s : State) (x : Setting) → orderOf s (orderIn x) ≡ Moved (applied s x)
-unfolding orderOf
-setting-order s (moded rail u) = refl
-setting-order s (moded mag u) = refl
-setting-order s (moded tilt u) = refl
-setting-order s (moded half u) = refl
-setting-order s (moded escapeWay u) = refl
-setting-order s (moded leadWay u) = refl
-setting-order s (sized n) = refl
+setting-effect : (s : State) (x : Setting) → instructionEffect s (settingInstruction x) ≡ Moved (applied s x)
+unfolding instructionEffect
+setting-effect s (moded rail u) = refl
+setting-effect s (moded mag u) = refl
+setting-effect s (moded tilt u) = refl
+setting-effect s (moded half u) = refl
+setting-effect s (moded escapeWay u) = refl
+setting-effect s (moded leadWay u) = refl
+setting-effect s (sized n) = refl
 
 modes-either : (a : Modes) (m n : Mode) (u v : Bool) → (m ≡ n → ⊥) → withMode (withMode a m u) n v ≡ withMode (withMode a n v) m u
 modes-either a rail rail u v d = absurd (d refl)
@@ -227,7 +227,7 @@ same-lead : (s : State) (x : Setting) → Beside leadWay x → SameLead s (appli
 same-lead s (moded m u) d = record { way = lead-way (s .modes) m u d; place = refl }
 same-lead s (sized n) d = record { way = refl; place = refl }
 
--- ---- two orders of an initialized machine, before stop or cut
+-- ---- two instructions of an initialized machine, before stop or cut
 
 -- both are taken there
 record Begun (s : State) : Type 0 where
@@ -235,8 +235,8 @@ record Begun (s : State) : Type 0 where
   uncut : s .cut ≡ false
   unstopped : s .stopped ≡ false
 
-effect-in : (s : State) → Begun s → (c : ℕ) {o : Order} → codeOf (s .machine) c ≡ Ordered o → effectOf s c ≡ orderOf s o
-effect-in s r c e = sym (order-taken s c e (r .begun) (r .uncut) (r .unstopped))
+effect-in : (s : State) → Begun s → (c : ℕ) {o : Instruction} → codeOf (s .machine) c ≡ Instructs o → effectOf s c ≡ instructionEffect s o
+effect-in s r c e = sym (instruction-taken s c e (r .begun) (r .uncut) (r .unstopped))
 
 begun-applied : (s : State) (x : Setting) → Begun s → Begun (applied s x)
 begun-applied s (moded m u) r = record { begun = r .begun; uncut = r .uncut; unstopped = r .unstopped }
@@ -248,8 +248,8 @@ same-machine s (sized n) = refl
 
 module _ (s : State) (at a b : ℕ) (r : Begun s) where
   -- an escape here, and after anything that leaves it as it is
-  swap-escape-lead : (n k : ℕ) → codeOf (s .machine) a ≡ Ordered (Escape n) → codeOf (s .machine) b ≡ Ordered (Lead k) → Swapped s at a b
-  unfolding orderOf
+  swap-escape-lead : (n k : ℕ) → codeOf (s .machine) a ≡ Instructs (Escape n) → codeOf (s .machine) b ≡ Instructs (Lead k) → Swapped s at a b
+  unfolding instructionEffect
   swap-escape-lead n k ea eb = go (escapes s n) (heightAt (s .height .0 +ℤ directedBy (s .modes .«lead_back») k)) refl
     where
       escape : (h : Quanta) → effectOf (withHeight s h) a ≡ escapeOf (withHeight s h) n
@@ -275,31 +275,31 @@ module _ (s : State) (at a b : ℕ) (r : Begun s) where
           refused (run-refuses s at a (b ∷ []) (escape (s .height) ∙ f s (same-at (s .height)))) (refuses-second s at b (withHeight s h) a (lead e) (escape h ∙ f (withHeight s h) (same-at h)))
       go (stays m f) height.Outside e = refused (run-refuses s at a (b ∷ []) (escape (s .height) ∙ f s (same-at (s .height)))) (run-refuses s at b (a ∷ []) (lead e))
 
-  sets : (x : Setting) (c : ℕ) → codeOf (s .machine) c ≡ Ordered (orderIn x) → effectOf s c ≡ Moved (applied s x)
-  sets x c e = effect-in s r c e ∙ setting-order s x
+  sets : (x : Setting) (c : ℕ) → codeOf (s .machine) c ≡ Instructs (settingInstruction x) → effectOf s c ≡ Moved (applied s x)
+  sets x c e = effect-in s r c e ∙ setting-effect s x
 
   -- a code after a setting
-  after-setting : (x : Setting) (c : ℕ) {o : Order} → codeOf (s .machine) c ≡ Ordered o → effectOf (applied s x) c ≡ orderOf (applied s x) o
+  after-setting : (x : Setting) (c : ℕ) {o : Instruction} → codeOf (s .machine) c ≡ Instructs o → effectOf (applied s x) c ≡ instructionEffect (applied s x) o
   after-setting x c e = effect-in (applied s x) (begun-applied s x r) c (ap (λ (m : Machine). codeOf m c) (same-machine s x) ∙ e)
 
-  swap-settings : (x y : Setting) → Different x y → codeOf (s .machine) a ≡ Ordered (orderIn x) → codeOf (s .machine) b ≡ Ordered (orderIn y) → Swapped s at a b
+  swap-settings : (x y : Setting) → Different x y → codeOf (s .machine) a ≡ Instructs (settingInstruction x) → codeOf (s .machine) b ≡ Instructs (settingInstruction y) → Swapped s at a b
   swap-settings x y d ea eb =
       same
-      (run-second s at a (applied s x) b (sets x a ea) (after-setting x b eb ∙ setting-order (applied s x) y)
+      (run-second s at a (applied s x) b (sets x a ea) (after-setting x b eb ∙ setting-effect (applied s x) y)
       ∙ ap (λ (t : State). record { items = []; ending = Reached t }) (applied-either s x y d)
-      ∙ sym (run-second s at b (applied s y) a (sets y b eb) (after-setting y a ea ∙ setting-order (applied s y) x)))
+      ∙ sym (run-second s at b (applied s y) a (sets y b eb) (after-setting y a ea ∙ setting-effect (applied s y) x)))
 
   -- a setting after an escape or a lead
-  set-there : (c : Units) (x : Setting) → codeOf (s .machine) b ≡ Ordered (orderIn x) → effectOf (withCarriage s c) b ≡ Moved (withCarriage (applied s x) c)
-  set-there c (moded m u) e = effect-in (withCarriage s c) (record { begun = r .begun; uncut = r .uncut; unstopped = r .unstopped }) b e ∙ setting-order (withCarriage s c) (moded m u)
-  set-there c (sized n) e = effect-in (withCarriage s c) (record { begun = r .begun; uncut = r .uncut; unstopped = r .unstopped }) b e ∙ setting-order (withCarriage s c) (sized n)
+  set-there : (c : Units) (x : Setting) → codeOf (s .machine) b ≡ Instructs (settingInstruction x) → effectOf (withCarriage s c) b ≡ Moved (withCarriage (applied s x) c)
+  set-there c (moded m u) e = effect-in (withCarriage s c) (record { begun = r .begun; uncut = r .uncut; unstopped = r .unstopped }) b e ∙ setting-effect (withCarriage s c) (moded m u)
+  set-there c (sized n) e = effect-in (withCarriage s c) (record { begun = r .begun; uncut = r .uncut; unstopped = r .unstopped }) b e ∙ setting-effect (withCarriage s c) (sized n)
 
-  set-above : (h : Quanta) (x : Setting) → codeOf (s .machine) b ≡ Ordered (orderIn x) → effectOf (withHeight s h) b ≡ Moved (withHeight (applied s x) h)
-  set-above h (moded m u) e = effect-in (withHeight s h) (record { begun = r .begun; uncut = r .uncut; unstopped = r .unstopped }) b e ∙ setting-order (withHeight s h) (moded m u)
-  set-above h (sized n) e = effect-in (withHeight s h) (record { begun = r .begun; uncut = r .uncut; unstopped = r .unstopped }) b e ∙ setting-order (withHeight s h) (sized n)
+  set-above : (h : Quanta) (x : Setting) → codeOf (s .machine) b ≡ Instructs (settingInstruction x) → effectOf (withHeight s h) b ≡ Moved (withHeight (applied s x) h)
+  set-above h (moded m u) e = effect-in (withHeight s h) (record { begun = r .begun; uncut = r .uncut; unstopped = r .unstopped }) b e ∙ setting-effect (withHeight s h) (moded m u)
+  set-above h (sized n) e = effect-in (withHeight s h) (record { begun = r .begun; uncut = r .uncut; unstopped = r .unstopped }) b e ∙ setting-effect (withHeight s h) (sized n)
 
-  swap-escape-setting : (n : ℕ) (x : Setting) → Beside escapeWay x → codeOf (s .machine) a ≡ Ordered (Escape n) → codeOf (s .machine) b ≡ Ordered (orderIn x) → Swapped s at a b
-  unfolding orderOf
+  swap-escape-setting : (n : ℕ) (x : Setting) → Beside escapeWay x → codeOf (s .machine) a ≡ Instructs (Escape n) → codeOf (s .machine) b ≡ Instructs (settingInstruction x) → Swapped s at a b
+  unfolding instructionEffect
   swap-escape-setting n x d ea eb = go (escapes s n)
     where
       here : SameEscape s s
@@ -312,8 +312,8 @@ module _ (s : State) (at a b : ℕ) (r : Begun s) where
           ∙ sym (run-second s at b (applied s x) a (sets x b eb) (after-setting x a ea ∙ f (applied s x) (same-escape s x d))))
       go (stays m f) = refused (run-refuses s at a (b ∷ []) (effect-in s r a ea ∙ f s here)) (refuses-second s at b (applied s x) a (sets x b eb) (after-setting x a ea ∙ f (applied s x) (same-escape s x d)))
 
-  swap-lead-setting : (n : ℕ) (x : Setting) → Beside leadWay x → codeOf (s .machine) a ≡ Ordered (Lead n) → codeOf (s .machine) b ≡ Ordered (orderIn x) → Swapped s at a b
-  unfolding orderOf
+  swap-lead-setting : (n : ℕ) (x : Setting) → Beside leadWay x → codeOf (s .machine) a ≡ Instructs (Lead n) → codeOf (s .machine) b ≡ Instructs (settingInstruction x) → Swapped s at a b
+  unfolding instructionEffect
   swap-lead-setting n x d ea eb = go (heightAt (s .height .0 +ℤ directedBy (s .modes .«lead_back») n)) refl
     where
       here : SameLead s s
@@ -326,22 +326,22 @@ module _ (s : State) (at a b : ℕ) (r : Begun s) where
           ∙ sym (run-second s at b (applied s x) a (sets x b eb) (after-setting x a ea ∙ leads s n e (applied s x) (same-lead s x d))))
       go height.Outside e = refused (run-refuses s at a (b ∷ []) (effect-in s r a ea ∙ leads s n e s here)) (refuses-second s at b (applied s x) a (sets x b eb) (after-setting x a ea ∙ leads s n e (applied s x) (same-lead s x d)))
 
--- codes of orders that commute, where both are taken
-swap-begun : (s : State) (at : ℕ) → Begun s → {o p : Order} → Commuting o p → (a b : ℕ) → codeOf (s .machine) a ≡ Ordered o → codeOf (s .machine) b ≡ Ordered p → Swapped s at a b
+-- codes of instructions that commute, where both are taken
+swap-begun : (s : State) (at : ℕ) → Begun s → {o p : Instruction} → Commuting o p → (a b : ℕ) → codeOf (s .machine) a ≡ Instructs o → codeOf (s .machine) b ≡ Instructs p → Swapped s at a b
 swap-begun s at r (escape-lead {n} {k}) a b ea eb = swap-escape-lead s at a b r n k ea eb
 swap-begun s at r (settings x y d) a b ea eb = swap-settings s at a b r x y d ea eb
 swap-begun s at r (escape-setting {n} x d) a b ea eb = swap-escape-setting s at a b r n x d ea eb
 swap-begun s at r (lead-setting {n} x d) a b ea eb = swap-lead-setting s at a b r n x d ea eb
 swap-begun s at r (either m) a b ea eb = alike-back (swap-begun s at r m b a eb ea)
 
--- orders that commute, on any machine in any state
-swap-orders : (s : State) (at a b : ℕ) {o p : Order} → codeOf (s .machine) a ≡ Ordered o → codeOf (s .machine) b ≡ Ordered p → Commuting o p → Swapped s at a b
-swap-orders s at a b ea eb m = go (s .initialized) refl (s .cut) refl (s .stopped) refl
+-- instructions that commute, on any machine in any state
+swap-instructions : (s : State) (at a b : ℕ) {o p : Instruction} → codeOf (s .machine) a ≡ Instructs o → codeOf (s .machine) b ≡ Instructs p → Commuting o p → Swapped s at a b
+swap-instructions s at a b ea eb m = go (s .initialized) refl (s .cut) refl (s .stopped) refl
   where
     go : (i : Bool) → s .initialized ≡ i → (c : Bool) → s .cut ≡ c → (t : Bool) → s .stopped ≡ t → Swapped s at a b
-    go false i c ec t et = refused (run-refuses s at a (b ∷ []) (sym (order-early s a ea i))) (run-refuses s at b (a ∷ []) (sym (order-early s b eb i)))
-    go true i true c t et = refused (run-refuses s at a (b ∷ []) (sym (order-cut s a ea i c))) (run-refuses s at b (a ∷ []) (sym (order-cut s b eb i c)))
-    go true i false c true t = refused (run-refuses s at a (b ∷ []) (sym (order-stopped s a ea i c t))) (run-refuses s at b (a ∷ []) (sym (order-stopped s b eb i c t)))
+    go false i c ec t et = refused (run-refuses s at a (b ∷ []) (sym (instruction-early s a ea i))) (run-refuses s at b (a ∷ []) (sym (instruction-early s b eb i)))
+    go true i true c t et = refused (run-refuses s at a (b ∷ []) (sym (instruction-after-cut s a ea i c))) (run-refuses s at b (a ∷ []) (sym (instruction-after-cut s b eb i c)))
+    go true i false c true t = refused (run-refuses s at a (b ∷ []) (sym (instruction-after-stop s a ea i c t))) (run-refuses s at b (a ∷ []) (sym (instruction-after-stop s b eb i c t)))
     go true i false c false t = swap-begun s at (record { begun = i; uncut = c; unstopped = t }) m a b ea eb
 
 -- 00 does nothing, on either side
@@ -358,11 +358,11 @@ swap-ignored s at a b ea = go (effectOf s b) refl
     go : (x : Effect) → effectOf s b ≡ x → Swapped s at a b
     go (Moved t) e = same (first ∙ rw (e, run) (rw (nothing t (moved-machine s b e), run)))
     go (Flashed c) e = same (first ∙ rw (e, run) (rw (nothing s refl, run)))
-    go (Parted t) e = same (first ∙ rw (e, run) (rw (nothing t (parted-machine s b e), run)))
+    go (PageEnded t) e = same (first ∙ rw (e, run) (rw (nothing t (page-ended-machine s b e), run)))
     go (Refused n) e = refused (ap (λ (x : Run). x .ending) first ∙ run-refuses s (suc at) b [] e) (run-refuses s at b (a ∷ []) e)
 
 swap : (s : State) (at a b : ℕ) → Exchangeable (s .machine) a b → Swapped s at a b
-swap s at a b (orders ea eb m) = swap-orders s at a b ea eb m
+swap s at a b (instructions ea eb m) = swap-instructions s at a b ea eb m
 swap s at a b (ignored-first e) = swap-ignored s at a b e
 swap s at a b (ignored-second e) = alike-back (swap-ignored s at b a e)
 
@@ -397,7 +397,7 @@ reordered-length (exchanged {a} {b} xs ys x) = omega (arith, length-append xs (a
 reordered-length (further r q) = reordered-length r ∙ reordered-length q
 
 exchangeable-back : {machine : Machine} {a b : ℕ} → Exchangeable machine a b → Exchangeable machine b a
-exchangeable-back (orders ea eb m) = orders eb ea (either m)
+exchangeable-back (instructions ea eb m) = instructions eb ea (either m)
 exchangeable-back (ignored-first e) = ignored-second e
 exchangeable-back (ignored-second e) = ignored-first e
 
@@ -443,9 +443,9 @@ exchange-accepted kind machine named xs a b ys x = reordered-accepted kind machi
 
 pub escape-and-lead : (machine : Machine) (a b : ℕ) → 0x80 ≤ a → a < 0xFF → 0x60 ≤ b → b < 0x80 → Exchangeable machine a b
 escape-and-lead machine a b la ha lb hb =
-    orders {o = Escape (127 - a % 128)} {p = Lead (31 - b % 32)} (code-escape machine a (omega arith) (omega arith)) (code-lead machine b (omega arith) (omega arith)) escape-lead
+    instructions {o = Escape (127 - a % 128)} {p = Lead (31 - b % 32)} (code-escape machine a (omega arith) (omega arith)) (code-lead machine b (omega arith) (omega arith)) escape-lead
 
-switch-code : (machine : Machine) {m : Mode} (p : Switch machine m) (u : Bool) → codeOf machine (switchCode p u) ≡ Ordered (turn m u)
+switch-code : (machine : Machine) {m : Mode} (p : Switch machine m) (u : Bool) → codeOf machine (switchCode p u) ≡ Instructs (turn m u)
 unfolding codeOf
 switch-code machine railSwitch false = refl
 switch-code machine railSwitch true = refl
@@ -457,7 +457,7 @@ switch-code machine tiltSwitch false = refl
 switch-code machine tiltSwitch true = refl
 
 pub two-switches : (machine : Machine) {m n : Mode} (p : Switch machine m) (q : Switch machine n) (u v : Bool) → (m ≡ n → ⊥) → Exchangeable machine (switchCode p u) (switchCode q v)
-two-switches machine {m} {n} p q u v d = orders (switch-code machine p u) (switch-code machine q v) (settings (moded m u) (moded n v) d)
+two-switches machine {m} {n} p q u v d = instructions (switch-code machine p u) (switch-code machine q v) (settings (moded m u) (moded n v) d)
 
 -- "exchange two neighbouring codes, one an escape and one a lead", on either machine; the other order is the same law read backward
 pub escape-lead-exchanged : (kind : Machine) (machine : ℕ) → machineOf machine ≡ some kind → (xs : List ℕ) (a b : ℕ) (ys : List ℕ) → 0x80 ≤ a → a < 0xFF → 0x60 ≤ b → b < 0x80

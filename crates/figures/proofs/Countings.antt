@@ -18,17 +18,17 @@ use Rattle.galley_file.specs.Item.{charactersOf}
 use Rattle.galley_file.specs.ItemLaws.{all-counted, characters-append}
 use Rattle.typesetter.specs.declared.machine.State.{State}
 use Rattle.typesetter.specs.declared.machine.Effect.{Effect}
-use Rattle.typesetter.specs.declared.machine.Effect.the-variants.{Moved, Flashed, Parted, Refused}
+use Rattle.typesetter.specs.declared.machine.Effect.the-variants.{Moved, Flashed, PageEnded, Refused}
 use Rattle.typesetter.specs.CodeLaws.{not-zero}
 use Rattle.typesetter.specs.Machine.{effectOf}
 use Rattle.typesetter.specs.EffectLaws.{fault-effect}
 use Rattle.typesetter.specs.Sound.{Sound}
-use Rattle.typesetter.specs.SoundLaws.{stays-sound, parted-sound}
+use Rattle.typesetter.specs.SoundLaws.{stays-sound, page-ended-sound}
 use Rattle.typesetter.specs.StepLaws.{placed}
 use Rattle.tape.specs.declared.Ending.the-variants.{Reached}
 use Rattle.tape.specs.declared.quick.Stretch.{Stretch}
 use Rattle.tape.specs.Tape.{maxTape, Run, run}
-use Rattle.tape.specs.RunLaws.{Sets, flashed, parted, soFar, run-length, run-moved, run-set, run-refused}
+use Rattle.tape.specs.RunLaws.{Sets, flashed, pageEnded, soFar, run-length, run-moved, run-set, run-refused}
 use Rattle.tape.specs.Quick.{NoLead, stretchAt, Strides, stands, moves, sets}
 use Rattle.figures.specs.Figures.{taken, total, forwardOf, backwardOf, inFont, Figures, refusedWith, acceptedWith, sum64}
 use Rattle.figures.specs.Figures as R
@@ -125,7 +125,7 @@ module _ (s₀ : State) (tape : List ℕ) where
         where
           set-sound : {e : Effect} {x : Item} {t : State} → Sets s e x t → effectOf s (getD tape i 0) ≡ e → Sound t
           set-sound flashed q = r .sound
-          set-sound parted q = parted-sound s (r .sound) (getD tape i 0) q
+          set-sound pageEnded q = page-ended-sound s (r .sound) (getD tape i 0) q
 
       pub counting-refused : (n : ℕ) → effectOf s (getD tape i 0) ≡ Refused n → (fonts : List ℕ) → Tallied (figuresFrom s₀ tape) (record { number = n; forward = 0; backward = 0 }) fonts
       unfolding figuresFrom
@@ -255,9 +255,9 @@ module _ (s₀ : State) (tape : List ℕ) (s : State) (fonts : List ℕ) (forwar
         ∙ more-of fonts (c .font) 1 n l (omega (arith, few, short, big))
         ∙ ap (λ (m : ℕ). countIn fonts n + m) (sym (sets-one n c (c .font) refl)))
 
-    pub counting-parted : (t : State) → effectOf s (getD tape i 0) ≡ Parted t → Counting s₀ tape t (countIn fonts) forward backward (i + 1)
+    pub counting-page-ended : (t : State) → effectOf s (getD tape i 0) ≡ PageEnded t → Counting s₀ tape t (countIn fonts) forward backward (i + 1)
     unfolding inFont charactersOf
-    counting-parted t e = counting-set s₀ tape s (countIn fonts) forward backward i r h e parted (countIn fonts) (λ n. omega arith)
+    counting-page-ended t e = counting-set s₀ tape s (countIn fonts) forward backward i r h e pageEnded (countIn fonts) (λ n. omega arith)
 
   -- ---- the end of the tape
 

@@ -10,11 +10,11 @@ use lib.Seq.{take-suc}
 use Rattle.galley_file.specs.declared.item.Item.{Item}
 use Rattle.typesetter.specs.declared.machine.State.{State}
 use Rattle.typesetter.specs.declared.machine.Effect.{Effect}
-use Rattle.typesetter.specs.declared.machine.Effect.the-variants.{Moved, Flashed, Parted, Refused}
+use Rattle.typesetter.specs.declared.machine.Effect.the-variants.{Moved, Flashed, PageEnded, Refused}
 use Rattle.tape.specs.declared.Ending.the-variants.{Reached, Fault}
 use Rattle.typesetter.specs.Machine.{effectOf}
 use Rattle.tape.specs.Tape.{run}
-use Rattle.tape.specs.RunLaws.{fault-never, Sets, flashed, parted}
+use Rattle.tape.specs.RunLaws.{fault-never, Sets, flashed, pageEnded}
 use Rattle.figures.specs.Figures.{Move, taken, moves, total}
 
 reached-same : {s t : State} → Reached s ≡ Reached t → s ≡ t
@@ -28,7 +28,7 @@ moves-append s at (b ∷ xs) ys {t} e = go (λ u. moves-append u (suc at) xs ys)
     go : ((u : State) → run u (suc at) xs .ending ≡ Reached t → moves u (xs ++ ys) ≡ moves u xs ++ moves t ys) → (x : Effect) → effectOf s b ≡ x → moves s (b ∷ (xs ++ ys)) ≡ moves s (b ∷ xs) ++ moves t ys
     go later (Moved u) q = rw (q, moves) (ap (λ (l : List Move). taken s b ∷ l) (later u (rw (q, run) at e)))
     go later (Flashed c) q = rw (q, moves) (later s (rw (q, run) at e))
-    go later (Parted u) q = rw (q, moves) (later u (rw (q, run) at e))
+    go later (PageEnded u) q = rw (q, moves) (later u (rw (q, run) at e))
     go later (Refused n) q = let f : Fault n at ≡ Reached t = rw (q, run) at e in fault-never f
 
 pub total-append : (f : Move → ℕ) (xs ys : List Move) → total f (xs ++ ys) ≡ total f xs + total f ys
@@ -51,4 +51,4 @@ module _ (s₀ : State) (at : ℕ) (tape : List ℕ) (i : ℕ) (s : State) (ran 
   pub total-set : {e : Effect} {x : Item} {t : State} → effectOf s (getD tape i 0) ≡ e → Sets s e x t → (f : Move → ℕ) → total f (moves s₀ (take (i + 1) tape)) ≡ total f (moves s₀ (take i tape))
   unfolding moves
   total-set q flashed f = ap (total f) (one-more ∙ ap (λ (l : List Move). moves s₀ (take i tape) ++ l) (rw (q, moves)) ∙ append-nil (moves s₀ (take i tape)))
-  total-set q parted f = ap (total f) (one-more ∙ ap (λ (l : List Move). moves s₀ (take i tape) ++ l) (rw (q, moves)) ∙ append-nil (moves s₀ (take i tape)))
+  total-set q pageEnded f = ap (total f) (one-more ∙ ap (λ (l : List Move). moves s₀ (take i tape) ++ l) (rw (q, moves)) ∙ append-nil (moves s₀ (take i tape)))

@@ -20,12 +20,12 @@ use Rattle.galley_file.specs.Form.{maxGalley}
 use Rattle.galley_file.specs.Item.{charactersOf}
 use Rattle.galley_file.specs.Galley.{itemsOf}
 use Rattle.typesetter.specs.declared.code.Machine.{Machine}
-use Rattle.typesetter.specs.declared.code.Order.{Order}
-use Rattle.typesetter.specs.declared.code.Order.the-variants.{Flash, Rail, Mag, Half, EscapeWay, LeadWay, Tilt, Size, Stop, Cut, Lead, Escape}
+use Rattle.typesetter.specs.declared.code.Instruction.{Instruction}
+use Rattle.typesetter.specs.declared.code.Instruction.the-variants.{Flash, Rail, Mag, Half, EscapeWay, LeadWay, Tilt, Size, Stop, Cut, Lead, Escape}
 use Rattle.typesetter.specs.declared.code.Code.{Code}
-use Rattle.typesetter.specs.declared.code.Code.the-variants.{Ignored, Illegal, Initialize, Ordered}
+use Rattle.typesetter.specs.declared.code.Code.the-variants.{Ignored, Illegal, Initialize, Instructs}
 use Rattle.typesetter.specs.declared.machine.State.{State}
-use Rattle.typesetter.specs.declared.machine.Effect.the-variants.{Moved, Flashed, Parted, Refused}
+use Rattle.typesetter.specs.declared.machine.Effect.the-variants.{Moved, Flashed, PageEnded, Refused}
 use Rattle.typesetter.specs.Code.{codeOf}
 use Rattle.typesetter.specs.Machine.{start, effectOf}
 use Rattle.tape.specs.Tape.{machineOf, tapeResult}
@@ -46,7 +46,7 @@ moves s (b ∷ bs) =
     elim (effectOf s b) [
       | Moved t ↦ taken s b ∷ moves t bs
       | Flashed c ↦ moves s bs
-      | Parted t ↦ moves t bs
+      | PageEnded t ↦ moves t bs
       | Refused n ↦ []
     ]
 
@@ -56,25 +56,25 @@ total f (x ∷ xs) = f x + total f xs
 
 -- ---- lead
 
-abbrev pub orderLead : Order → ℕ
-orderLead (Flash v) = 0
-orderLead (Rail up) = 0
-orderLead (Mag up) = 0
-orderLead (Half up) = 0
-orderLead (EscapeWay back) = 0
-orderLead (LeadWay back) = 0
-orderLead (Tilt down) = 0
-orderLead (Size index) = 0
-orderLead Stop = 0
-orderLead Cut = 0
-orderLead (Lead n) = n
-orderLead (Escape n) = 0
+abbrev pub instructionLead : Instruction → ℕ
+instructionLead (Flash v) = 0
+instructionLead (Rail up) = 0
+instructionLead (Mag up) = 0
+instructionLead (Half up) = 0
+instructionLead (EscapeWay back) = 0
+instructionLead (LeadWay back) = 0
+instructionLead (Tilt down) = 0
+instructionLead (Size index) = 0
+instructionLead Stop = 0
+instructionLead Cut = 0
+instructionLead (Lead n) = n
+instructionLead (Escape n) = 0
 
 abbrev pub leadIn : Code → ℕ
 leadIn Ignored = 0
 leadIn Illegal = 0
 leadIn Initialize = 0
-leadIn (Ordered o) = orderLead o
+leadIn (Instructs o) = instructionLead o
 
 -- by the direction in force
 abbrev pub forwardOf : Move → ℕ

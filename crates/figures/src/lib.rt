@@ -23,8 +23,8 @@ pub struct Tally {
     pub backward: u64,
 }
 
-// Where the quick ways halt: the place on the tape, the state, and the lead so far.
-pub struct Halt {
+// Where a run of the quick ways ends: the place on the tape, the state, and the lead so far.
+pub struct RunEnd {
     pub next: usize,
     pub state: State,
     pub forward: u64,
@@ -41,10 +41,10 @@ fn found(number: u8, forward: u64, backward: u64) -> Tally
     }
 }
 
-fn halted(next: usize, state: State, forward: u64, backward: u64) -> Halt
+fn run_end(next: usize, state: State, forward: u64, backward: u64) -> RunEnd
     ensures { λ r. ⌜ r ≡ record { next = next; state = state; forward = forward; backward = backward } ⌝ }
 {
-    Halt {
+    RunEnd {
         next: next,
         state: state,
         forward: forward,
@@ -95,7 +95,7 @@ fn quick_tally(
     ahead: u64,
     back: u64,
     fonts: &mut [u64],
-) -> Halt
+) -> RunEnd
     requires { ⌜ (Sound first) × (length (now fonts) ≡ 120) ⌝ }
     ensures { λ r. ⌜ Onward (now (tape .entry)) (now (fonts .entry)) first ahead back from (now (fonts .exit)) (r .state) (r .forward) (r .backward) (r .next) ⌝ }
 {
@@ -120,7 +120,7 @@ fn quick_tally(
                 d = quick::derived_of(s);
                 i += 1;
             } else {
-                match quick::led(s, b) {
+                match quick::height_after(s, b) {
                     Height::At(h) => {
                         forward = std::num::wrapping_add_u64(forward, forward_by(s, b));
                         backward = std::num::wrapping_add_u64(backward, backward_by(s, b));
@@ -128,13 +128,13 @@ fn quick_tally(
                         i += 1;
                     }
                     Height::Outside => {
-                        return halted(i, s, forward, backward);
+                        return run_end(i, s, forward, backward);
                     }
                 }
             }
         }
     }
-    halted(i, s, forward, backward)
+    run_end(i, s, forward, backward)
 }
 
 // What a tape that ends in the state s is found to be.
@@ -179,7 +179,7 @@ fn tally_from(first: State, tape: &[u8], fonts: &mut [u64]) -> Tally
                     add_at(fonts, c.font as usize, 1);
                     i += 1;
                 }
-                Effect::Parted(next) => {
+                Effect::PageEnded(next) => {
                     s = next;
                     i += 1;
                 }

@@ -24,7 +24,7 @@ use Rattle.dvi.specs.Writer.{newPen, penAt, fontCommand, fontChange, shortest, 
 use Rattle.galley_check.specs.Low.{firstHigh, lowResult}
 use Rattle.dvi_writer.specs.Result.{dviResult}
 use Rattle.typesetter.specs.Code.{codeOf}
-use Rattle.typesetter.specs.Machine.{flashOf, escapeOf, leadOf, orderOf, codeEffect, effectOf}
+use Rattle.typesetter.specs.Machine.{flashOf, escapeOf, leadOf, instructionEffect, codeEffect, effectOf}
 use Rattle.tape.specs.Tape.{run, readResult, tapeResult}
 
 -- a row of the sheet: what is given, and what comes of it
@@ -109,5 +109,5 @@ given (fileCase g r) = fileCase g (dviResult g 64)
 given (downCase m bs) = downCase m (move Y4 m)
 
 pub sheet : map given cases ≡ cases
-unfolding eqZ maxZ numberFrom twos signed bytes residue signedBytes widthOf field endField startsField startsEnd ifRoom directedBy placeAt carriageAt heightAt xOf xTarget yTarget valid characterBody characterField characterAt isCharacter fields galley isCut nextItem charactersOf readEnd reading readGalley firstHigh lowResult codeOf flashOf escapeOf leadOf orderOf codeEffect effectOf run readResult tapeResult newPen penAt fontCommand fontChange shortest move commandsOf bopBytes firstPress itemBytes pressAfter itemsBytes pressAll pagesBytes largest uses usedFonts nameOf definition definitionBytes trailerBytes postambleBytes dviFile dviResult
+unfolding eqZ maxZ numberFrom twos signed bytes residue signedBytes widthOf field endField startsField startsEnd ifRoom directedBy placeAt carriageAt heightAt xOf xTarget yTarget valid characterBody characterField characterAt isCharacter fields galley isCut nextItem charactersOf readEnd reading readGalley firstHigh lowResult codeOf flashOf escapeOf leadOf instructionEffect codeEffect effectOf run readResult tapeResult newPen penAt fontCommand fontChange shortest move commandsOf bopBytes firstPress itemBytes pressAfter itemsBytes pressAll pagesBytes largest uses usedFonts nameOf definition definitionBytes trailerBytes postambleBytes dviFile dviResult
 sheet = refl

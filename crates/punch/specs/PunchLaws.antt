@@ -30,13 +30,13 @@ use Rattle.galley_file.specs.CharacterLaws.{valid-parts}
 use Rattle.galley_file.specs.Galley.{AllValid, nil, more, galley}
 use Rattle.galley_check.specs.ResultLaws.{result-written}
 use Rattle.typesetter.specs.declared.code.Machine.the-variants.{Eight}
-use Rattle.typesetter.specs.declared.code.Code.the-variants.{Ordered}
-use Rattle.typesetter.specs.declared.code.Order.the-variants.{Stop}
+use Rattle.typesetter.specs.declared.code.Code.the-variants.{Instructs}
+use Rattle.typesetter.specs.declared.code.Instruction.the-variants.{Stop}
 use Rattle.typesetter.specs.declared.machine.Modes.{Modes}
 use Rattle.typesetter.specs.declared.machine.State.{State}
 use Rattle.typesetter.specs.Code.{codeOf}
-use Rattle.typesetter.specs.Machine.{start, withStop, escapeOf, orderOf, codeEffect, effectOf}
-use Rattle.typesetter.specs.StepLaws.{order-taken}
+use Rattle.typesetter.specs.Machine.{start, withStop, escapeOf, instructionEffect, codeEffect, effectOf}
+use Rattle.typesetter.specs.StepLaws.{instruction-taken}
 use Rattle.tape.specs.Tape.{maxTape, Run, run, closing, readResult, tapeResult}
 use Rattle.punch_codes.specs.Codes.{startCodes, begun, setFor, stateAfter}
 use Rattle.punch_codes.specs.Reach.{Reach, reach-none, reach-moved, reach-then}
@@ -75,13 +75,13 @@ at-work (Placed c ∷ is) m n u h = let t = setFor (ready m n u h) c in at-work 
 at-work (Cut ∷ is) m n u h = let t = stateAfter (ready m n u h) Cut in at-work is (t .modes) (t .size) (t .carriage) (t .height)
 
 stop-reach : (s : State) → AtWork s → Reach s (0x49 ∷ []) [] (withStop s)
-unfolding orderOf codeOf
+unfolding instructionEffect codeOf
 stop-reach s w =
-    let code : codeOf (s .machine) 0x49 ≡ Ordered Stop = ap (λ k. codeOf k 0x49) (w .machine-is) in
-    reach-moved (sym (order-taken s 0x49 code (w .initialized-is) (w .cut-is) (w .stopped-is)))
+    let code : codeOf (s .machine) 0x49 ≡ Instructs Stop = ap (λ k. codeOf k 0x49) (w .machine-is) in
+    reach-moved (sym (instruction-taken s 0x49 code (w .initialized-is) (w .cut-is) (w .stopped-is)))
 
 start-reach : Reach (start Eight) startCodes [] begun
-unfolding codeOf escapeOf orderOf codeEffect effectOf
+unfolding codeOf escapeOf instructionEffect codeEffect effectOf
 start-reach = reach-then (reach-moved {b = 0x40} refl) (reach-moved {b = 0xEF} refl)
 
 module _ (is : List Item) (v : AllValid heightEnd is) where

@@ -31,16 +31,16 @@ use Rattle.galley_file.specs.Character.{valid, validX}
 use Rattle.galley_file.specs.CharacterLaws.{Valid, valid-parts, height-range}
 use Rattle.galley_file.specs.Item.{validItem}
 use Rattle.typesetter.specs.declared.code.Machine.the-variants.{Eight}
-use Rattle.typesetter.specs.declared.code.Code.the-variants.{Ordered}
-use Rattle.typesetter.specs.declared.code.Order.the-variants.{Flash}
+use Rattle.typesetter.specs.declared.code.Code.the-variants.{Instructs}
+use Rattle.typesetter.specs.declared.code.Instruction.the-variants.{Flash}
 use Rattle.typesetter.specs.declared.machine.Modes.{Modes}
 use Rattle.typesetter.specs.declared.machine.State.{State}
 use Rattle.typesetter.specs.declared.machine.Effect.the-variants.{Flashed}
 use Rattle.typesetter.specs.Code.{codeOf}
-use Rattle.typesetter.specs.Machine.{fontAt, pastHalf, codeIn, withEscape, withHalf, withRail, withMag, withTilt, escapeOf, orderOf, codeEffect, effectOf}
+use Rattle.typesetter.specs.Machine.{fontAt, pastHalf, codeIn, withEscape, withHalf, withRail, withMag, withTilt, escapeOf, instructionEffect, codeEffect, effectOf}
 use Rattle.typesetter.specs.Sound.{Sound}
-use Rattle.typesetter.specs.StepLaws.{flash-set, order-taken}
-use Rattle.tape.specs.RunLaws.{flashed, parted}
+use Rattle.typesetter.specs.StepLaws.{flash-set, instruction-taken}
+use Rattle.tape.specs.RunLaws.{flashed, pageEnded}
 use Rattle.punch_codes.specs.declared.put.Axis.{Axis}
 use Rattle.punch_codes.specs.Codes.{begun, upperRail, upperMag, tiltDown, upperHalf, flashFor, carriageOf, carriageFor, setFor, switchCodes, sizeCodes, remainderCodes, distanceCodes, escapes, leads, motionCodes, fontCodes, settingCodes, movingCodes, itemCodes, stateAfter}
 use Rattle.punch_codes.specs.Reach.{Reach, reach-moved, reach-set, reach-then}
@@ -144,15 +144,15 @@ module _ (m : Modes) (n : ℕ) (u : Units) (h : Quanta) (c : Character) (v : Val
       reach-then (escapes-reach m₄ k (u .0) (carriageFor c) h i (carriage-range v)) (leads-reach m₅ k (t .carriage) (h .0) (c .height .0) j (height-in-range v))
 
   flash-taken : effectOf t (flashFor (c .code)) ≡ Flashed c
-  unfolding setFor orderOf
+  unfolding setFor instructionEffect
   flash-taken =
       let k = flashFor (c .code) in
       let r = flash-range (c .code) (v .first) (v .last) in
       let e : 1 + (k - 1) ≡ k = omega arith in
-      let code : codeOf Eight k ≡ Ordered (Flash k) = subst (λ (b : ℕ). codeOf Eight b ≡ Ordered (Flash b)) e (code-flash (k - 1) (omega arith)) in
+      let code : codeOf Eight k ≡ Instructs (Flash k) = subst (λ (b : ℕ). codeOf Eight b ≡ Instructs (Flash b)) e (code-flash (k - 1) (omega arith)) in
       sym (flash-set t k refl (lt-leb _ _ small) (in-half (c .code) (omega (arith, v .last))) (c .x) (c .font) (c .code)
       (x-is (c .x .0) (isDouble (sizeIndex (c .font)))) (font-is (c .font) (v .font)) (code-is (c .code))
-      ∙ order-taken t k code refl refl refl)
+      ∙ instruction-taken t k code refl refl refl)
 
   pub character-reach : InRange carriageEnd (u .0) → InRange heightEnd (h .0) → Reach s (itemCodes s (Placed c)) (Placed c ∷ []) t
   unfolding itemCodes
@@ -160,8 +160,8 @@ module _ (m : Modes) (n : ℕ) (u : Units) (h : Quanta) (c : Character) (v : Val
 
 -- a cut, and initialize and the escape of 16 after it
 pub cut-reach : (m : Modes) (n : ℕ) (u : Units) (h : Quanta) → Reach (ready m n u h) (itemCodes (ready m n u h) Cut) (Cut ∷ []) (stateAfter (ready m n u h) Cut)
-unfolding itemCodes stateAfter codeOf escapeOf orderOf codeEffect effectOf
-cut-reach m n u h = reach-then (reach-set {b = 0x4B} refl parted) (reach-then (reach-moved {b = 0x40} refl) (reach-moved {b = 0xEF} refl))
+unfolding itemCodes stateAfter codeOf escapeOf instructionEffect codeEffect effectOf
+cut-reach m n u h = reach-then (reach-set {b = 0x4B} refl pageEnded) (reach-then (reach-moved {b = 0x40} refl) (reach-moved {b = 0xEF} refl))
 
 -- ---- at most so many codes
 

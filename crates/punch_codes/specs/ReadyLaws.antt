@@ -17,35 +17,35 @@ use Rattle.measure.specs.declared.Height.the-variants as height
 use Rattle.measure.specs.Place.{carriageEnd, heightEnd, directedBy, placeAt, carriageAt, heightAt}
 use Rattle.measure.specs.PlaceLaws.{InRange}
 use Rattle.typesetter.specs.declared.code.Machine.the-variants.{Eight}
-use Rattle.typesetter.specs.declared.code.Code.the-variants.{Illegal, Ordered}
-use Rattle.typesetter.specs.declared.code.Order.the-variants.{Flash, Size, Lead, Escape}
+use Rattle.typesetter.specs.declared.code.Code.the-variants.{Illegal, Instructs}
+use Rattle.typesetter.specs.declared.code.Instruction.the-variants.{Flash, Size, Lead, Escape}
 use Rattle.typesetter.specs.declared.machine.Modes.{Modes}
 use Rattle.typesetter.specs.declared.machine.State.{State}
 use Rattle.typesetter.specs.declared.machine.Effect.the-variants.{Moved}
 use Rattle.typesetter.specs.Code.{codeOf}
-use Rattle.typesetter.specs.Machine.{withEscape, withLead, withHalf, withRail, withMag, withTilt, orderOf, codeEffect, effectOf}
-use Rattle.typesetter.specs.StepLaws.{lead-to, escape-to, order-taken}
+use Rattle.typesetter.specs.Machine.{withEscape, withLead, withHalf, withRail, withMag, withTilt, instructionEffect, codeEffect, effectOf}
+use Rattle.typesetter.specs.StepLaws.{lead-to, escape-to, instruction-taken}
 use Rattle.punch_codes.specs.Codes.{wayTo, switchCodes, sizeCodes, distanceCodes, escapes, leads, motionCodes}
 use Rattle.punch_codes.specs.Reach.{Reach, reach-none, reach-moved, reach-then}
 use Rattle.punch_codes.specs.SettingLaws.{ready, switch-reach, motion-reach}
 
 -- ---- the codes that carry a number
 
-code-size : (n : ℕ) → n < 15 → codeOf Eight (0x50 + n) ≡ Ordered (Size n)
+code-size : (n : ℕ) → n < 15 → codeOf Eight (0x50 + n) ≡ Instructs (Size n)
 unfolding codeOf
-code-size = agree (λ n. codeOf Eight (0x50 + n)) (λ n. Ordered (Size n)) Illegal 15 refl
+code-size = agree (λ n. codeOf Eight (0x50 + n)) (λ n. Instructs (Size n)) Illegal 15 refl
 
-code-escape : (n : ℕ) → n < 127 → codeOf Eight (0x80 + n) ≡ Ordered (Escape (127 - n))
+code-escape : (n : ℕ) → n < 127 → codeOf Eight (0x80 + n) ≡ Instructs (Escape (127 - n))
 unfolding codeOf
-code-escape = agree (λ n. codeOf Eight (0x80 + n)) (λ n. Ordered (Escape (127 - n))) Illegal 127 refl
+code-escape = agree (λ n. codeOf Eight (0x80 + n)) (λ n. Instructs (Escape (127 - n))) Illegal 127 refl
 
-code-lead : (n : ℕ) → n < 32 → codeOf Eight (0x60 + n) ≡ Ordered (Lead (31 - n))
+code-lead : (n : ℕ) → n < 32 → codeOf Eight (0x60 + n) ≡ Instructs (Lead (31 - n))
 unfolding codeOf
-code-lead = agree (λ n. codeOf Eight (0x60 + n)) (λ n. Ordered (Lead (31 - n))) Illegal 32 refl
+code-lead = agree (λ n. codeOf Eight (0x60 + n)) (λ n. Instructs (Lead (31 - n))) Illegal 32 refl
 
-pub code-flash : (v : ℕ) → v < 63 → codeOf Eight (1 + v) ≡ Ordered (Flash (1 + v))
+pub code-flash : (v : ℕ) → v < 63 → codeOf Eight (1 + v) ≡ Instructs (Flash (1 + v))
 unfolding codeOf
-code-flash = agree (λ v. codeOf Eight (1 + v)) (λ v. Ordered (Flash (1 + v))) Illegal 63 refl
+code-flash = agree (λ v. codeOf Eight (1 + v)) (λ v. Instructs (Flash (1 + v))) Illegal 63 refl
 
 -- ---- a place in range
 
@@ -69,35 +69,35 @@ backward p a = omega (integers, sum-parts (pos (p + a)) (negℤ (pos a)), neg-up
 
 module _ (m : Modes) (n : ℕ) (c : Units) (h : Quanta) where
   pub rail-reach : (next : Bool) → Reach (ready m n c h) (switchCodes 0x41 0x42 (m .«upper_rail») next) [] (ready (withRail m next) n c h)
-  unfolding effectOf codeEffect codeOf orderOf
+  unfolding effectOf codeEffect codeOf instructionEffect
   rail-reach next = switch-reach (λ b. ready (withRail m b) n c h) 0x41 0x42 (λ b. refl) (λ b. refl) (m .«upper_rail») next
 
   pub mag-reach : (next : Bool) → Reach (ready m n c h) (switchCodes 0x44 0x43 (m .«upper_mag») next) [] (ready (withMag m next) n c h)
-  unfolding effectOf codeEffect codeOf orderOf
+  unfolding effectOf codeEffect codeOf instructionEffect
   mag-reach next = switch-reach (λ b. ready (withMag m b) n c h) 0x44 0x43 (λ b. refl) (λ b. refl) (m .«upper_mag») next
 
   pub tilt-reach : (next : Bool) → Reach (ready m n c h) (switchCodes 0x4E 0x4F (m .«tilt_down») next) [] (ready (withTilt m next) n c h)
-  unfolding effectOf codeEffect codeOf orderOf
+  unfolding effectOf codeEffect codeOf instructionEffect
   tilt-reach next = switch-reach (λ b. ready (withTilt m b) n c h) 0x4E 0x4F (λ b. refl) (λ b. refl) (m .«tilt_down») next
 
   pub half-reach : (next : Bool) → Reach (ready m n c h) (switchCodes 0x45 0x46 (m .«upper_half») next) [] (ready (withHalf m next) n c h)
-  unfolding effectOf codeEffect codeOf orderOf
+  unfolding effectOf codeEffect codeOf instructionEffect
   half-reach next = switch-reach (λ b. ready (withHalf m b) n c h) 0x45 0x46 (λ b. refl) (λ b. refl) (m .«upper_half») next
 
   escape-way-reach : (next : Bool) → Reach (ready m n c h) (switchCodes 0x47 0x48 (m .«escape_back») next) [] (ready (withEscape m next) n c h)
-  unfolding effectOf codeEffect codeOf orderOf
+  unfolding effectOf codeEffect codeOf instructionEffect
   escape-way-reach next = switch-reach (λ b. ready (withEscape m b) n c h) 0x47 0x48 (λ b. refl) (λ b. refl) (m .«escape_back») next
 
   lead-way-reach : (next : Bool) → Reach (ready m n c h) (switchCodes 0x4A 0x4C (m .«lead_back») next) [] (ready (withLead m next) n c h)
-  unfolding effectOf codeEffect codeOf orderOf
+  unfolding effectOf codeEffect codeOf instructionEffect
   lead-way-reach next = switch-reach (λ b. ready (withLead m b) n c h) 0x4A 0x4C (λ b. refl) (λ b. refl) (m .«lead_back») next
 
   pub size-reach : (next : ℕ) → next < 15 → Reach (ready m n c h) (sizeCodes n next) [] (ready m next c h)
-  unfolding sizeCodes orderOf
+  unfolding sizeCodes instructionEffect
   size-reach next l = go (eqb n next) refl
     where
       taken : effectOf (ready m n c h) (0x50 + next) ≡ Moved (ready m next c h)
-      taken = sym (order-taken (ready m n c h) (0x50 + next) (code-size next l) refl refl refl)
+      taken = sym (instruction-taken (ready m n c h) (0x50 + next) (code-size next l) refl refl refl)
 
       go : (t : Bool) → eqb n next ≡ t → Reach (ready m n c h) (cond t [] ((0x50 + next) ∷ [])) [] (ready m next c h)
       go true e = subst (λ (k : ℕ). Reach (ready m n c h) [] [] (ready m k c h)) (eqb-true n next e) reach-none
@@ -110,10 +110,10 @@ module _ (m : Modes) (n : ℕ) (h : Quanta) where
   across back p = ready (withEscape m back) n (record { 0 = pos p }) h
 
   escaped : (back : Bool) (p q a : ℕ) → 1 ≤ a → a ≤ 127 → pos p +ℤ directedBy back a ≡ pos q → q ≤ 3239 → effectOf (across back p) (0x80 + (127 - a)) ≡ Moved (across back q)
-  unfolding orderOf
+  unfolding instructionEffect
   escaped back p q a low high to inside =
-      let k : codeOf Eight (0x80 + (127 - a)) ≡ Ordered (Escape a) = code-escape (127 - a) (omega arith) ∙ ap (λ (x : ℕ). Ordered (Escape x)) (omega arith) in
-      sym (escape-to (across back p) a refl (ap carriageAt to ∙ carriage-at q inside) ∙ order-taken (across back p) (0x80 + (127 - a)) k refl refl refl)
+      let k : codeOf Eight (0x80 + (127 - a)) ≡ Instructs (Escape a) = code-escape (127 - a) (omega arith) ∙ ap (λ (x : ℕ). Instructs (Escape x)) (omega arith) in
+      sym (escape-to (across back p) a refl (ap carriageAt to ∙ carriage-at q inside) ∙ instruction-taken (across back p) (0x80 + (127 - a)) k refl refl refl)
 
   escape-reach : (now : Bool) (p q : ℕ) → p ≤ 3239 → q ≤ 3239
       → Reach (across (wayTo now (pos p) (pos q)) p) (distanceCodes 127 0x80 (natAbs (pos q -ℤ pos p))) [] (across (wayTo now (pos p) (pos q)) q)
@@ -125,10 +125,10 @@ module _ (m : Modes) (n : ℕ) (c : Units) where
   down back p = ready (withLead m back) n c (record { 0 = pos p })
 
   led : (back : Bool) (p q a : ℕ) → a ≤ 31 → pos p +ℤ directedBy back a ≡ pos q → q ≤ 1000000 → effectOf (down back p) (0x60 + (31 - a)) ≡ Moved (down back q)
-  unfolding orderOf
+  unfolding instructionEffect
   led back p q a high to inside =
-      let k : codeOf Eight (0x60 + (31 - a)) ≡ Ordered (Lead a) = code-lead (31 - a) (omega arith) ∙ ap (λ (x : ℕ). Ordered (Lead x)) (omega arith) in
-      sym (lead-to (down back p) a (ap heightAt to ∙ height-at q inside) ∙ order-taken (down back p) (0x60 + (31 - a)) k refl refl refl)
+      let k : codeOf Eight (0x60 + (31 - a)) ≡ Instructs (Lead a) = code-lead (31 - a) (omega arith) ∙ ap (λ (x : ℕ). Instructs (Lead x)) (omega arith) in
+      sym (lead-to (down back p) a (ap heightAt to ∙ height-at q inside) ∙ instruction-taken (down back p) (0x60 + (31 - a)) k refl refl refl)
 
   lead-reach : (now : Bool) (p q : ℕ) → p ≤ 1000000 → q ≤ 1000000
       → Reach (down (wayTo now (pos p) (pos q)) p) (distanceCodes 31 0x60 (natAbs (pos q -ℤ pos p))) [] (down (wayTo now (pos p) (pos q)) q)

@@ -32,7 +32,7 @@ use Rattle.galley_file.specs.Galley.{AllValid, nil, more, galley}
 use Rattle.typesetter.specs.declared.code.Machine.{Machine}
 use Rattle.typesetter.specs.declared.machine.State.{State}
 use Rattle.typesetter.specs.declared.machine.Effect.{Effect}
-use Rattle.typesetter.specs.declared.machine.Effect.the-variants.{Moved, Flashed, Parted, Refused}
+use Rattle.typesetter.specs.declared.machine.Effect.the-variants.{Moved, Flashed, PageEnded, Refused}
 use Rattle.typesetter.specs.Machine.{start, effectOf}
 use Rattle.typesetter.specs.EffectLaws.{IsFault}
 use Rattle.typesetter.specs.SoundLaws.{start-sound}
@@ -215,7 +215,7 @@ total-most f m s (b ∷ bs) = go (λ u. total-most f m u bs) (effectOf s b) refl
     go : ((u : State) → total f (moves u bs) ≤ 31 * length bs) → (x : Effect) → effectOf s b ≡ x → total f (moves s (b ∷ bs)) ≤ 31 * suc (length bs)
     go later (Moved u) q = rw (q, moves) (omega (arith, m s b, later u))
     go later (Flashed c) q = rw (q, moves) (omega (arith, later s))
-    go later (Parted u) q = rw (q, moves) (omega (arith, later u))
+    go later (PageEnded u) q = rw (q, moves) (omega (arith, later u))
     go later (Refused n) q = rw (q, moves) (omega arith)
 
 pub record Few (f : Figures) : Type 0 where

@@ -11,14 +11,14 @@ use Rattle.measure.specs.declared.Quanta.{Quanta}
 use Rattle.measure.specs.declared.Height.the-variants as height
 use Rattle.measure.specs.Place.{directedBy, heightAt}
 use Rattle.measure.specs.PlaceLaws.{height-in}
-use Rattle.typesetter.specs.declared.code.Order.{Order}
-use Rattle.typesetter.specs.declared.code.Order.the-variants.{Lead}
+use Rattle.typesetter.specs.declared.code.Instruction.{Instruction}
+use Rattle.typesetter.specs.declared.code.Instruction.the-variants.{Lead}
 use Rattle.typesetter.specs.declared.code.Code.{Code}
-use Rattle.typesetter.specs.declared.code.Code.the-variants.{Ordered}
+use Rattle.typesetter.specs.declared.code.Code.the-variants.{Instructs}
 use Rattle.typesetter.specs.declared.machine.Modes.{Modes}
 use Rattle.typesetter.specs.declared.machine.State.{State}
 use Rattle.typesetter.specs.declared.machine.Effect.{Effect}
-use Rattle.typesetter.specs.declared.machine.Effect.the-variants.{Moved, Flashed, Parted, Refused}
+use Rattle.typesetter.specs.declared.machine.Effect.the-variants.{Moved, Flashed, PageEnded, Refused}
 use Rattle.typesetter.specs.Code.{codeOf}
 use Rattle.typesetter.specs.Machine.{withModes, withHeight, effectOf}
 use Rattle.typesetter.specs.EffectLaws.{Turning, rails, mags, halves, escapeWays, leadWays, tilts, Causes, refuses, ignores, initializes, flashes, turns, sizes, stops, cuts, leads, escapes, causes}
@@ -54,8 +54,8 @@ joined a b c e d f g m n p q =
     omega (integers, p, q, sum-parts a (pos f), sum-parts b e, sum-parts (b +ℤ e) (pos m), sum-parts b (pos g), sum-parts c d, sum-parts (c +ℤ d) (pos n), sum-parts a (pos (f + g)), sum-parts e d, sum-parts c (e +ℤ d), sum-parts (c +ℤ (e +ℤ d)) (pos (m + n)))
 
 -- a page that ends, and what comes after it
-parted-then : (a b c h d : ℤ) (g n : ℕ) → a ≡ b +ℤ h → b +ℤ pos g ≡ (c +ℤ d) +ℤ pos n → a +ℤ pos g ≡ (c +ℤ (h +ℤ d)) +ℤ pos n
-parted-then a b c h d g n p q =
+page-ended-then : (a b c h d : ℤ) (g n : ℕ) → a ≡ b +ℤ h → b +ℤ pos g ≡ (c +ℤ d) +ℤ pos n → a +ℤ pos g ≡ (c +ℤ (h +ℤ d)) +ℤ pos n
+page-ended-then a b c h d g n p q =
     omega (integers, p, q, sum-parts b h, sum-parts b (pos g), sum-parts c d, sum-parts (c +ℤ d) (pos n), sum-parts a (pos g), sum-parts h d, sum-parts c (h +ℤ d), sum-parts (c +ℤ (h +ℤ d)) (pos n))
 
 no-page : (d : ℤ) → pos 0 +ℤ d ≡ d
@@ -73,7 +73,7 @@ module _ (s : State) where
   abbrev Levels : Code → Effect → Type 0
   Levels k (Moved t) = level s +ℤ pos (forwardOf (move k)) ≡ (level t +ℤ endIn k) +ℤ pos (backwardOf (move k))
   Levels k (Flashed c) = Unit {0}
-  Levels k (Parted t) = level s ≡ level t +ℤ s .height .0
+  Levels k (PageEnded t) = level s ≡ level t +ℤ s .height .0
   Levels k (Refused n) = Unit {0}
 
   here : s .stopped ≡ false → level s ≡ s .height .0
@@ -82,14 +82,14 @@ module _ (s : State) where
   cut-level : s .stopped ≡ false → level s ≡ cond (s .stopped) (pos 0) (pos 0) +ℤ s .height .0
   cut-level f = here f ∙ sym (ap (λ (t : Bool). cond t (pos 0) (pos 0) +ℤ s .height .0) f ∙ no-page (s .height .0))
 
-  lead-level : (n : ℕ) (h : Quanta) → s .stopped ≡ false → heightAt (s .height .0 +ℤ directedBy (s .modes .«lead_back») n) ≡ height.At h → Levels (Ordered (Lead n)) (Moved (withHeight s h))
+  lead-level : (n : ℕ) (h : Quanta) → s .stopped ≡ false → heightAt (s .height .0 +ℤ directedBy (s .modes .«lead_back») n) ≡ height.At h → Levels (Instructs (Lead n)) (Moved (withHeight s h))
   lead-level n h f e =
       let there : level (withHeight s h) ≡ h .0 = ap (λ (t : Bool). cond t (pos 0) (h .0)) f in
       ap (λ (z : ℤ). z +ℤ pos (cond (s .modes .«lead_back») 0 n)) (here f)
       ∙ leading (s .height .0) (s .modes .«lead_back») n (h .0) (height-in _ h e .0)
       ∙ sym (ap (λ (z : ℤ). (z +ℤ pos 0) +ℤ pos (cond (s .modes .«lead_back») n 0)) there)
 
-  turn-level : (m : Modes) {o : Order} → Turning o → Levels (Ordered o) (Moved (withModes s m))
+  turn-level : (m : Modes) {o : Instruction} → Turning o → Levels (Instructs o) (Moved (withModes s m))
   turn-level m rails = nothing (level s) (s .modes .«lead_back»)
   turn-level m mags = nothing (level s) (s .modes .«lead_back»)
   turn-level m halves = nothing (level s) (s .modes .«lead_back»)
@@ -135,7 +135,7 @@ run-levels s at (b ∷ bs) {t} e = go (λ u. run-levels u (suc at) bs) (effectOf
         (joined (level s) (level u) (level t) (endIn s k) (sumHeights (pageEnds u bs)) (forwardOf (taken s b)) (total forwardOf (moves u bs)) (backwardOf (taken s b)) (total backwardOf (moves u bs)) (levels s b q) (later u (rw (q, run) at e))
         ∙ ap (λ (z : ℤ). (level t +ℤ z) +ℤ pos (backwardOf (taken s b) + total backwardOf (moves u bs))) (sym (ends-by (s .height) (pageEnds u bs) (isStop k))))
     go later (Flashed c) q = rw (q, moves, pageEnds) (later s (rw (q, run) at e))
-    go later (Parted u) q =
+    go later (PageEnded u) q =
         rw (q, moves, pageEnds)
-        (parted-then (level s) (level u) (level t) (s .height .0) (sumHeights (pageEnds u bs)) (total forwardOf (moves u bs)) (total backwardOf (moves u bs)) (levels s b q) (later u (rw (q, run) at e)))
+        (page-ended-then (level s) (level u) (level t) (s .height .0) (sumHeights (pageEnds u bs)) (total forwardOf (moves u bs)) (total backwardOf (moves u bs)) (levels s b q) (later u (rw (q, run) at e)))
     go later (Refused n) q = let f : Fault n at ≡ Reached t = rw (q, run) at e in fault-never f

@@ -24,12 +24,12 @@ use Rattle.galley_file.specs.Form.{maxGalley}
 use Rattle.galley_file.specs.Item.{charactersOf}
 use Rattle.galley_file.specs.Galley.{itemsOf}
 use Rattle.typesetter.specs.declared.code.Machine.{Machine}
-use Rattle.typesetter.specs.declared.code.Order.{Order}
-use Rattle.typesetter.specs.declared.code.Order.the-variants.{Flash, Rail, Mag, Half, EscapeWay, LeadWay, Tilt, Size, Stop, Cut, Lead, Escape}
+use Rattle.typesetter.specs.declared.code.Instruction.{Instruction}
+use Rattle.typesetter.specs.declared.code.Instruction.the-variants.{Flash, Rail, Mag, Half, EscapeWay, LeadWay, Tilt, Size, Stop, Cut, Lead, Escape}
 use Rattle.typesetter.specs.declared.code.Code.{Code}
-use Rattle.typesetter.specs.declared.code.Code.the-variants.{Ignored, Illegal, Initialize, Ordered}
+use Rattle.typesetter.specs.declared.code.Code.the-variants.{Ignored, Illegal, Initialize, Instructs}
 use Rattle.typesetter.specs.declared.machine.State.{State}
-use Rattle.typesetter.specs.declared.machine.Effect.the-variants.{Moved, Flashed, Parted, Refused}
+use Rattle.typesetter.specs.declared.machine.Effect.the-variants.{Moved, Flashed, PageEnded, Refused}
 use Rattle.typesetter.specs.Code.{codeOf}
 use Rattle.typesetter.specs.Machine.{start, effectOf}
 use Rattle.tape.specs.Tape.{machineOf, tapeResult}
@@ -77,25 +77,25 @@ charactersIn [] = 0
 charactersIn (t ∷ ts) = charactersBy (resultOf t) + charactersIn ts
 
 -- stop ends a page, as a cut does
-abbrev pub orderStops : Order → Bool
-orderStops (Flash v) = false
-orderStops (Rail up) = false
-orderStops (Mag up) = false
-orderStops (Half up) = false
-orderStops (EscapeWay back) = false
-orderStops (LeadWay back) = false
-orderStops (Tilt down) = false
-orderStops (Size index) = false
-orderStops Stop = true
-orderStops Cut = false
-orderStops (Lead n) = false
-orderStops (Escape n) = false
+abbrev pub instructionStops : Instruction → Bool
+instructionStops (Flash v) = false
+instructionStops (Rail up) = false
+instructionStops (Mag up) = false
+instructionStops (Half up) = false
+instructionStops (EscapeWay back) = false
+instructionStops (LeadWay back) = false
+instructionStops (Tilt down) = false
+instructionStops (Size index) = false
+instructionStops Stop = true
+instructionStops Cut = false
+instructionStops (Lead n) = false
+instructionStops (Escape n) = false
 
 abbrev pub isStop : Code → Bool
 isStop Ignored = false
 isStop Illegal = false
 isStop Initialize = false
-isStop (Ordered o) = orderStops o
+isStop (Instructs o) = instructionStops o
 
 -- "the heights at which pages ended, by cut or stop"
 unfoldable pub pageEnds : State → List ℕ → List Quanta
@@ -104,7 +104,7 @@ pageEnds s (b ∷ bs) =
     elim (effectOf s b) [
       | Moved t ↦ cond (isStop (codeOf (s .machine) b)) (s .height ∷ pageEnds t bs) (pageEnds t bs)
       | Flashed c ↦ pageEnds s bs
-      | Parted t ↦ s .height ∷ pageEnds t bs
+      | PageEnded t ↦ s .height ∷ pageEnds t bs
       | Refused n ↦ []
     ]
 

@@ -24,9 +24,9 @@ use Rattle.typesetter.specs.declared.machine.Effect.the-variants.{Moved, Flashe
 use Rattle.tape.specs.declared.Ending.the-variants.{Reached, Fault}
 use Rattle.typesetter.specs.Machine.{effectOf}
 use Rattle.tape.specs.Tape.{maxTape, Run, run}
-use Rattle.tape.specs.RunLaws.{Sets, flashed, parted, soFar, run-length, run-moved, run-set, run-refused, run-room}
+use Rattle.tape.specs.RunLaws.{Sets, flashed, pageEnded, soFar, run-length, run-moved, run-set, run-refused, run-room}
 use Rattle.typesetter.specs.Sound.{Sound}
-use Rattle.typesetter.specs.SoundLaws.{stays-sound, parted-sound}
+use Rattle.typesetter.specs.SoundLaws.{stays-sound, page-ended-sound}
 use Rattle.typesetter.specs.StepLaws.{placed}
 use Rattle.tape.specs.Quick.{Strides, stands, moves, sets}
 use Rattle.tape.specs.Pass.{putAt, Going, Further, Passed}
@@ -62,20 +62,20 @@ first-size i is = omega (arith, length-append (itemField New i) (fields New is),
 
 set-sound : (s : State) → Sound s → (b : ℕ) {e : Effect} {x : Item} {t : State} → effectOf s b ≡ e → Sets s e x t → Sound t
 set-sound s r b q flashed = r
-set-sound s r b q parted = parted-sound s r b q
+set-sound s r b q pageEnded = page-ended-sound s r b q
 
 module _ (s₀ : State) (at : ℕ) (tape first : List ℕ) (w : Bool) where
   pub going-start : Sound s₀ → Going s₀ at tape first w first s₀ 0 0 0
   unfolding run charactersOf cutsOf
   going-start r =
-      record { inside = zero-le; sound = r; ran = refl; counted = refl; parted = refl; same = refl; wrote = put-none w first }
+      record { inside = zero-le; sound = r; ran = refl; counted = refl; cut-bytes = refl; same = refl; wrote = put-none w first }
 
   module _ (out : List ℕ) (s : State) (count cuts i : ℕ) (r : Going s₀ at tape first w out s count cuts i) where
     -- one item a byte at most
     pub going-bound : 3 * count + cuts ≤ 3 * i
     going-bound =
         let l = length-take-le i tape (r .inside) in
-        omega (arith, r .counted, r .parted, all-counted (soFar s₀ at tape i), run-length s₀ at (take i tape))
+        omega (arith, r .counted, r .cut-bytes, all-counted (soFar s₀ at tape i), run-length s₀ at (take i tape))
 
     module _ (h : i < length tape) where
       pub going-moved : (t : State) → effectOf s (getD tape i 0) ≡ Moved t → Going s₀ at tape first w out t count cuts (i + 1)
@@ -87,7 +87,7 @@ module _ (s₀ : State) (at : ℕ) (tape first : List ℕ) (w : Bool) where
             sound = stays-sound s (r .sound) (getD tape i 0) e;
             ran = ap (λ (x : Run). x .ending) n;
             counted = r .counted ∙ sym (ap (λ (l : List Item). length (charactersOf l)) is);
-            parted = r .parted ∙ sym (ap (λ (l : List Item). 3 * cutsOf l) is);
+            cut-bytes = r .cut-bytes ∙ sym (ap (λ (l : List Item). 3 * cutsOf l) is);
             same = r .same;
             wrote = r .wrote ∙ sym (ap (λ (l : List Item). putIf w first 0 (fields New l)) is);
           }
@@ -99,7 +99,7 @@ module _ (s₀ : State) (at : ℕ) (tape first : List ℕ) (w : Bool) where
             let is = soFar s₀ at tape i in
             let z = run-room s₀ at tape i s (r .ran) h q m in
             let all = ap (λ (l : List Item). length (fields New l)) (z .1) ∙ ap length (fields-append New is (x ∷ z .0)) ∙ length-append (fields New is) (fields New (x ∷ z .0)) in
-            omega (arith, p k, r .counted, r .parted, r .same, length-fields New is, all, first-size x (z .0))
+            omega (arith, p k, r .counted, r .cut-bytes, r .same, length-fields New is, all, first-size x (z .0))
 
         pub going-set : (next : List ℕ) → length next ≡ length out → next ≡ putAt w count cuts x out → (n k : ℕ) → n ≡ count + tally x → k + 3 * tally x ≡ cuts + 3
             → Going s₀ at tape first w next t n k (i + 1)
@@ -112,12 +112,12 @@ module _ (s₀ : State) (at : ℕ) (tape first : List ℕ) (w : Bool) where
               sound = set-sound s (r .sound) (getD tape i 0) q m;
               ran = ap (λ (y : Run). y .ending) f;
               counted = omega (arith, en, r .counted, ap (λ (l : List Item). length (charactersOf l)) more, one-more is x);
-              parted = omega (arith, ek, r .parted, ap cutsOf more, one-cut is x);
+              cut-bytes = omega (arith, ek, r .cut-bytes, ap cutsOf more, one-cut is x);
               same = l ∙ r .same;
               wrote =
                   o
                   ∙ ap (putAt w count cuts x) (r .wrote)
-                  ∙ put-more w first is x count cuts (r .counted) (r .parted)
+                  ∙ put-more w first is x count cuts (r .counted) (r .cut-bytes)
                   ∙ sym (ap (λ (l : List Item). putIf w first 0 (fields New l)) more);
             }
 
@@ -128,7 +128,7 @@ module _ (s₀ : State) (at : ℕ) (tape first : List ℕ) (w : Bool) where
           let is = ap (λ (x : Run). x .items) f in
           record {
             counted = r .counted ∙ sym (ap (λ (l : List Item). length (charactersOf l)) is);
-            parted = r .parted ∙ sym (ap (λ (l : List Item). 3 * cutsOf l) is);
+            cut-bytes = r .cut-bytes ∙ sym (ap (λ (l : List Item). 3 * cutsOf l) is);
             few = omega (arith, going-bound);
             short = omega (arith, going-bound);
             ended = sym (ap (λ (x : Run). x .ending) f);
@@ -141,7 +141,7 @@ module _ (s₀ : State) (at : ℕ) (tape first : List ℕ) (w : Bool) where
         let is = ap (λ (l : List ℕ). run s₀ at l .items) all in
         record {
           counted = r .counted ∙ ap (λ (l : List Item). length (charactersOf l)) is;
-          parted = r .parted ∙ ap (λ (l : List Item). 3 * cutsOf l) is;
+          cut-bytes = r .cut-bytes ∙ ap (λ (l : List Item). 3 * cutsOf l) is;
           few = omega (arith, going-bound, r .inside);
           short = omega (arith, going-bound, r .inside);
           ended = sym (sym (ap (λ (l : List ℕ). run s₀ at l .ending) all) ∙ r .ran);

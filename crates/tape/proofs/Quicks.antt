@@ -28,11 +28,11 @@ use Rattle.tape.specs.declared.quick.Derived.{Derived}
 use Rattle.tape.specs.declared.quick.Stretch.{Stretch}
 use Rattle.typesetter.specs.Code.{codeOf}
 use Rattle.typesetter.specs.CodeLaws.{not-zero, code-flash, code-escape, code-lead}
-use Rattle.typesetter.specs.Machine.{fontIn, pastHalf, codeIn, orderOf, effectOf}
+use Rattle.typesetter.specs.Machine.{fontIn, pastHalf, codeIn, instructionEffect, effectOf}
 use Rattle.typesetter.specs.SoundLaws.{font-range}
 use Rattle.typesetter.specs.StepLaws.{placed}
 use Rattle.tape.specs.Quick.{Ready, halfSize, Flashing, DerivedFrom, Takes, escapeBy, flashesIn, NoLead, Strides, moves, sets, Leads}
-use Rattle.typesetter.specs.StepLaws.{step-ignored, order-taken, flash-set, lead-to, escape-at}
+use Rattle.typesetter.specs.StepLaws.{step-ignored, instruction-taken, flash-set, lead-to, escape-at}
 
 pub number-range : (machine : Machine) (m : Modes) (size : ℕ) → size < 15 → fontNumber (fontIn machine m) size < 120
 number-range machine m size h = omega (arith, font-range machine (m .«upper_rail») (m .«upper_mag») (m .«tilt_down») .1)
@@ -42,10 +42,10 @@ half-taken true v h = (omega arith, le-ltb _ _ h)
 half-taken false v h = (omega arith, refl)
 
 module _ (s : State) (b : ℕ) where
-  pub quick-led : Ready s → 96 ≤ b → b < 128 → (r : Height) → heightAt (s .height .0 +ℤ directedBy (s .modes .«lead_back») (31 - b % 32)) ≡ r → Leads s b r
-  unfolding orderOf
-  quick-led r h k (height.At t) e = sym (lead-to s (31 - b % 32) e ∙ order-taken s b (code-lead (s .machine) b h k) (r .begun) (r .uncut) (r .unstopped))
-  quick-led r h k height.Outside e = tt
+  pub quick-lead : Ready s → 96 ≤ b → b < 128 → (r : Height) → heightAt (s .height .0 +ℤ directedBy (s .modes .«lead_back») (31 - b % 32)) ≡ r → Leads s b r
+  unfolding instructionEffect
+  quick-lead r h k (height.At t) e = sym (lead-to s (31 - b % 32) e ∙ instruction-taken s b (code-lead (s .machine) b h k) (r .begun) (r .uncut) (r .unstopped))
+  quick-lead r h k height.Outside e = tt
 
   pub quick-ignored : b ≡ 0 → effectOf s b ≡ Moved (placed s (s .carriage))
   unfolding codeOf
@@ -53,18 +53,18 @@ module _ (s : State) (b : ℕ) where
 
   pub quick-set : (d : Derived) → Flashing s d → 1 ≤ b → b ≤ d .«last_flash» → (x : Units) (k : ℕ) → x .0 ≡ xOf (s .carriage .0) (isDouble (s .size)) → k ≡ codeIn (s .modes .«upper_half») b
       → effectOf s b ≡ Flashed (record { x = x; height = s .height; font = d .font; code = k })
-  unfolding orderOf
+  unfolding instructionEffect
   quick-set d f h l x k ex ek =
       let t = half-taken (s .modes .«upper_half») b (omega (arith, f .last)) in
       sym
       (flash-set s b (f .runs .unparked) (lt-leb _ _ (f .sized)) (t .1) x (d .font) k ex (f .number) ek
-      ∙ order-taken s b (code-flash (s .machine) b h (t .0)) (f .runs .begun) (f .runs .uncut) (f .runs .unstopped))
+      ∙ instruction-taken s b (code-flash (s .machine) b h (t .0)) (f .runs .begun) (f .runs .uncut) (f .runs .unstopped))
 
   pub quick-at : Ready s → 128 ≤ b → b < 255 → (c : Units) → carriageAt (s .carriage .0 +ℤ directedBy (s .modes .«escape_back») (127 - b % 128)) ≡ carriage.At c
       → effectOf s b ≡ Moved (placed s c)
-  unfolding orderOf
+  unfolding instructionEffect
   quick-at r h k c e =
-      sym (escape-at s (127 - b % 128) (r .unparked) c e ∙ order-taken s b (code-escape (s .machine) b h k) (r .begun) (r .uncut) (r .unstopped))
+      sym (escape-at s (127 - b % 128) (r .unparked) c e ∙ instruction-taken s b (code-escape (s .machine) b h k) (r .begun) (r .uncut) (r .unstopped))
 
 -- ---- codes that are counted
 

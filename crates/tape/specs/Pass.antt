@@ -29,7 +29,7 @@ pub record Going (s₀ : State) (at : ℕ) (tape first : List ℕ) (w : Bool) (o
   pub sound : Sound s
   pub ran : run s₀ at (take i tape) .ending ≡ Reached s
   pub counted : count ≡ length (charactersOf (soFar s₀ at tape i))
-  pub parted : cuts ≡ 3 * cutsOf (soFar s₀ at tape i)
+  pub cut-bytes : cuts ≡ 3 * cutsOf (soFar s₀ at tape i)
   pub same : length out ≡ length first
   pub wrote : out ≡ putIf w first 0 (fields New (soFar s₀ at tape i))
 
@@ -48,7 +48,7 @@ Stretched w tape out s count cuts i r later = Further w tape out s count cuts i 
 -- what a pass finds of a run, and the buffer after it
 pub record Passed (x : Run) (w : Bool) (before : List ℕ) (r : Reading) (later : List ℕ) : Type 0 where
   pub counted : r .count ≡ length (charactersOf (x .items))
-  pub parted : r .cuts ≡ 3 * cutsOf (x .items)
+  pub cut-bytes : r .cuts ≡ 3 * cutsOf (x .items)
   pub few : r .count ≤ maxTape
   pub short : r .cuts ≤ 3 * maxTape
   pub ended : r .ending ≡ x .ending

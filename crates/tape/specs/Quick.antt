@@ -119,7 +119,7 @@ settled s m z = record { machine = s .machine; initialized = s .initialized; par
 
 -- ---- leads
 
--- what `led` says of a code; of Outside it says nothing
+-- what `height_after` says of a code; of Outside it says nothing
 abbrev pub Leads : State → ℕ → Height → Type 0
 Leads s b (height.At h) = effectOf s b ≡ Moved (withHeight s h)
 Leads s b height.Outside = Unit {0}

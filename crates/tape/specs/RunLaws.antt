@@ -22,13 +22,13 @@ use Rattle.galley_file.specs.declared.item.Item.the-variants.{Placed, Cut}
 use Rattle.galley_file.specs.Galley.{AllValid, nil, more}
 use Rattle.typesetter.specs.declared.machine.State.{State}
 use Rattle.typesetter.specs.declared.machine.Effect.{Effect}
-use Rattle.typesetter.specs.declared.machine.Effect.the-variants.{Moved, Flashed, Parted, Refused}
+use Rattle.typesetter.specs.declared.machine.Effect.the-variants.{Moved, Flashed, PageEnded, Refused}
 use Rattle.tape.specs.declared.Ending.{Ending}
 use Rattle.tape.specs.declared.Ending.the-variants.{Reached, Fault}
 use Rattle.typesetter.specs.Machine.{effectOf}
 use Rattle.typesetter.specs.Sound.{Sound}
-use Rattle.typesetter.specs.EffectLaws.{IsFault, fault-effect, moved-machine, parted-machine}
-use Rattle.typesetter.specs.SoundLaws.{stays-sound, parted-sound, flashed-valid}
+use Rattle.typesetter.specs.EffectLaws.{IsFault, fault-effect, moved-machine, page-ended-machine}
+use Rattle.typesetter.specs.SoundLaws.{stays-sound, page-ended-sound, flashed-valid}
 use Rattle.tape.specs.Tape.{Run, after, run}
 
 -- a run after items that were set, by how these ended
@@ -57,7 +57,7 @@ run-append s at (b ∷ xs) ys = go (λ t. run-append t (suc at) xs ys ∙ moved 
     go later (Moved t) q = rw (q, run) (later t)
     go later (Flashed c) q =
         rw (q, run) (ap (after (Placed c)) (later s) ∙ after-goOn (Placed c) (run s (suc at) xs .items) (run s (suc at) xs .ending) (λ t. run t (at + suc (length xs)) ys))
-    go later (Parted t) q =
+    go later (PageEnded t) q =
         rw (q, run) (ap (after Cut) (later t) ∙ after-goOn Cut (run t (suc at) xs .items) (run t (suc at) xs .ending) (λ u. run u (at + suc (length xs)) ys))
     go later (Refused n) q = rw (q, run)
 
@@ -69,7 +69,7 @@ run-length s at (b ∷ bs) = go (λ t. run-length t (suc at) bs) (effectOf s b) 
     go : ((t : State) → length (run t (suc at) bs .items) ≤ length bs) → (e : Effect) → effectOf s b ≡ e → length (run s at (b ∷ bs) .items) ≤ suc (length bs)
     go later (Moved t) q = rw (q, run) (omega (arith, later t))
     go later (Flashed c) q = rw (q, run) (omega (arith, later s))
-    go later (Parted t) q = rw (q, run) (omega (arith, later t))
+    go later (PageEnded t) q = rw (q, run) (omega (arith, later t))
     go later (Refused n) q = rw (q, run) (omega arith)
 
 -- ---- the state reached, or the refusal
@@ -85,14 +85,14 @@ run-machine s at (b ∷ bs) {t} e = go (λ u. run-machine u (suc at) bs) (effect
     go : ((u : State) → run u (suc at) bs .ending ≡ Reached t → t .machine ≡ u .machine) → (x : Effect) → effectOf s b ≡ x → t .machine ≡ s .machine
     go later (Moved u) q = later u (rw (q, run) at e) ∙ moved-machine s b q
     go later (Flashed c) q = later s (rw (q, run) at e)
-    go later (Parted u) q = later u (rw (q, run) at e) ∙ parted-machine s b q
+    go later (PageEnded u) q = later u (rw (q, run) at e) ∙ page-ended-machine s b q
     go later (Refused n) q = let f : Fault n at ≡ Reached t = rw (q, run) at e in fault-never f
 
 -- ---- an effect that sets an item and leaves a state
 
 pub data Sets (s : State) : Effect → Item → State → Type 0 where
   flashed : {c : Character} → Sets s (Flashed c) (Placed c) s
-  parted : {t : State} → Sets s (Parted t) Cut t
+  pageEnded : {t : State} → Sets s (PageEnded t) Cut t
 
 -- ---- a prefix of i bytes that reaches the state s, and the byte after it
 
@@ -121,7 +121,7 @@ module _ (s₀ : State) (at : ℕ) (tape : List ℕ) (i : ℕ) where
       pub run-set : {e : Effect} {x : Item} {t : State} → effectOf s (getD tape i 0) ≡ e → Sets s e x t → run s₀ at (take (i + 1) tape) ≡ record { items = soFar ++ (x ∷ []); ending = Reached t }
       unfolding run
       run-set e flashed = next ∙ rw (e, run)
-      run-set e parted = next ∙ rw (e, run)
+      run-set e pageEnded = next ∙ rw (e, run)
 
       pub run-refused : {n : ℕ} → effectOf s (getD tape i 0) ≡ Refused n → run s₀ at tape ≡ record { items = soFar; ending = Fault n (at + i) }
       unfolding run
@@ -133,7 +133,7 @@ module _ (s₀ : State) (at : ℕ) (tape : List ℕ) (i : ℕ) where
           → run s (at + i) (drop i tape) .items ≡ x ∷ run t (suc (at + i)) (drop (suc i) tape) .items
       unfolding run
       rest-set e flashed = rw (drop-cons tape i 0 h, e, run)
-      rest-set e parted = rw (drop-cons tape i 0 h, e, run)
+      rest-set e pageEnded = rw (drop-cons tape i 0 h, e, run)
 
       -- an item more is one of those of the whole tape
       pub run-room : {e : Effect} {x : Item} {t : State} → effectOf s (getD tape i 0) ≡ e → Sets s e x t
@@ -151,7 +151,7 @@ run-valid s at (b ∷ bs) r = go (λ t q. run-valid t (suc at) bs q) (effectOf s
     go : ((t : State) → Sound t → AllValid heightEnd (run t (suc at) bs .items)) → (e : Effect) → effectOf s b ≡ e → AllValid heightEnd (run s at (b ∷ bs) .items)
     go later (Moved t) q = rw (q, run) (later t (stays-sound s r b q))
     go later (Flashed c) q = rw (q, run) (more (flashed-valid s r b q) (later s r))
-    go later (Parted t) q = rw (q, run) (more refl (later t (parted-sound s r b q)))
+    go later (PageEnded t) q = rw (q, run) (more refl (later t (page-ended-sound s r b q)))
     go later (Refused n) q = rw (q, run) nil
 
 -- ---- how a run ends
@@ -164,7 +164,7 @@ run-sound s at (b ∷ bs) r {t} h = go (λ u q. run-sound u (suc at) bs q {t = t
     go : ((u : State) → Sound u → run u (suc at) bs .ending ≡ Reached t → Sound t) → (e : Effect) → effectOf s b ≡ e → run s at (b ∷ bs) .ending ≡ Reached t → Sound t
     go later (Moved u) q = rw (q, run) (later u (stays-sound s r b q))
     go later (Flashed c) q = rw (q, run) (later s r)
-    go later (Parted u) q = rw (q, run) (later u (parted-sound s r b q))
+    go later (PageEnded u) q = rw (q, run) (later u (page-ended-sound s r b q))
     go later (Refused n) q = rw (q, run) (λ e. fault-never e)
 
 abbrev pub FaultIn : Ending → Type 0
@@ -179,5 +179,5 @@ run-fault s at (b ∷ bs) = go (λ t. run-fault t (suc at) bs) (effectOf s b) re
     go : ((t : State) → FaultIn (run t (suc at) bs .ending)) → (e : Effect) → effectOf s b ≡ e → FaultIn (run s at (b ∷ bs) .ending)
     go later (Moved t) q = rw (q, run) (later t)
     go later (Flashed c) q = rw (q, run) (later s)
-    go later (Parted t) q = rw (q, run) (later t)
+    go later (PageEnded t) q = rw (q, run) (later t)
     go later (Refused n) q = rw (q, run) (fault-effect s b q)

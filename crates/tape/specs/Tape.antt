@@ -19,7 +19,7 @@ use Rattle.typesetter.specs.declared.code.Machine.{Machine}
 use Rattle.typesetter.specs.declared.code.Machine.the-variants.{Four, Eight}
 use Rattle.typesetter.specs.declared.machine.State.{State}
 use Rattle.typesetter.specs.declared.machine.Effect.{Effect}
-use Rattle.typesetter.specs.declared.machine.Effect.the-variants.{Moved, Flashed, Parted, Refused}
+use Rattle.typesetter.specs.declared.machine.Effect.the-variants.{Moved, Flashed, PageEnded, Refused}
 use Rattle.tape.specs.declared.Ending.{Ending}
 use Rattle.tape.specs.declared.Ending.the-variants.{Reached, Fault}
 use Rattle.typesetter.specs.Machine.{start, effectOf}
@@ -41,7 +41,7 @@ run s at (b ∷ bs) =
     elim (effectOf s b) [
       | Moved t ↦ run t (suc at) bs
       | Flashed c ↦ after (Placed c) (run s (suc at) bs)
-      | Parted t ↦ after Cut (run t (suc at) bs)
+      | PageEnded t ↦ after Cut (run t (suc at) bs)
       | Refused n ↦ record { items = []; ending = Fault n at }
     ]
 

@@ -87,7 +87,7 @@ pub fn pass(first: State, at: usize, tape: &[u8], out: &mut [u8], writing: bool)
                     count += 1;
                     i += 1;
                 }
-                Effect::Parted(next) => {
+                Effect::PageEnded(next) => {
                     put_after(writing, out, count, cuts, Item::Cut);
                     cuts += item::CUT_FIELD;
                     s = next;

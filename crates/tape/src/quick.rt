@@ -35,7 +35,7 @@ pub struct Stretch {
 }
 
 // Where a run of the quick ways ends: the place on the tape, the state, and the number of characters.
-pub struct Halt {
+pub struct RunEnd {
     pub next: usize,
     pub state: State,
     pub count: usize,
@@ -336,7 +336,7 @@ pub fn size_after(size: u8, b: u8) -> u8
 }
 
 // The height after b, where b is a lead that a running machine takes; Outside is every other code and every refusal.
-pub fn led(s: State, b: u8) -> Height
+pub fn height_after(s: State, b: u8) -> Height
     ensures { λ r. ⌜ Leads s b r ⌝ }
 {
     if b >> 5 != 3 {
@@ -349,10 +349,10 @@ pub fn led(s: State, b: u8) -> Height
     }
 }
 
-fn halted(next: usize, state: State, count: usize) -> Halt
+fn run_end(next: usize, state: State, count: usize) -> RunEnd
     ensures { λ r. ⌜ r ≡ record { next = next; state = state; count = count } ⌝ }
 {
-    Halt {
+    RunEnd {
         next: next,
         state: state,
         count: count,
@@ -368,7 +368,7 @@ pub fn quick_run(
     before: usize,
     cuts: usize,
     out: &mut [u8],
-) -> Halt
+) -> RunEnd
     requires { ⌜ (Sound first) × (before ≤ from) ⌝ }
     ensures { λ r. ⌜ Further writing (now (tape .entry)) (now (out .entry)) first before cuts from (r .state) (r .count) (r .next) (now (out .exit)) ⌝ }
 {
@@ -392,17 +392,17 @@ pub fn quick_run(
                 d = derived_of(s);
                 i += 1;
             } else {
-                match led(s, b) {
+                match height_after(s, b) {
                     Height::At(h) => {
                         s.height = h;
                         i += 1;
                     }
                     Height::Outside => {
-                        return halted(i, s, count);
+                        return run_end(i, s, count);
                     }
                 }
             }
         }
     }
-    halted(i, s, count)
+    run_end(i, s, count)
 }

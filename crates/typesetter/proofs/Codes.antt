@@ -12,8 +12,8 @@ use Rattle.integers.specs.Tables.{numbers, agree}
 use Rattle.typesetter.specs.declared.code.Machine.{Machine}
 use Rattle.typesetter.specs.declared.code.Machine.the-variants.{Four, Eight}
 use Rattle.typesetter.specs.declared.code.Code.{Code}
-use Rattle.typesetter.specs.declared.code.Code.the-variants.{Ignored, Illegal, Ordered}
-use Rattle.typesetter.specs.declared.code.Order.the-variants.{Flash, Size, Lead, Escape}
+use Rattle.typesetter.specs.declared.code.Code.the-variants.{Ignored, Illegal, Instructs}
+use Rattle.typesetter.specs.declared.code.Instruction.the-variants.{Flash, Size, Lead, Escape}
 use Rattle.typesetter.specs.Code.{codeOf, controls}
 
 pub low-seven : (b : ℕ) → b < 256 → bitAnd (255 - b) 127 ≡ 127 - b % 128
@@ -27,12 +27,12 @@ abbrev pub sorted : Machine → ℕ → Code
 sorted machine b =
     cond (eqb b 0) Ignored
     (cond (eqb b 255) Illegal
-    (cond (eqb (b / 128) 1) (Ordered (Escape (127 - b % 128)))
-    (cond (eqb (b / 64) 0) (Ordered (Flash b))
-    (cond (eqb (b / 32) 3) (Ordered (Lead (31 - b % 32)))
+    (cond (eqb (b / 128) 1) (Instructs (Escape (127 - b % 128)))
+    (cond (eqb (b / 64) 0) (Instructs (Flash b))
+    (cond (eqb (b / 32) 3) (Instructs (Lead (31 - b % 32)))
     (cond (eqb (b / 16) 4) (getD (controls machine) (b % 16) Illegal)
     (cond (eqb b 95) Illegal
-    (Ordered (Size (b % 16)))))))))
+    (Instructs (Size (b % 16)))))))))
 
 all-codes : (machine : Machine) → map (sorted machine) (numbers 0 256) ≡ map (codeOf machine) (numbers 0 256)
 unfolding codeOf

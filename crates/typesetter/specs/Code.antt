@@ -6,32 +6,32 @@ use lib.ListN.{getD}
 use lib.Dec.{eqb, ltb}
 use Rattle.typesetter.specs.declared.code.Machine.{Machine}
 use Rattle.typesetter.specs.declared.code.Machine.the-variants.{Four, Eight}
-use Rattle.typesetter.specs.declared.code.Order.{Order}
-use Rattle.typesetter.specs.declared.code.Order.the-variants.{Flash, Rail, Mag, Half, EscapeWay, LeadWay, Tilt, Size, Stop, Cut, Lead, Escape}
+use Rattle.typesetter.specs.declared.code.Instruction.{Instruction}
+use Rattle.typesetter.specs.declared.code.Instruction.the-variants.{Flash, Rail, Mag, Half, EscapeWay, LeadWay, Tilt, Size, Stop, Cut, Lead, Escape}
 use Rattle.typesetter.specs.declared.code.Code.{Code}
-use Rattle.typesetter.specs.declared.code.Code.the-variants.{Ignored, Illegal, Initialize, Ordered}
+use Rattle.typesetter.specs.declared.code.Code.the-variants.{Ignored, Illegal, Initialize, Instructs}
 
 -- "4E and 4F get 2 on a 4-font machine"
 abbrev pub tiltOf : Machine → Bool → Code
 tiltOf Four down = Illegal
-tiltOf Eight down = Ordered (Tilt down)
+tiltOf Eight down = Instructs (Tilt down)
 
 -- codes 40 to 4F. A Bool is true for upper, backward and down
 abbrev pub controls : Machine → List Code
 controls machine =
     Initialize  -- 40 initialize
-    ∷ Ordered (Rail false)  -- 41 lower rail
-    ∷ Ordered (Rail true)  -- 42 upper rail
-    ∷ Ordered (Mag true)  -- 43 upper mag
-    ∷ Ordered (Mag false)  -- 44 lower mag
-    ∷ Ordered (Half false)  -- 45 lower half
-    ∷ Ordered (Half true)  -- 46 upper half
-    ∷ Ordered (EscapeWay false)  -- 47 escape forward
-    ∷ Ordered (EscapeWay true)  -- 48 escape backward
-    ∷ Ordered Stop  -- 49 stop
-    ∷ Ordered (LeadWay false)  -- 4A lead forward
-    ∷ Ordered Cut  -- 4B software cut
-    ∷ Ordered (LeadWay true)  -- 4C lead backward
+    ∷ Instructs (Rail false)  -- 41 lower rail
+    ∷ Instructs (Rail true)  -- 42 upper rail
+    ∷ Instructs (Mag true)  -- 43 upper mag
+    ∷ Instructs (Mag false)  -- 44 lower mag
+    ∷ Instructs (Half false)  -- 45 lower half
+    ∷ Instructs (Half true)  -- 46 upper half
+    ∷ Instructs (EscapeWay false)  -- 47 escape forward
+    ∷ Instructs (EscapeWay true)  -- 48 escape backward
+    ∷ Instructs Stop  -- 49 stop
+    ∷ Instructs (LeadWay false)  -- 4A lead forward
+    ∷ Instructs Cut  -- 4B software cut
+    ∷ Instructs (LeadWay true)  -- 4C lead backward
     ∷ Illegal  -- 4D
     ∷ tiltOf machine false  -- 4E tilt up
     ∷ tiltOf machine true  -- 4F tilt down
@@ -41,10 +41,10 @@ controls machine =
 unfoldable pub codeOf : Machine → ℕ → Code
 codeOf machine b =
     cond (eqb b 0x00) Ignored
-    (cond (ltb b 0x40) (Ordered (Flash b))
+    (cond (ltb b 0x40) (Instructs (Flash b))
     (cond (ltb b 0x50) (getD (controls machine) (b - 0x40) Illegal)
-    (cond (ltb b 0x5F) (Ordered (Size (b - 0x50)))
+    (cond (ltb b 0x5F) (Instructs (Size (b - 0x50)))
     (cond (ltb b 0x60) Illegal
-    (cond (ltb b 0x80) (Ordered (Lead (31 - b % 32)))
-    (cond (ltb b 0xFF) (Ordered (Escape (127 - b % 128)))
+    (cond (ltb b 0x80) (Instructs (Lead (31 - b % 32)))
+    (cond (ltb b 0xFF) (Instructs (Escape (127 - b % 128)))
     Illegal))))))

@@ -4,7 +4,7 @@
 --     fontIn          the font in force, 1 to 4 or 1 to 8
 --     characterIn     the character that a flash sets
 --     flashOf         the effect of a flash, and so on: escapeOf, leadOf
---     orderOf         the effect of a code other than 00 and initialize, on an initialized machine before stop
+--     instructionEffect         the effect of a code other than 00 and initialize, on an initialized machine before stop
 --     codeEffect      the effect of a code, by its class
 --     effectOf        the effect of a byte
 use Prim.Native.Nat.{ℕ, _+_, _*_}
@@ -24,14 +24,14 @@ use Rattle.galley_file.specs.declared.character.Character.{Character}
 use Rattle.galley_file.specs.Font.{fontNumber, isDouble}
 use Rattle.typesetter.specs.declared.code.Machine.{Machine}
 use Rattle.typesetter.specs.declared.code.Machine.the-variants.{Four, Eight}
-use Rattle.typesetter.specs.declared.code.Order.{Order}
-use Rattle.typesetter.specs.declared.code.Order.the-variants.{Flash, Rail, Mag, Half, EscapeWay, LeadWay, Tilt, Size, Stop, Cut, Lead, Escape}
+use Rattle.typesetter.specs.declared.code.Instruction.{Instruction}
+use Rattle.typesetter.specs.declared.code.Instruction.the-variants.{Flash, Rail, Mag, Half, EscapeWay, LeadWay, Tilt, Size, Stop, Cut, Lead, Escape}
 use Rattle.typesetter.specs.declared.code.Code.{Code}
-use Rattle.typesetter.specs.declared.code.Code.the-variants.{Ignored, Illegal, Initialize, Ordered}
+use Rattle.typesetter.specs.declared.code.Code.the-variants.{Ignored, Illegal, Initialize, Instructs}
 use Rattle.typesetter.specs.declared.machine.Modes.{Modes}
 use Rattle.typesetter.specs.declared.machine.State.{State}
 use Rattle.typesetter.specs.declared.machine.Effect.{Effect}
-use Rattle.typesetter.specs.declared.machine.Effect.the-variants.{Moved, Flashed, Parted, Refused}
+use Rattle.typesetter.specs.declared.machine.Effect.the-variants.{Moved, Flashed, PageEnded, Refused}
 use Rattle.typesetter.specs.Code.{codeOf}
 
 -- ---- parts of a state
@@ -175,19 +175,19 @@ leadOf s n = toHeight s (heightAt (s .height .0 +ℤ directedBy (s .modes .«lea
 
 -- ---- one code
 
-unfoldable pub orderOf : State → Order → Effect
-orderOf s (Flash v) = flashOf s v
-orderOf s (Rail up) = Moved (withModes s (withRail (s .modes) up))
-orderOf s (Mag up) = Moved (withModes s (withMag (s .modes) up))
-orderOf s (Half up) = Moved (withModes s (withHalf (s .modes) up))
-orderOf s (EscapeWay back) = Moved (withModes s (withEscape (s .modes) back))
-orderOf s (LeadWay back) = Moved (withModes s (withLead (s .modes) back))
-orderOf s (Tilt down) = Moved (withModes s (withTilt (s .modes) down))
-orderOf s (Size index) = Moved (withSize s index)
-orderOf s Stop = Moved (withStop s)
-orderOf s Cut = Parted (withCut s)
-orderOf s (Lead n) = leadOf s n
-orderOf s (Escape n) = escapeOf s n
+unfoldable pub instructionEffect : State → Instruction → Effect
+instructionEffect s (Flash v) = flashOf s v
+instructionEffect s (Rail up) = Moved (withModes s (withRail (s .modes) up))
+instructionEffect s (Mag up) = Moved (withModes s (withMag (s .modes) up))
+instructionEffect s (Half up) = Moved (withModes s (withHalf (s .modes) up))
+instructionEffect s (EscapeWay back) = Moved (withModes s (withEscape (s .modes) back))
+instructionEffect s (LeadWay back) = Moved (withModes s (withLead (s .modes) back))
+instructionEffect s (Tilt down) = Moved (withModes s (withTilt (s .modes) down))
+instructionEffect s (Size index) = Moved (withSize s index)
+instructionEffect s Stop = Moved (withStop s)
+instructionEffect s Cut = PageEnded (withCut s)
+instructionEffect s (Lead n) = leadOf s n
+instructionEffect s (Escape n) = escapeOf s n
 
 -- 00 is ignored everywhere; 2 illegal; 3 before the first initialize; 10 after a cut, unless initialize; 4 after stop; then the code's
 -- own rules
@@ -195,9 +195,9 @@ unfoldable pub codeEffect : State → Code → Effect
 codeEffect s Ignored = Moved s
 codeEffect s Illegal = Refused illegalCode
 codeEffect s Initialize = cond (s .stopped) (Refused afterStop) (Moved (initializedOf s))
-codeEffect s (Ordered o) =
+codeEffect s (Instructs o) =
     cond (s .initialized)
-    (cond (s .cut) (Refused afterCut) (cond (s .stopped) (Refused afterStop) (orderOf s o)))
+    (cond (s .cut) (Refused afterCut) (cond (s .stopped) (Refused afterStop) (instructionEffect s o)))
     (Refused notInitialized)
 
 unfoldable pub effectOf : State → ℕ → Effect

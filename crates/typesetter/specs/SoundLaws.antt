@@ -19,13 +19,13 @@ use Rattle.galley_file.specs.Character.{validX, valid}
 use Rattle.galley_file.specs.CharacterLaws.{parts-valid}
 use Rattle.typesetter.specs.declared.code.Machine.{Machine}
 use Rattle.typesetter.specs.declared.code.Machine.the-variants.{Four, Eight}
-use Rattle.typesetter.specs.declared.code.Order.{Order}
-use Rattle.typesetter.specs.declared.code.Order.the-variants.{Flash, Rail, Mag, Half, EscapeWay, LeadWay, Tilt, Size, Stop, Cut, Lead, Escape}
+use Rattle.typesetter.specs.declared.code.Instruction.{Instruction}
+use Rattle.typesetter.specs.declared.code.Instruction.the-variants.{Flash, Rail, Mag, Half, EscapeWay, LeadWay, Tilt, Size, Stop, Cut, Lead, Escape}
 use Rattle.typesetter.specs.declared.code.Code.{Code}
-use Rattle.typesetter.specs.declared.code.Code.the-variants.{Ignored, Illegal, Initialize, Ordered}
+use Rattle.typesetter.specs.declared.code.Code.the-variants.{Ignored, Illegal, Initialize, Instructs}
 use Rattle.typesetter.specs.declared.machine.State.{State}
 use Rattle.typesetter.specs.declared.machine.Effect.{Effect}
-use Rattle.typesetter.specs.declared.machine.Effect.the-variants.{Moved, Flashed, Parted, Refused}
+use Rattle.typesetter.specs.declared.machine.Effect.the-variants.{Moved, Flashed, PageEnded, Refused}
 use Rattle.typesetter.specs.Code.{tiltOf, codeOf, controls}
 use Rattle.typesetter.specs.Machine.{start, pairOf, fontAt, fontIn, pastHalf, codeIn, characterIn, effectOf}
 use Rattle.typesetter.specs.EffectLaws.{Causes, refuses, ignores, initializes, flashes, turns, sizes, stops, cuts, leads, escapes, causes, at-origin}
@@ -33,7 +33,7 @@ use Rattle.typesetter.specs.Sound.{Sound}
 
 -- ---- a flash is of 1 to 63
 
-abbrev Flashes : Order → Type 0
+abbrev Flashes : Instruction → Type 0
 Flashes (Flash v) = (1 ≤ v) × (v ≤ 63)
 Flashes (Rail up) = Unit {0}
 Flashes (Mag up) = Unit {0}
@@ -51,7 +51,7 @@ abbrev Fine : Code → Type 0
 Fine Ignored = Unit {0}
 Fine Illegal = Unit {0}
 Fine Initialize = Unit {0}
-Fine (Ordered o) = Flashes o
+Fine (Instructs o) = Flashes o
 
 fine-cond : (t : Bool) (x y : Code) → (t ≡ true → Fine x) → (t ≡ false → Fine y) → Fine (cond t x y)
 fine-cond true x y f g = f refl
@@ -73,20 +73,20 @@ fine-tilt Eight down = tt
 fine-code : (machine : Machine) (b : ℕ) → Fine (codeOf machine b)
 unfolding codeOf
 fine-code machine b =
-    let f = cond (ltb b 0xFF) (Ordered (Escape (127 - b % 128))) Illegal in
-    let e = cond (ltb b 0x80) (Ordered (Lead (31 - b % 32))) f in
+    let f = cond (ltb b 0xFF) (Instructs (Escape (127 - b % 128))) Illegal in
+    let e = cond (ltb b 0x80) (Instructs (Lead (31 - b % 32))) f in
     let d = cond (ltb b 0x60) Illegal e in
-    let c = cond (ltb b 0x5F) (Ordered (Size (b - 0x50))) d in
+    let c = cond (ltb b 0x5F) (Instructs (Size (b - 0x50))) d in
     let a = cond (ltb b 0x50) (getD (controls machine) (b - 0x40) Illegal) c in
-    fine-cond (eqb b 0x00) Ignored (cond (ltb b 0x40) (Ordered (Flash b)) a) (λ _. tt) (λ z.
-    fine-cond (ltb b 0x40) (Ordered (Flash b)) a
+    fine-cond (eqb b 0x00) Ignored (cond (ltb b 0x40) (Instructs (Flash b)) a) (λ _. tt) (λ z.
+    fine-cond (ltb b 0x40) (Instructs (Flash b)) a
     (λ l. let ne = eqb-false b 0 z in let lt = ltb-true b 0x40 l in (omega arith, omega arith)) (λ _.
     fine-cond (ltb b 0x50) (getD (controls machine) (b - 0x40) Illegal) c
     (λ _. fine-at (controls machine) (tt, (tt, (tt, (tt, (tt, (tt, (tt, (tt, (tt, (tt, (tt, (tt, (tt, (tt, (fine-tilt machine false, (fine-tilt machine true, tt)))))))))))))))) (b - 0x40)) (λ _.
-    fine-cond (ltb b 0x5F) (Ordered (Size (b - 0x50))) d (λ _. tt) (λ _.
+    fine-cond (ltb b 0x5F) (Instructs (Size (b - 0x50))) d (λ _. tt) (λ _.
     fine-cond (ltb b 0x60) Illegal e (λ _. tt) (λ _.
-    fine-cond (ltb b 0x80) (Ordered (Lead (31 - b % 32))) f (λ _. tt) (λ _.
-    fine-cond (ltb b 0xFF) (Ordered (Escape (127 - b % 128))) Illegal (λ _. tt) (λ _. tt)))))))
+    fine-cond (ltb b 0x80) (Instructs (Lead (31 - b % 32))) f (λ _. tt) (λ _.
+    fine-cond (ltb b 0xFF) (Instructs (Escape (127 - b % 128))) Illegal (λ _. tt) (λ _. tt)))))))
 
 -- ---- a flash that is taken sets a valid character
 
@@ -136,7 +136,7 @@ set-valid s r v fv z a =
 abbrev Good : Effect → Type 0
 Good (Moved t) = Sound t
 Good (Flashed c) = valid heightEnd c ≡ true
-Good (Parted t) = Sound t
+Good (PageEnded t) = Sound t
 Good (Refused n) = Unit {0}
 
 module _ (s : State) (r : Sound s) where
@@ -165,8 +165,8 @@ module _ (s : State) (r : Sound s) where
   pub stays-sound : (b : ℕ) {t : State} → effectOf s b ≡ Moved t → Sound t
   stays-sound b e = good b e
 
-  pub parted-sound : (b : ℕ) {t : State} → effectOf s b ≡ Parted t → Sound t
-  parted-sound b e = good b e
+  pub page-ended-sound : (b : ℕ) {t : State} → effectOf s b ≡ PageEnded t → Sound t
+  page-ended-sound b e = good b e
 
   pub flashed-valid : (b : ℕ) {c : Character} → effectOf s b ≡ Flashed c → valid heightEnd c ≡ true
   flashed-valid b e = good b e

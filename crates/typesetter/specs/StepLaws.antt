@@ -13,12 +13,12 @@ use Rattle.measure.specs.declared.Height.{Height}
 use Rattle.measure.specs.Place.{directedBy, carriageAt, heightAt}
 use Rattle.measure.specs.Target.{xOf}
 use Rattle.galley_file.specs.Font.{fontNumber, isDouble}
-use Rattle.typesetter.specs.declared.code.Order.{Order}
-use Rattle.typesetter.specs.declared.code.Code.the-variants.{Ignored, Illegal, Initialize, Ordered}
+use Rattle.typesetter.specs.declared.code.Instruction.{Instruction}
+use Rattle.typesetter.specs.declared.code.Code.the-variants.{Ignored, Illegal, Initialize, Instructs}
 use Rattle.typesetter.specs.declared.machine.State.{State}
 use Rattle.typesetter.specs.declared.machine.Effect.the-variants.{Moved, Flashed, Refused}
 use Rattle.typesetter.specs.Code.{codeOf}
-use Rattle.typesetter.specs.Machine.{noSizeYet, initializedOf, fontIn, pastHalf, codeIn, withCarriage, toCarriage, toHeight, flashOf, escapeOf, leadOf, orderOf, codeEffect, effectOf}
+use Rattle.typesetter.specs.Machine.{noSizeYet, initializedOf, fontIn, pastHalf, codeIn, withCarriage, toCarriage, toHeight, flashOf, escapeOf, leadOf, instructionEffect, codeEffect, effectOf}
 
 -- a state with its carriage elsewhere
 abbrev pub placed : State → Units → State
@@ -69,18 +69,18 @@ module _ (s : State) (b : ℕ) where
   unfolding effectOf codeEffect
   initialize-taken e t = rw (e, t)
 
-  pub order-early : {o : Order} → codeOf (s .machine) b ≡ Ordered o → s .initialized ≡ false → Refused notInitialized ≡ effectOf s b
+  pub instruction-early : {o : Instruction} → codeOf (s .machine) b ≡ Instructs o → s .initialized ≡ false → Refused notInitialized ≡ effectOf s b
   unfolding effectOf codeEffect
-  order-early e i = rw (e, i)
+  instruction-early e i = rw (e, i)
 
-  pub order-cut : {o : Order} → codeOf (s .machine) b ≡ Ordered o → s .initialized ≡ true → s .cut ≡ true → Refused afterCut ≡ effectOf s b
+  pub instruction-after-cut : {o : Instruction} → codeOf (s .machine) b ≡ Instructs o → s .initialized ≡ true → s .cut ≡ true → Refused afterCut ≡ effectOf s b
   unfolding effectOf codeEffect
-  order-cut e i k = rw (e, i, k)
+  instruction-after-cut e i k = rw (e, i, k)
 
-  pub order-stopped : {o : Order} → codeOf (s .machine) b ≡ Ordered o → s .initialized ≡ true → s .cut ≡ false → s .stopped ≡ true → Refused afterStop ≡ effectOf s b
+  pub instruction-after-stop : {o : Instruction} → codeOf (s .machine) b ≡ Instructs o → s .initialized ≡ true → s .cut ≡ false → s .stopped ≡ true → Refused afterStop ≡ effectOf s b
   unfolding effectOf codeEffect
-  order-stopped e i k t = rw (e, i, k, t)
+  instruction-after-stop e i k t = rw (e, i, k, t)
 
-  pub order-taken : {o : Order} → codeOf (s .machine) b ≡ Ordered o → s .initialized ≡ true → s .cut ≡ false → s .stopped ≡ false → orderOf s o ≡ effectOf s b
+  pub instruction-taken : {o : Instruction} → codeOf (s .machine) b ≡ Instructs o → s .initialized ≡ true → s .cut ≡ false → s .stopped ≡ false → instructionEffect s o ≡ effectOf s b
   unfolding effectOf codeEffect
-  order-taken e i k t = rw (e, i, k, t)
+  instruction-taken e i k t = rw (e, i, k, t)

@@ -11,7 +11,7 @@ pub enum Machine {
 }
 
 // What a code asks of an initialized machine. A bool is true for upper, backward and down.
-pub enum Order {
+pub enum Instruction {
     Flash(u8),
     Rail(bool),
     Mag(bool),
@@ -31,7 +31,7 @@ pub enum Code {
     Ignored,
     Illegal,
     Initialize,
-    Ordered(Order),
+    Instructs(Instruction),
 }
 
 // The low seven bits, complemented.
@@ -54,7 +54,7 @@ fn tilt(machine: Machine, down: bool) -> Code
 {
     match machine {
         Machine::Four => Code::Illegal,
-        Machine::Eight => Code::Ordered(Order::Tilt(down)),
+        Machine::Eight => Code::Instructs(Instruction::Tilt(down)),
     }
 }
 
@@ -64,18 +64,18 @@ fn control(machine: Machine, low: u8) -> Code
 {
     match low {
         0 => Code::Initialize,
-        1 => Code::Ordered(Order::Rail(false)),
-        2 => Code::Ordered(Order::Rail(true)),
-        3 => Code::Ordered(Order::Mag(true)),
-        4 => Code::Ordered(Order::Mag(false)),
-        5 => Code::Ordered(Order::Half(false)),
-        6 => Code::Ordered(Order::Half(true)),
-        7 => Code::Ordered(Order::EscapeWay(false)),
-        8 => Code::Ordered(Order::EscapeWay(true)),
-        9 => Code::Ordered(Order::Stop),
-        10 => Code::Ordered(Order::LeadWay(false)),
-        11 => Code::Ordered(Order::Cut),
-        12 => Code::Ordered(Order::LeadWay(true)),
+        1 => Code::Instructs(Instruction::Rail(false)),
+        2 => Code::Instructs(Instruction::Rail(true)),
+        3 => Code::Instructs(Instruction::Mag(true)),
+        4 => Code::Instructs(Instruction::Mag(false)),
+        5 => Code::Instructs(Instruction::Half(false)),
+        6 => Code::Instructs(Instruction::Half(true)),
+        7 => Code::Instructs(Instruction::EscapeWay(false)),
+        8 => Code::Instructs(Instruction::EscapeWay(true)),
+        9 => Code::Instructs(Instruction::Stop),
+        10 => Code::Instructs(Instruction::LeadWay(false)),
+        11 => Code::Instructs(Instruction::Cut),
+        12 => Code::Instructs(Instruction::LeadWay(true)),
         14 => tilt(machine, false),
         15 => tilt(machine, true),
         _ => Code::Illegal,
@@ -91,16 +91,16 @@ pub fn classify(machine: Machine, b: u8) -> Code
     } else if b == 255 {
         Code::Illegal
     } else if b >> 7 == 1 {
-        Code::Ordered(Order::Escape(escape_size(b)))
+        Code::Instructs(Instruction::Escape(escape_size(b)))
     } else if b >> 6 == 0 {
-        Code::Ordered(Order::Flash(b))
+        Code::Instructs(Instruction::Flash(b))
     } else if b >> 5 == 3 {
-        Code::Ordered(Order::Lead(lead_size(b)))
+        Code::Instructs(Instruction::Lead(lead_size(b)))
     } else if b >> 4 == 4 {
         control(machine, b & 15)
     } else if b == 95 {
         Code::Illegal
     } else {
-        Code::Ordered(Order::Size(b & 15))
+        Code::Instructs(Instruction::Size(b & 15))
     }
 }

@@ -1,8 +1,8 @@
 // The C/A/T: its state, and what one code does to it (document 01, "Tape codes").
 use crate::code;
 use crate::code::Code;
+use crate::code::Instruction;
 use crate::code::Machine;
-use crate::code::Order;
 use galley_file::character::Character;
 use galley_file::font;
 use measure::Carriage;
@@ -14,7 +14,7 @@ ghost use mathlib.Core.Path.{_≡_};
 ghost use mathlib.Core.Bool.{false};
 ghost use Prim.Native.Nat.{_≤_, _<_};
 ghost use Rattle.galley_file.specs.Font.{fontNumber};
-ghost use Rattle.typesetter.specs.Machine.{start, firstModes, initializedOf, pairOf, fontIn, pastHalf, codeIn, flashOf, escapeOf, leadOf, orderOf, effectOf};
+ghost use Rattle.typesetter.specs.Machine.{start, firstModes, initializedOf, pairOf, fontIn, pastHalf, codeIn, flashOf, escapeOf, leadOf, withSize, withStop, withCut, instructionEffect, effectOf};
 ghost use Rattle.typesetter.specs.Sound.{Sound};
 
 // What initialize resets.
@@ -45,7 +45,7 @@ pub struct State {
 pub enum Effect {
     Moved(State),
     Flashed(Character),
-    Parted(State),
+    PageEnded(State),
     Refused(u8),
 }
 
@@ -227,54 +227,70 @@ fn lead(s: State, by: u8) -> Effect
     }
 }
 
-// A code other than 00 and initialize, on an initialized machine that has not stopped.
-fn obey(s: State, o: Order) -> Effect
+fn with_size(s: State, index: u8) -> State
+    ensures { λ r. ⌜ r ≡ withSize s index ⌝ }
+{
+    let mut next = s;
+    next.size = index;
+    next
+}
+
+fn with_stop(s: State) -> State
+    ensures { λ r. ⌜ r ≡ withStop s ⌝ }
+{
+    let mut next = s;
+    next.stopped = true;
+    next
+}
+
+// A cut ends the page; the next starts at height 0, with initialize.
+fn with_cut(s: State) -> State
+    ensures { λ r. ⌜ r ≡ withCut s ⌝ }
+{
+    let mut next = s;
+    let top = Quanta(0);
+    next.cut = true;
+    next.height = top;
+    next
+}
+
+// A code other than 00 and initialize, on an initialized machine that has neither stopped nor cut.
+fn execute(s: State, o: Instruction) -> Effect
     requires { ⌜ Sound s ⌝ }
-    ensures { λ r. ⌜ r ≡ orderOf s o ⌝ }
+    ensures { λ r. ⌜ r ≡ instructionEffect s o ⌝ }
 {
     let mut next = s;
     match o {
-        Order::Flash(v) => flash(s, v),
-        Order::Rail(up) => {
+        Instruction::Flash(v) => flash(s, v),
+        Instruction::Rail(up) => {
             next.modes.upper_rail = up;
             Effect::Moved(next)
         }
-        Order::Mag(up) => {
+        Instruction::Mag(up) => {
             next.modes.upper_mag = up;
             Effect::Moved(next)
         }
-        Order::Half(up) => {
+        Instruction::Half(up) => {
             next.modes.upper_half = up;
             Effect::Moved(next)
         }
-        Order::EscapeWay(back) => {
+        Instruction::EscapeWay(back) => {
             next.modes.escape_back = back;
             Effect::Moved(next)
         }
-        Order::LeadWay(back) => {
+        Instruction::LeadWay(back) => {
             next.modes.lead_back = back;
             Effect::Moved(next)
         }
-        Order::Tilt(down) => {
+        Instruction::Tilt(down) => {
             next.modes.tilt_down = down;
             Effect::Moved(next)
         }
-        Order::Size(index) => {
-            next.size = index;
-            Effect::Moved(next)
-        }
-        Order::Stop => {
-            next.stopped = true;
-            Effect::Moved(next)
-        }
-        Order::Cut => {
-            let top = Quanta(0);
-            next.cut = true;
-            next.height = top;
-            Effect::Parted(next)
-        }
-        Order::Lead(by) => lead(s, by),
-        Order::Escape(by) => escape(s, by),
+        Instruction::Size(index) => Effect::Moved(with_size(s, index)),
+        Instruction::Stop => Effect::Moved(with_stop(s)),
+        Instruction::Cut => Effect::PageEnded(with_cut(s)),
+        Instruction::Lead(by) => lead(s, by),
+        Instruction::Escape(by) => escape(s, by),
     }
 }
 
@@ -294,14 +310,14 @@ pub fn step(s: State, b: u8) -> Effect
                 Effect::Moved(initialized(s))
             }
         }
-        Code::Ordered(o) => {
+        Code::Instructs(o) => {
             if s.initialized {
                 if s.cut {
                     Effect::Refused(answer::AFTER_CUT)
                 } else if s.stopped {
                     Effect::Refused(answer::AFTER_STOP)
                 } else {
-                    obey(s, o)
+                    execute(s, o)
                 }
             } else {
                 Effect::Refused(answer::NOT_INITIALIZED)

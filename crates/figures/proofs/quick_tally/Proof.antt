@@ -13,7 +13,7 @@ use Rattle.typesetter.specs.StepLaws.{placed}
 use Rattle.tape.specs.Quick.{DerivedFrom, Leads}
 use Rattle.tape.proofs.Turns.{turn-taken}
 use Rattle.tape.proofs.Quicks.{still-derived}
-use Rattle.figures.specs.declared.Halt.{Halt}
+use Rattle.figures.specs.declared.RunEnd.{RunEnd}
 use Rattle.figures.specs.Counting.{Onward}
 use Rattle.figures.proofs.Countings.{onward-start, onward-strides, onward-turned, onward-led, strides-onward}
 use Rattle.figures.proofs.quick_tally.Statement.{statement}
@@ -57,12 +57,12 @@ module _ (c : tie.After-slice-known2 Inv-loop μ-loop) where
     less = omega (arith, h, strides-onward (c .before .before .before .before .before .before .count-stretch .ensures))
 
 -- what is kept, said of the answer
-halts : (s : tie.Start Inv-loop μ-loop) {t : State} {f b j : ℕ} {later : List ℕ} {h : Halt} → h ≡ record { next = j; state = t; forward = f; backward = b }
+run-ends : (s : tie.Start Inv-loop μ-loop) {t : State} {f b j : ℕ} {later : List ℕ} {h : RunEnd} → h ≡ record { next = j; state = t; forward = f; backward = b }
     → let a = s .args in Onward (a .tape .now) (a .fonts .now) (a .first) (a .ahead) (a .back) (a .from) later t f b j
     → Onward (a .tape .now) (a .fonts .now) (a .first) (a .ahead) (a .back) (a .from) later (h .state) (h .forward) (h .backward) (h .next)
-halts s {later = later} e f =
+run-ends s {later = later} e f =
     let a = s .args in
-    subst (λ (h : Halt). Onward (a .tape .now) (a .fonts .now) (a .first) (a .ahead) (a .back) (a .from) later (h .state) (h .forward) (h .backward) (h .next)) (sym e) f
+    subst (λ (h : RunEnd). Onward (a .tape .now) (a .fonts .now) (a .first) (a .ahead) (a .back) (a .from) later (h .state) (h .forward) (h .backward) (h .next)) (sym e) f
 
 derived-of-requires : tie.Need-derived-of-requires Inv-loop μ-loop
 derived-of-requires c κs = search needs
@@ -113,8 +113,8 @@ loop-again c = let t = c .before .before .before .before .before .before .before
       c .derived-of2 .ensures,
     )
 
-led-requires : tie.Need-led-requires Inv-loop μ-loop
-led-requires c κs = search needs
+height-after-requires : tie.Need-height-after-requires Inv-loop μ-loop
+height-after-requires c κs = search needs
 
 enum-known-h : tie.Need-enum-known-h Inv-loop μ-loop
 enum-known-h c = search needs
@@ -145,21 +145,21 @@ loop-again-2 c = let t = c .before .before .before .before .before .before .befo
     let f = c .before .before .before .forward-by in
     let b = c .before .backward-by in (
       onward-led (a .tape .now) (a .fonts .now) (a .first) (a .ahead) (a .back) (a .from) (fonts t) (now t) (l .forward) (l .backward) (i t) (onward t) (c .before .before .before .before .before .before .before .before .before .before .before .if1 .taken) _
-          (subst (Leads (now t) (getD (a .tape .now) (i t) 0)) (k .1) (c .before .before .before .before .before .before .before .led .ensures)) (f .result) (b .result) (f .ensures .0) (b .ensures .0) (f .ensures .1) (b .ensures .1) _ _ (c .before .before .wrapping-add-u64 .ensures) (c .wrapping-add-u642 .ensures),
+          (subst (Leads (now t) (getD (a .tape .now) (i t) 0)) (k .1) (c .before .before .before .before .before .before .before .height-after .ensures)) (f .result) (b .result) (f .ensures .0) (b .ensures .0) (f .ensures .1) (b .ensures .1) _ _ (c .before .before .wrapping-add-u64 .ensures) (c .wrapping-add-u642 .ensures),
       still-derived (now t) (now t .carriage) (k .0 .0) (derived t),
     )
 
 enum-told : tie.Need-enum-told Inv-loop μ-loop
 enum-told c = search needs
 
-halted-requires : tie.Need-halted-requires Inv-loop μ-loop
-halted-requires c κs = search needs
+run-end-requires : tie.Need-run-end-requires Inv-loop μ-loop
+run-end-requires c κs = search needs
 
 same-length : tie.Need-same-length Inv-loop μ-loop
 same-length c = onward (c .before .before .before .before .before .before .before .before) .same
 
 returns : tie.Need-returns Inv-loop μ-loop
-returns c = halts (start (c .before .before .before .before .before .before .before .before)) (c .halted .ensures) (onward (c .before .before .before .before .before .before .before .before))
+returns c = run-ends (start (c .before .before .before .before .before .before .before .before)) (c .run-end .ensures) (onward (c .before .before .before .before .before .before .before .before))
 
 loop-less-3 : tie.Need-loop-less-3 Inv-loop μ-loop
 loop-less-3 c = omega (arith, c .if1 .left, c .before .before .before .before .before .before .before .before .loop-test .taken)
@@ -167,14 +167,14 @@ loop-less-3 c = omega (arith, c .if1 .left, c .before .before .before .before .b
 loop-again-3 : tie.Need-loop-again-3 Inv-loop μ-loop
 loop-again-3 c = (onward (c .before), derived (c .before))
 
-halted-requires-2 : tie.Need-halted-requires-2 Inv-loop μ-loop
-halted-requires-2 c κs = search needs
+run-end-requires-2 : tie.Need-run-end-requires-2 Inv-loop μ-loop
+run-end-requires-2 c κs = search needs
 
 same-length-2 : tie.Need-same-length-2 Inv-loop μ-loop
 same-length-2 c = c .before .before .loop .inv .0 .same
 
 returns-2 : tie.Need-returns-2 Inv-loop μ-loop
-returns-2 c = halts (c .before .before .before .before .before .before) (c .halted2 .ensures) (c .before .before .loop .inv .0)
+returns-2 c = run-ends (c .before .before .before .before .before .before) (c .run-end2 .ensures) (c .before .before .loop .inv .0)
 
 pub quick-tally-spec : {M : Type 1} → statement M
 quick-tally-spec =
@@ -195,7 +195,7 @@ quick-tally-spec =
     add-i
     loop-less
     loop-again
-    led-requires
+    height-after-requires
     enum-known-h
     forward-by-requires
     wrapping-add-u64-requires
@@ -205,11 +205,11 @@ quick-tally-spec =
     loop-less-2
     loop-again-2
     enum-told
-    halted-requires
+    run-end-requires
     same-length
     returns
     loop-less-3
     loop-again-3
-    halted-requires-2
+    run-end-requires-2
     same-length-2
     returns-2)

@@ -17,7 +17,7 @@ use Rattle.typesetter.specs.Machine.{effectOf}
 use Rattle.typesetter.specs.SoundLaws.{flashed-valid}
 use Rattle.figures.specs.declared.Tally.{Tally}
 use Rattle.figures.specs.Counting.{Counting, countIn, Tallied, figuresFrom}
-use Rattle.figures.proofs.Countings.{no-characters, counting-start, counting-led, counting-flashed, counting-parted, counting-refused, done}
+use Rattle.figures.proofs.Countings.{no-characters, counting-start, counting-led, counting-flashed, counting-page-ended, counting-refused, done}
 use Rattle.figures.proofs.tally_from.Statement.{statement}
 use Rattle.figures.proofs.tally_from.Tie as tie
 
@@ -159,7 +159,7 @@ loop-again-3 : tie.Need-loop-again-3 Inv-loop μ-loop
 loop-again-3 c = let t = c .before .before .before .before .before .before in
     let a = start t .args in
     let k = c .before .next2 .given in (
-      counting-parted (a .first) (a .tape .now) (now t) (fonts t) (forward t) (backward t) (i t) (counting t) (c .before .before .before .before .before .if1 .taken) (short t) (k .0 .0) (stepped (now t) (code t) (c .before .before .before .step .ensures) (k .1)),
+      counting-page-ended (a .first) (a .tape .now) (now t) (fonts t) (forward t) (backward t) (i t) (counting t) (c .before .before .before .before .before .if1 .taken) (short t) (k .0 .0) (stepped (now t) (code t) (c .before .before .before .step .ensures) (k .1)),
       size t,
     )
 

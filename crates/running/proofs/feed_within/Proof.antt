@@ -34,7 +34,7 @@ module _ (c : tie.After-pass) where
 
   -- the bytes of its fields
   counted : 11 * (c .pass .result .count) + c .pass .result .cuts ≡ length (fields New items)
-  counted = fields-counted _ _ _ (c .pass .ensures .counted) (c .pass .ensures .parted)
+  counted = fields-counted _ _ _ (c .pass .ensures .counted) (c .pass .ensures .cut-bytes)
 
   sound : SoundTape tape
   sound = sound-tape tape (c .before .before .before .before .before .before .pre .0)

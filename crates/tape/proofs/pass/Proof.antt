@@ -14,10 +14,10 @@ use Rattle.galley_file.specs.declared.item.Item.{Item}
 use Rattle.galley_file.specs.Item.{itemSize, tally}
 use Rattle.typesetter.specs.declared.machine.State.{State}
 use Rattle.typesetter.specs.declared.machine.Effect.{Effect}
-use Rattle.typesetter.specs.declared.machine.Effect.the-variants.{Moved, Flashed, Parted}
+use Rattle.typesetter.specs.declared.machine.Effect.the-variants.{Moved, Flashed, PageEnded}
 use Rattle.tape.specs.declared.Reading.{Reading}
 use Rattle.typesetter.specs.Machine.{effectOf}
-use Rattle.tape.specs.RunLaws.{Sets, flashed, parted}
+use Rattle.tape.specs.RunLaws.{Sets, flashed, pageEnded}
 use Rattle.tape.specs.Tape.{run}
 use Rattle.tape.specs.Pass.{putAt, Going, Passed}
 use Rattle.tape.proofs.Passes.{going-start, going-bound, going-moved, going-room, going-set, going-refused, going-done}
@@ -90,7 +90,7 @@ module _ (c : tie.After-reached Inv-loop μ-loop) where
 flashes : (c : tie.After-c Inv-loop μ-loop) → effectOf (now (c .before .before .before .before .before)) (code (c .before .before .before .before .before)) ≡ Flashed (c .c .given .0 .0)
 flashes c = sym (c .before .before .step .ensures) ∙ c .c .given .1
 
-parts : (c : tie.After-next2 Inv-loop μ-loop) → effectOf (now (c .before .before .before .before .before)) (code (c .before .before .before .before .before)) ≡ Parted (c .next2 .given .0 .0)
+parts : (c : tie.After-next2 Inv-loop μ-loop) → effectOf (now (c .before .before .before .before .before)) (code (c .before .before .before .before .before)) ≡ PageEnded (c .next2 .given .0 .0)
 parts c = sym (c .before .before .step .ensures) ∙ c .next2 .given .1
 
 loop-holds : tie.Need-loop-holds Inv-loop μ-loop
@@ -155,7 +155,7 @@ put-after-requires-2 : tie.Need-put-after-requires-2 Inv-loop μ-loop
 put-after-requires-2 c κs =
     let t = c .before .before .before .before .before .before .before in
     let h = c .before .before .before .before .before .before .if1 .taken in
-    (few t h, room t h (parts (c .before .before)) parted)
+    (few t h, room t h (parts (c .before .before)) pageEnded)
 
 add-cuts : tie.Need-add-cuts Inv-loop μ-loop
 add-cuts c = next-cuts (c .before .before .before .before .before .before .before .before .before .before) (c .before .before .before .before .before .before .before .before .before .if1 .taken)
@@ -169,7 +169,7 @@ loop-less-3 c = less (c .before .before .before .before .before .before .before 
 loop-again-3 : tie.Need-loop-again-3 Inv-loop μ-loop
 loop-again-3 c =
     let p = c .before .before .put-after2 in
-    set (c .before .before .before .before .before .before .before .before .before .before) (c .before .before .before .before .before .before .before .before .before .if1 .taken) (parts (c .before .before .before .before .before)) parted (p .last .1 .0) (p .kept .1 .0) (p .ensures) _ _ (omega arith) (omega arith)
+    set (c .before .before .before .before .before .before .before .before .before .before) (c .before .before .before .before .before .before .before .before .before .if1 .taken) (parts (c .before .before .before .before .before)) pageEnded (p .last .1 .0) (p .kept .1 .0) (p .ensures) _ _ (omega arith) (omega arith)
 
 enum-known-n : tie.Need-enum-known-n Inv-loop μ-loop
 enum-known-n c = search needs

@@ -35,7 +35,7 @@ enum-known-ending-2 c = search needs
 
 -- the bytes of the fields that the first pass has counted
 bytes-counted : (c : tie.After-pass) → 11 * (c .pass .result .count) + c .pass .result .cuts ≡ length (fields New (run (c .before .before .before .before .args .first) 0 (c .before .before .before .before .args .tape .now) .items))
-bytes-counted c = fields-counted _ _ _ (c .pass .ensures .counted) (c .pass .ensures .parted)
+bytes-counted c = fields-counted _ _ _ (c .pass .ensures .counted) (c .pass .ensures .cut-bytes)
 
 same-length : tie.Need-same-length
 same-length c = search needs

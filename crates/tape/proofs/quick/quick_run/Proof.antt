@@ -10,7 +10,7 @@ use mir.Syntax.{w64}
 use mir.Val.{Fits}
 use Rattle.typesetter.specs.declared.machine.State.{State}
 use Rattle.typesetter.specs.declared.machine.Effect.the-variants.{Moved}
-use Rattle.tape.specs.declared.quick.Halt.{Halt}
+use Rattle.tape.specs.declared.quick.RunEnd.{RunEnd}
 use Rattle.typesetter.specs.Machine.{effectOf}
 use Rattle.typesetter.specs.StepLaws.{placed}
 use Rattle.tape.specs.Quick.{DerivedFrom, Leads}
@@ -65,12 +65,12 @@ module _ (c : tie.After-place Inv-loop μ-loop) where
     moved = let a = start .args in further-moved (a .writing) (a .tape .now) (a .out .now) (a .first) (a .before) (a .cuts) (a .from) now count i out further h
 
 -- what is kept, said of the answer
-halts : (s : tie.Start Inv-loop μ-loop) {t : State} {n j : ℕ} {later : List ℕ} {h : Halt} → h ≡ record { next = j; state = t; count = n }
+run-ends : (s : tie.Start Inv-loop μ-loop) {t : State} {n j : ℕ} {later : List ℕ} {h : RunEnd} → h ≡ record { next = j; state = t; count = n }
     → let a = s .args in Further (a .writing) (a .tape .now) (a .out .now) (a .first) (a .before) (a .cuts) (a .from) t n j later
     → Further (a .writing) (a .tape .now) (a .out .now) (a .first) (a .before) (a .cuts) (a .from) (h .state) (h .count) (h .next) later
-halts s {later = later} e f =
+run-ends s {later = later} e f =
     let a = s .args in
-    subst (λ (h : Halt). Further (a .writing) (a .tape .now) (a .out .now) (a .first) (a .before) (a .cuts) (a .from) (h .state) (h .count) (h .next) later) (sym e) f
+    subst (λ (h : RunEnd). Further (a .writing) (a .tape .now) (a .out .now) (a .first) (a .before) (a .cuts) (a .from) (h .state) (h .count) (h .next) later) (sym e) f
 
 derived-of-requires : tie.Need-derived-of-requires Inv-loop μ-loop
 derived-of-requires c κs = search needs
@@ -115,8 +115,8 @@ loop-again c =
     let z = c .before .size-after in
     (moved t (c .before .before .before .before .before .before .if1 .taken) _ (turn-taken (now t) (turn .0) (getD (start t .args .tape .now) (i t) 0) (turn .1) (m .result) (m .ensures) (z .result) (z .ensures)), c .derived-of2 .ensures)
 
-led-requires : tie.Need-led-requires Inv-loop μ-loop
-led-requires c κs = search needs
+height-after-requires : tie.Need-height-after-requires Inv-loop μ-loop
+height-after-requires c κs = search needs
 
 enum-known-h : tie.Need-enum-known-h Inv-loop μ-loop
 enum-known-h c = search needs
@@ -131,19 +131,19 @@ loop-again-2 : tie.Need-loop-again-2 Inv-loop μ-loop
 loop-again-2 c =
     let t = c .before .before .before .before .before .before .before .before in
     let k = c .before .h .given in
-    (moved t (c .before .before .before .before .before .before .before .if1 .taken) _ (subst (Leads (now t) (getD (start t .args .tape .now) (i t) 0)) (k .1) (c .before .before .before .led .ensures)), still-derived (now t) (now t .carriage) (k .0 .0) (derived t))
+    (moved t (c .before .before .before .before .before .before .before .if1 .taken) _ (subst (Leads (now t) (getD (start t .args .tape .now) (i t) 0)) (k .1) (c .before .before .before .height-after .ensures)), still-derived (now t) (now t .carriage) (k .0 .0) (derived t))
 
 enum-told : tie.Need-enum-told Inv-loop μ-loop
 enum-told c = search needs
 
-halted-requires : tie.Need-halted-requires Inv-loop μ-loop
-halted-requires c κs = search needs
+run-end-requires : tie.Need-run-end-requires Inv-loop μ-loop
+run-end-requires c κs = search needs
 
 same-length : tie.Need-same-length Inv-loop μ-loop
 same-length c = further (c .before .before .before .before .before .before .before .before) .same
 
 returns : tie.Need-returns Inv-loop μ-loop
-returns c = halts (start (c .before .before .before .before .before .before .before .before)) (c .halted .ensures) (further (c .before .before .before .before .before .before .before .before))
+returns c = run-ends (start (c .before .before .before .before .before .before .before .before)) (c .run-end .ensures) (further (c .before .before .before .before .before .before .before .before))
 
 loop-less-3 : tie.Need-loop-less-3 Inv-loop μ-loop
 loop-less-3 c = omega (arith, c .if1 .left, c .before .before .before .before .before .before .loop-test .taken)
@@ -151,18 +151,18 @@ loop-less-3 c = omega (arith, c .if1 .left, c .before .before .before .before .b
 loop-again-3 : tie.Need-loop-again-3 Inv-loop μ-loop
 loop-again-3 c = (further (c .before), derived (c .before))
 
-halted-requires-2 : tie.Need-halted-requires-2 Inv-loop μ-loop
-halted-requires-2 c κs = search needs
+run-end-requires-2 : tie.Need-run-end-requires-2 Inv-loop μ-loop
+run-end-requires-2 c κs = search needs
 
 same-length-2 : tie.Need-same-length-2 Inv-loop μ-loop
 same-length-2 c = c .before .before .loop .inv .0 .same
 
 returns-2 : tie.Need-returns-2 Inv-loop μ-loop
-returns-2 c = halts (c .before .before .before .before .before .before) (c .halted2 .ensures) (c .before .before .loop .inv .0)
+returns-2 c = run-ends (c .before .before .before .before .before .before) (c .run-end2 .ensures) (c .before .before .loop .inv .0)
 
 pub quick-run-spec : {M : Type 1} → statement M
 quick-run-spec =
     tie.close
     (tie.spec Inv-loop μ-loop derived-of-requires loop-holds quick-stretch-requires shared-slice-read-b takes-turn-requires modes-after-requires
-    size-after-requires derived-of-requires-2 add-i loop-less loop-again led-requires enum-known-h add-i-2 loop-less-2 loop-again-2 enum-told
-    halted-requires same-length returns loop-less-3 loop-again-3 halted-requires-2 same-length-2 returns-2)
+    size-after-requires derived-of-requires-2 add-i loop-less loop-again height-after-requires enum-known-h add-i-2 loop-less-2 loop-again-2 enum-told
+    run-end-requires same-length returns loop-less-3 loop-again-3 run-end-requires-2 same-length-2 returns-2)

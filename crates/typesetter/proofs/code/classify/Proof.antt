@@ -8,8 +8,8 @@ use lib.Bits.{and-mask}
 use lib.ListN.{getD}
 use Rattle.typesetter.specs.declared.code.Machine.{Machine}
 use Rattle.typesetter.specs.declared.code.Code.{Code}
-use Rattle.typesetter.specs.declared.code.Code.the-variants.{Illegal, Ordered}
-use Rattle.typesetter.specs.declared.code.Order.the-variants.{Size, Lead, Escape}
+use Rattle.typesetter.specs.declared.code.Code.the-variants.{Illegal, Instructs}
+use Rattle.typesetter.specs.declared.code.Instruction.the-variants.{Size, Lead, Escape}
 use Rattle.typesetter.specs.Code.{codeOf, controls}
 use Rattle.typesetter.proofs.Codes.{sorted, sorted-is}
 use Rattle.typesetter.proofs.code.classify.Statement.{statement}
@@ -34,13 +34,13 @@ returns-2 : tie.Need-returns-2
 returns-2 c = sorted-as (c .before .before .args .machine) (c .before .before .args .b) (c .before .before .fits .b .fits) (simp (ne-eqb _ _ (c .before .if1 .left), eq-eqb _ _ (c .if2 .taken)))
 
 returns-3 : tie.Need-returns-3
-returns-3 c = ap (λ (k : ℕ). Ordered (Escape k)) (c .escape-size .ensures) ∙ sorted-as (c .before .before .before .before .args .machine) (c .before .before .before .before .args .b) (c .before .before .before .before .fits .b .fits) (simp (ne-eqb _ _ (c .before .before .before .if1 .left), ne-eqb _ _ (c .before .before .if2 .left), eq-eqb _ _ (c .before .if3 .taken)))
+returns-3 c = ap (λ (k : ℕ). Instructs (Escape k)) (c .escape-size .ensures) ∙ sorted-as (c .before .before .before .before .args .machine) (c .before .before .before .before .args .b) (c .before .before .before .before .fits .b .fits) (simp (ne-eqb _ _ (c .before .before .before .if1 .left), ne-eqb _ _ (c .before .before .if2 .left), eq-eqb _ _ (c .before .if3 .taken)))
 
 returns-4 : tie.Need-returns-4
 returns-4 c = sorted-as (c .before .before .before .before .args .machine) (c .before .before .before .before .args .b) (c .before .before .before .before .fits .b .fits) (simp (ne-eqb _ _ (c .before .before .before .if1 .left), ne-eqb _ _ (c .before .before .if2 .left), ne-eqb _ _ (c .before .if3 .left), eq-eqb _ _ (c .if4 .taken)))
 
 returns-5 : tie.Need-returns-5
-returns-5 c = ap (λ (k : ℕ). Ordered (Lead k)) (c .lead-size .ensures) ∙ sorted-as (c .before .before .before .before .before .before .args .machine) (c .before .before .before .before .before .before .args .b) (c .before .before .before .before .before .before .fits .b .fits) (simp (ne-eqb _ _ (c .before .before .before .before .before .if1 .left), ne-eqb _ _ (c .before .before .before .before .if2 .left), ne-eqb _ _ (c .before .before .before .if3 .left), ne-eqb _ _ (c .before .before .if4 .left), eq-eqb _ _ (c .before .if5 .taken)))
+returns-5 c = ap (λ (k : ℕ). Instructs (Lead k)) (c .lead-size .ensures) ∙ sorted-as (c .before .before .before .before .before .before .args .machine) (c .before .before .before .before .before .before .args .b) (c .before .before .before .before .before .before .fits .b .fits) (simp (ne-eqb _ _ (c .before .before .before .before .before .if1 .left), ne-eqb _ _ (c .before .before .before .before .if2 .left), ne-eqb _ _ (c .before .before .before .if3 .left), ne-eqb _ _ (c .before .before .if4 .left), eq-eqb _ _ (c .before .if5 .taken)))
 
 returns-6 : tie.Need-returns-6
 returns-6 c = c .control .ensures ∙ ap (λ (k : ℕ). getD (controls (c .before .before .before .before .before .before .before .args .machine)) k Illegal) (and-mask (c .before .before .before .before .before .before .before .args .b) 4) ∙ sorted-as (c .before .before .before .before .before .before .before .args .machine) (c .before .before .before .before .before .before .before .args .b) (c .before .before .before .before .before .before .before .fits .b .fits) (simp (ne-eqb _ _ (c .before .before .before .before .before .before .if1 .left), ne-eqb _ _ (c .before .before .before .before .before .if2 .left), ne-eqb _ _ (c .before .before .before .before .if3 .left), ne-eqb _ _ (c .before .before .before .if4 .left), ne-eqb _ _ (c .before .before .if5 .left), eq-eqb _ _ (c .before .if6 .taken)))
@@ -49,7 +49,7 @@ returns-7 : tie.Need-returns-7
 returns-7 c = sorted-as (c .before .before .before .before .before .before .before .args .machine) (c .before .before .before .before .before .before .before .args .b) (c .before .before .before .before .before .before .before .fits .b .fits) (simp (ne-eqb _ _ (c .before .before .before .before .before .before .if1 .left), ne-eqb _ _ (c .before .before .before .before .before .if2 .left), ne-eqb _ _ (c .before .before .before .before .if3 .left), ne-eqb _ _ (c .before .before .before .if4 .left), ne-eqb _ _ (c .before .before .if5 .left), ne-eqb _ _ (c .before .if6 .left), eq-eqb _ _ (c .if7 .taken)))
 
 returns-8 : tie.Need-returns-8
-returns-8 c = ap (λ (k : ℕ). Ordered (Size k)) (and-mask (c .before .before .before .before .before .before .before .args .b) 4) ∙ sorted-as (c .before .before .before .before .before .before .before .args .machine) (c .before .before .before .before .before .before .before .args .b) (c .before .before .before .before .before .before .before .fits .b .fits) (simp (ne-eqb _ _ (c .before .before .before .before .before .before .if1 .left), ne-eqb _ _ (c .before .before .before .before .before .if2 .left), ne-eqb _ _ (c .before .before .before .before .if3 .left), ne-eqb _ _ (c .before .before .before .if4 .left), ne-eqb _ _ (c .before .before .if5 .left), ne-eqb _ _ (c .before .if6 .left), ne-eqb _ _ (c .if7 .left)))
+returns-8 c = ap (λ (k : ℕ). Instructs (Size k)) (and-mask (c .before .before .before .before .before .before .before .args .b) 4) ∙ sorted-as (c .before .before .before .before .before .before .before .args .machine) (c .before .before .before .before .before .before .before .args .b) (c .before .before .before .before .before .before .before .fits .b .fits) (simp (ne-eqb _ _ (c .before .before .before .before .before .before .if1 .left), ne-eqb _ _ (c .before .before .before .before .before .if2 .left), ne-eqb _ _ (c .before .before .before .before .if3 .left), ne-eqb _ _ (c .before .before .before .if4 .left), ne-eqb _ _ (c .before .before .if5 .left), ne-eqb _ _ (c .before .if6 .left), ne-eqb _ _ (c .if7 .left)))
 
 pub classify-spec : {M : Type 1} → statement M
 classify-spec =

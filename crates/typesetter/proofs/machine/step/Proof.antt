@@ -3,7 +3,7 @@
 use borrow.Author.Needs.{needs}
 use mathlib.Core.Path.{sym, ap, _∙_}
 use Rattle.typesetter.specs.declared.machine.Effect.the-variants.{Moved}
-use Rattle.typesetter.specs.StepLaws.{step-ignored, step-illegal, initialize-stopped, initialize-taken, order-early, order-cut, order-stopped, order-taken}
+use Rattle.typesetter.specs.StepLaws.{step-ignored, step-illegal, initialize-stopped, initialize-taken, instruction-early, instruction-after-cut, instruction-after-stop, instruction-taken}
 use Rattle.typesetter.proofs.machine.step.Statement.{statement}
 use Rattle.typesetter.proofs.machine.step.Tie as tie
 
@@ -25,8 +25,8 @@ initialized-requires c κs = search needs
 enum-known-o : tie.Need-enum-known-o
 enum-known-o c = search needs
 
-obey-requires : tie.Need-obey-requires
-obey-requires c κs = search needs
+execute-requires : tie.Need-execute-requires
+execute-requires c κs = search needs
 
 returns : tie.Need-returns
 returns c =
@@ -51,22 +51,22 @@ returns-4 c =
 returns-5 : tie.Need-returns-5
 returns-5 c =
     let a = c .before .before .before .before .before .before .args in
-    order-cut (a .s) (a .b) (sym (c .before .before .before .before .before .classify .ensures) ∙ c .before .before .before .o .given .1) (c .before .if2 .taken) (c .if3 .taken)
+    instruction-after-cut (a .s) (a .b) (sym (c .before .before .before .before .before .classify .ensures) ∙ c .before .before .before .o .given .1) (c .before .if2 .taken) (c .if3 .taken)
 
 returns-6 : tie.Need-returns-6
 returns-6 c =
     let a = c .before .before .before .before .before .before .before .args in
-    order-stopped (a .s) (a .b) (sym (c .before .before .before .before .before .before .classify .ensures) ∙ c .before .before .before .before .o .given .1) (c .before .before .if2 .taken) (c .before .if3 .left) (c .if4 .taken)
+    instruction-after-stop (a .s) (a .b) (sym (c .before .before .before .before .before .before .classify .ensures) ∙ c .before .before .before .before .o .given .1) (c .before .before .if2 .taken) (c .before .if3 .left) (c .if4 .taken)
 
 returns-7 : tie.Need-returns-7
 returns-7 c =
     let a = c .before .before .before .before .before .before .before .before .args in
-    c .obey .ensures ∙ order-taken (a .s) (a .b) (sym (c .before .before .before .before .before .before .before .classify .ensures) ∙ c .before .before .before .before .before .o .given .1) (c .before .before .before .if2 .taken) (c .before .before .if3 .left) (c .before .if4 .left)
+    c .execute .ensures ∙ instruction-taken (a .s) (a .b) (sym (c .before .before .before .before .before .before .before .classify .ensures) ∙ c .before .before .before .before .before .o .given .1) (c .before .before .before .if2 .taken) (c .before .before .if3 .left) (c .before .if4 .left)
 
 returns-8 : tie.Need-returns-8
 returns-8 c =
     let a = c .before .before .before .before .before .args in
-    order-early (a .s) (a .b) (sym (c .before .before .before .before .classify .ensures) ∙ c .before .before .o .given .1) (c .if2 .left)
+    instruction-early (a .s) (a .b) (sym (c .before .before .before .before .classify .ensures) ∙ c .before .before .o .given .1) (c .if2 .left)
 
 pub step-spec : {M : Type 1} → statement M
 step-spec =
@@ -78,7 +78,7 @@ step-spec =
     enum-told-3
     initialized-requires
     enum-known-o
-    obey-requires
+    execute-requires
     returns
     returns-2
     returns-3
