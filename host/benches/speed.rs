@@ -57,6 +57,9 @@ fn print_operations() {
     print_row("read back the last character", "yearbook", &galley, &mut read_back(&galley));
     print_row("write a DVI file", "yearbook", &galley, &mut write_dvi(&galley));
     print_row("reprint", "yearbook", &galley, &mut reprint(&galley));
+    print_row("write the second edition", "yearbook", &galley, &mut write_dvi2(&galley));
+    let second = spatecanter::write_dvi2(&galley).unwrap();
+    print_row("read the second edition", "yearbook, as written", &second, &mut read_dvi2(&second));
     let short = galley_of_length(&tape, PUNCH_LIMIT);
     print_row("punch a tape", "yearbook", &short, &mut punch_tape(&short));
     let old = spatecanter::galley_to_old(&galley).unwrap();
@@ -102,6 +105,14 @@ fn print_growth() {
     for length in lengths(GALLEY_LIMIT) {
         let galley = galley_of_length(&tape, length);
         print_growth_row("write a DVI file", &galley, &mut write_dvi(&galley));
+    }
+    for length in lengths(GALLEY_LIMIT) {
+        let galley = galley_of_length(&tape, length);
+        print_growth_row("write the second edition", &galley, &mut write_dvi2(&galley));
+    }
+    for length in lengths(GALLEY_LIMIT) {
+        let dvi = spatecanter::write_dvi2(&galley_of_length(&tape, length)).unwrap();
+        print_growth_row("read the second edition", &dvi, &mut read_dvi2(&dvi));
     }
     for length in lengths(PUNCH_LIMIT) {
         let galley = galley_of_length(&tape, length);
@@ -265,6 +276,24 @@ fn reprint(galley: &[u8]) -> Contest<'_> {
         whole.sheet.len(),
         move |sheet| spatecanter::reprint_into(galley, &[], &mut dvi, sheet).unwrap(),
         move |sheet| quick::reprint(galley, &[], &mut quick_dvi, sheet),
+    )
+}
+
+fn write_dvi2(galley: &[u8]) -> Contest<'_> {
+    let room = spatecanter::write_dvi2(galley).unwrap().len();
+    contest_of_one(
+        room,
+        move |dvi| spatecanter::write_dvi2_into(galley, dvi).unwrap(),
+        move |dvi| quick::write_dvi2(galley, dvi),
+    )
+}
+
+fn read_dvi2(dvi: &[u8]) -> Contest<'_> {
+    let room = spatecanter::read_dvi2(dvi).unwrap().len();
+    contest_of_one(
+        room,
+        move |galley| spatecanter::read_dvi2_into(dvi, galley).unwrap(),
+        move |galley| quick::read_dvi2(dvi, galley),
     )
 }
 

@@ -1,8 +1,8 @@
 /*
- * spatecanter.h: C/A/T phototypesetter tapes, whole or in pieces, to galleys, galleys to DVI files of 1980, and
- * DVI files to sheets and back to galleys; galleys back to tapes, and old galleys to new ones and back; and reports
- * over many tapes. Link with libspatecanter.a, which the script `library` at the root of the repository proves and
- * builds in target/staticlib.
+ * spatecanter.h: C/A/T phototypesetter tapes, whole or in pieces, to galleys, galleys to DVI files of 1980 and of
+ * the second edition, and DVI files to sheets and back to galleys; galleys back to tapes, and old galleys to new
+ * ones and back; and reports over many tapes. Link with libspatecanter.a, which the script `library` at the root of
+ * the repository proves and builds in target/staticlib.
  *
  * ANSWERS. Every function but sp_new_tape and sp_extents fills `answer` with three numbers:
  *
@@ -62,11 +62,12 @@ extern "C" {
 #define SP_GALLEY_LIMIT     11534343
 #define SP_OLD_GALLEY_LIMIT 9437191
 #define SP_DVI_LIMIT        33554432
+#define SP_DVI2_LIMIT       67108864 /* of the second edition */
 
 /* The most characters and cuts, together, that a galley holds. */
 #define SP_ITEM_LIMIT       1048576
 
-/* The greatest height of a character, and the greatest that DVI and the old form hold. */
+/* The greatest height of a character, and the greatest that DVI of 1980 and the old form hold. */
 #define SP_HEIGHT_LIMIT     1000000
 #define SP_DVI_HEIGHT_LIMIT 65535
 
@@ -110,7 +111,7 @@ enum sp_number {
     SP_NO_MACHINE        = 50, /* a machine other than 4 or 8; 0 */
 
     /* DVI files */
-    SP_DVI_TOO_LONG      = 20, /* file over SP_DVI_LIMIT; 0 */
+    SP_DVI_TOO_LONG      = 20, /* file over SP_DVI_LIMIT, or of the second edition over SP_DVI2_LIMIT; 0 */
     SP_COMMAND           = 21, /* an undefined command, or one not allowed there; its offset */
     SP_DVI_ENDS          = 22, /* the file ends inside a command other than PST; the command's offset.
                                   It ends inside a page or before PST; the file's length */
@@ -124,6 +125,9 @@ enum sp_number {
     SP_POSTAMBLE         = 29, /* the postamble is malformed or short; PST's offset */
     SP_SHEET_ROOM        = 30, /* sheet buffer too short; the bytes needed */
     SP_WIDTHS            = 31, /* the width table is not whole fonts of 128 numbers; 0 */
+    SP_NOT_OURS          = 46, /* second edition: no file that sp_write_dvi2 makes begins with the bytes through
+                                  a command; the offset of the first such command.
+                                  The file ends early; its length */
 
     /* Galleys */
     SP_NO_SUCH_CHARACTER = 11, /* reading back: n is not below the number of characters; 0 */
@@ -134,7 +138,7 @@ enum sp_number {
                                   Bytes after End; the first one's offset.
                                   No End; the galley's length */
     SP_DVI_ROOM          = 42, /* DVI buffer too short; the bytes needed */
-    SP_TOO_HIGH          = 43, /* to DVI or the old form: a height over SP_DVI_HEIGHT_LIMIT; the offset of
+    SP_TOO_HIGH          = 43, /* to DVI of 1980 or the old form: a height over SP_DVI_HEIGHT_LIMIT; the offset of
                                   the first such character's field */
     SP_CONVERTED_ROOM    = 44, /* buffer for the converted galley too short; the bytes needed */
     SP_NO_GALLEY         = 45, /* from DVI to a galley: the file shows no galley's targets; the offset of the
@@ -179,8 +183,8 @@ void sp_read_back(const uint8_t *galley, size_t galley_len, size_t n,
                   size_t answer[3], int32_t character[4]);
 
 /*
- * Writes a galley as a DVI file. Its pages are numbered 1, 2, 3, ...: each cut ends a page and starts the
- * next, and an empty page is a page. DVI holds heights to SP_DVI_HEIGHT_LIMIT only.
+ * Writes a galley as a DVI file of 1980. Its pages are numbered 1, 2, 3, ...: each cut ends a page and starts the
+ * next, and an empty page is a page. DVI of 1980 holds heights to SP_DVI_HEIGHT_LIMIT only.
  * Refusals: 40; then 41; then 43; then 42.
  */
 void sp_write_dvi(const uint8_t *galley, size_t galley_len,
@@ -237,6 +241,42 @@ void sp_reprint(const uint8_t *galley, size_t galley_len,
                 uint8_t *dvi, size_t dvi_len,
                 uint8_t *sheet, size_t sheet_len,
                 size_t answer[3]);
+
+/*
+ * Writes a galley as a DVI file of the second edition, with identification 2, as DVItype describes it. A unit is
+ * 1/432 inch: numerator 254,000, denominator 432, magnification 1,000. The file has, in this order
+ *
+ *     pre        with an empty comment;
+ *     bop        of each page, count 0 the page's number, 1, 2, 3, ..., the other nine 0; each cut ends a page and
+ *                starts the next, and an empty page is a page;
+ *     for each character, each command in its shortest form
+ *                fnt_def1 where its font is new to the file: checksum 0, scaled and design size 6 units for each
+ *                point, no area, name C, the font, and the points in two digits, as C108; then the font, if it is
+ *                the page's first or differs from the last (fnt_num_0 to fnt_num_63, fnt1 from 64);
+ *                right and down, where not 0, to x and to three times the height;
+ *                put1;
+ *     eop        of each page;
+ *     post       with the greatest three times a height and the greatest x, both at least 0, stack depth 0, and the
+ *                pages modulo 65,536; the definitions again, ascending; post_post; and the fewest 223, at least four,
+ *                that make the length a multiple of four.
+ *
+ * Places are exact, at every height to SP_HEIGHT_LIMIT.
+ * Refusals: 40; then 41; then 42. The longest file, of SP_ITEM_LIMIT cuts, has 48,234,596 bytes.
+ */
+void sp_write_dvi2(const uint8_t *galley, size_t galley_len,
+                   uint8_t *dvi, size_t dvi_len,
+                   size_t answer[3]);
+
+/*
+ * Reads a DVI file of the second edition back into its galley. It takes exactly the files that sp_write_dvi2 makes,
+ * and no table of widths.
+ * Refusals: 20; then 46; then 12. The place of 46 is the first command through which the file is no beginning of
+ * one that sp_write_dvi2 makes; a definition in post and each 223 are commands too, and one that is cut short counts
+ * as far as it goes. If every command could stand there but the file ends early, it is the file's length.
+ */
+void sp_read_dvi2(const uint8_t *dvi, size_t dvi_len,
+                  uint8_t *galley, size_t galley_len,
+                  size_t answer[3]);
 
 /*
  * Punches a tape of the 8-font machine from a galley: initialize and an escape of 16 first and after each cut;

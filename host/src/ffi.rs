@@ -76,6 +76,22 @@ extern "C" {
         answer: *mut [usize; 3],
     );
 
+    pub fn sp_write_dvi2(
+        galley: *const u8,
+        galley_len: usize,
+        dvi: *mut u8,
+        dvi_len: usize,
+        answer: *mut [usize; 3],
+    );
+
+    pub fn sp_read_dvi2(
+        dvi: *const u8,
+        dvi_len: usize,
+        galley: *mut u8,
+        galley_len: usize,
+        answer: *mut [usize; 3],
+    );
+
     pub fn sp_punch_tape(
         galley: *const u8,
         galley_len: usize,

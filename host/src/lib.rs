@@ -1,10 +1,11 @@
-//! C/A/T phototypesetter tapes, whole or in pieces, to galleys, galleys to DVI files of 1980, and DVI files to
-//! sheets and back to galleys; galleys back to tapes, and old galleys to new ones and back; and reports over many
+//! C/A/T phototypesetter tapes, whole or in pieces, to galleys, galleys to DVI files of 1980 and of the second
+//! edition, and DVI files to sheets and back to galleys; galleys back to tapes, and old galleys to new ones and back; and reports over many
 //! tapes.
 //!
 //! The operations are those of the proved library `libspatecanter.a`; this package adds safe calls,
 //! readers of galleys and sheets for people, and the command `spatecanter`.
 
+mod edition2;
 mod extents;
 pub mod ffi;
 pub mod galley;
@@ -16,6 +17,7 @@ mod running;
 pub mod sample;
 pub mod sheet;
 
+pub use edition2::{read_dvi2, read_dvi2_into, write_dvi2, write_dvi2_into, DVI2_LIMIT};
 pub use extents::Extents;
 pub use machine::Machine;
 pub use operations::{

@@ -5,7 +5,7 @@ use crate::galley::Character;
 use crate::machine::Machine;
 use crate::refusal::{number, Outcome, Refusal};
 
-/// The longest tape, galley, galley of the old form, and DVI file that are taken, in bytes.
+/// The longest tape, galley, galley of the old form, and DVI file of 1980 that are taken, in bytes.
 pub const TAPE_LIMIT: usize = 1_048_576;
 pub const GALLEY_LIMIT: usize = 11_534_343;
 pub const OLD_GALLEY_LIMIT: usize = 9_437_191;
@@ -263,7 +263,7 @@ fn room_for_dvi(galley: &[u8]) -> Outcome {
 }
 
 /// A vector of what `fill` writes: `usual` bytes are offered first, then the bytes needed.
-fn filled(
+pub(crate) fn filled(
     usual: usize,
     no_room: usize,
     mut fill: impl FnMut(&mut [u8]) -> Outcome,

@@ -3,5 +3,5 @@ mod Pieces
 mod Characters
 mod Items
 mod Postambles
-mod Shown
+pub mod Shown
 pub mod Demand3

@@ -9,4 +9,6 @@ pub mod Sheet
 pub mod SheetLaws
 pub mod Writer
 pub mod WriterLaws
+pub mod Edition
+pub mod EditionLaws
 pub mod Demand3

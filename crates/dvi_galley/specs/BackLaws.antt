@@ -41,7 +41,8 @@ use Rattle.dvi.specs.FileLaws.{unplaced-read}
 use Rattle.dvi.specs.Sheet.{maxDvi}
 use Rattle.dvi.specs.SheetLaws.{readable}
 use Rattle.dvi.specs.Writer.{dviFile}
-use Rattle.dvi.proofs.Demand3.{demand3, shows-all-only}
+use Rattle.dvi.specs.WriterLaws.{file-fits}
+use Rattle.dvi.proofs.Shown.{file-shows}
 use Rattle.dvi.specs.Demand3.{markOf, marksOf}
 use Rattle.dvi_galley.specs.Target.{xAt, heightAt}
 use Rattle.dvi_galley.specs.TargetLaws.{xAt-target, target-xAt, heightAt-target, target-heightAt}
@@ -251,10 +252,7 @@ module _ (dvi : List ℕ) (widths : List ℤ) (l : length dvi ≤ maxDvi) (w : l
 module _ (widths : List ℤ) (w : length widths % fontChars ≡ 0) where
   pub back-file : {is : List Item} → AllValid lowEnd is → length is ≤ maxItems → (room : ℕ) → backResult (dviFile is) widths room ≡ ifRoom noGalleyRoom room (written (galley New is))
   back-file {is} v h room =
-      let f = demand3 widths w v h in
-      let m = shows-all-only (f .all-shown) in
-      back-shown (dviFile is) widths (f .file-size) w (f .shown)
-      (record { targets = ap (λ (ms : List Mark). pageMark (pos 1) ∷ ms) m; all-valid = raised v; few = h }) room
+      back-shown (dviFile is) widths (file-fits is h) w (file-shows widths v h) (record { targets = refl; all-valid = raised v; few = h }) room
 
   -- "A file that our own writer made gives back its galley"
   pub back-written : (g file : List ℕ) (count : ℕ) → Bytes g → accepted count ≡ lowOutcome g → lowResult dviFile g ≡ written file → (room : ℕ)

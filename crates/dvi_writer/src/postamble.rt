@@ -1,8 +1,8 @@
 // The postamble: the last BOP's offset, height and width, the font definitions, the trailer.
+use dvi::name;
 use extents::Extents;
 use extents::fonts;
 use extents::fonts::Fonts;
-use galley_file::font;
 use measure::Rsu;
 use measure::ruler;
 use octets::number;
@@ -12,7 +12,7 @@ ghost use lib.ListN.{length};
 ghost use Rattle.octets.specs.Write.{Wrote};
 ghost use Rattle.measure.specs.Target.{xTarget, yTarget};
 ghost use Rattle.extents.specs.FontMarks.{markedFonts};
-ghost use Rattle.dvi.specs.Writer.{nameOf, definition, definitionBytes, trailerBytes};
+ghost use Rattle.dvi.specs.Writer.{definition, definitionBytes, trailerBytes};
 ghost use Rattle.dvi_writer.specs.Postamble.{markedFont, headBytes, postambleOf, Held};
 
 // The bytes of a postamble without definitions.
@@ -56,18 +56,6 @@ fn put_head(out: &mut [u8], at: usize, last: u32, y: Rsu, x: Rsu) -> usize
     number::put_signed4(out, to, x.0)
 }
 
-// Writes a font's name: C, the font digit, the point size in two digits.
-fn put_name(out: &mut [u8], at: usize, f: u8) -> usize
-    requires { ⌜ (at + 4 ≤ length (now out)) × (f < 120) ⌝ }
-    ensures { λ r. ⌜ Wrote (now (out .entry)) at (nameOf f) (now (out .exit)) r ⌝ }
-{
-    let size = font::point_size(f);
-    let mut to = number::put_byte(out, at, b'C');
-    to = number::put_byte(out, to, b'0' + font::font_of(f));
-    to = number::put_byte(out, to, b'0' + size / 10);
-    number::put_byte(out, to, b'0' + size % 10)
-}
-
 // Writes the definition of font f: ID and number, and the name in quotes.
 fn put_definition(out: &mut [u8], at: usize, f: u8) -> usize
     requires { ⌜ (at + 14 ≤ length (now out)) × (f < 120) ⌝ }
@@ -76,7 +64,7 @@ fn put_definition(out: &mut [u8], at: usize, f: u8) -> usize
     let mut to = number::put_nat4(out, at, f as u32);
     to = number::put_nat4(out, to, f as u32);
     to = number::put_byte(out, to, b'"');
-    to = put_name(out, to, f);
+    to = name::put_name(out, to, f);
     number::put_byte(out, to, b'"')
 }
 

@@ -109,6 +109,9 @@ noConvertedRoom = 44
 abbrev pub noGalley : ℕ
 noGalley = 45
 
+abbrev pub notOurs : ℕ
+notOurs = 46
+
 abbrev pub reportFull : ℕ
 reportFull = 47
 
@@ -120,6 +123,19 @@ noTapeRoom = 49
 
 abbrev pub noMachine : ℕ
 noMachine = 50
+
+-- a code of the XGP that this part leaves out
+abbrev pub outsidePart : ℕ
+outsidePart = 60
+
+abbrev pub reservedCode : ℕ
+reservedCode = 61
+
+abbrev pub codeCutShort : ℕ
+codeCutShort = 62
+
+abbrev pub negativeWidth : ℕ
+negativeWidth = 63
 
 -- ---- outcomes
 

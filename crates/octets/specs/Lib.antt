@@ -2,6 +2,8 @@
 pub mod Octets
 pub mod OctetsLaws
 pub mod Write
+pub mod PutIfRoom
+pub mod PutIfRoomLaws
 pub mod Space
 pub mod Field
 pub mod FieldLaws

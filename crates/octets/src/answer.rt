@@ -80,6 +80,9 @@ pub const NO_CONVERTED_ROOM: u8 = 44;
 
 pub const NO_GALLEY: u8 = 45;
 
+// The file is none that the writer of the second edition makes.
+pub const NOT_OURS: u8 = 46;
+
 pub const REPORT_FULL: u8 = 47;
 
 pub const PUNCHED_TOO_LONG: u8 = 48;
@@ -87,3 +90,12 @@ pub const PUNCHED_TOO_LONG: u8 = 48;
 pub const NO_TAPE_ROOM: u8 = 49;
 
 pub const NO_MACHINE: u8 = 50;
+
+// A code of the XGP that this part leaves out.
+pub const OUTSIDE_PART: u8 = 60;
+
+pub const RESERVED_CODE: u8 = 61;
+
+pub const CODE_CUT_SHORT: u8 = 62;
+
+pub const NEGATIVE_WIDTH: u8 = 63;

@@ -122,6 +122,14 @@ pub fn put_nat4(out: &mut [u8], at: usize, n: u32) -> usize
     at + 4
 }
 
+// Writes z in two's complement, in one byte.
+pub fn put_signed1(out: &mut [u8], at: usize, z: i32) -> usize
+    requires { ⌜ at + 1 ≤ length (now out) ⌝ }
+    ensures { λ r. ⌜ Wrote (now (out .entry)) at (signedBytes 1 z) (now (out .exit)) r ⌝ }
+{
+    put_byte(out, at, (to_bits(z) % 256) as u8)
+}
+
 // Writes z in two's complement, in two bytes.
 pub fn put_signed2(out: &mut [u8], at: usize, z: i32) -> usize
     requires { ⌜ at + 2 ≤ length (now out) ⌝ }
@@ -151,7 +159,7 @@ pub fn put_signed4(out: &mut [u8], at: usize, z: i32) -> usize
 }
 
 // z, or -1 - z where z is negative.
-fn magnitude(z: i32) -> u32
+pub fn magnitude(z: i32) -> u32
     ensures { λ r. ⌜ r ≡ mag z ⌝ }
 {
     if z < 0 { (-1 - z) as u32 } else { z as u32 }

@@ -30,7 +30,8 @@ use Rattle.sheet.specs.Shown.{shows}
 use Rattle.dvi.specs.File.{readDvi}
 use Rattle.dvi.specs.Sheet.{sheetResult}
 use Rattle.dvi.specs.Writer.{dviFile}
-use Rattle.dvi.specs.Demand3.{ShowsAll, Compared}
+use Rattle.dvi.specs.Edition.{Faithful, Compared}
+use Rattle.dvi.specs.Demand3.{dvi1980}
 use Rattle.dvi_writer.specs.Result.{dviResult}
 
 pub data Reprint : Type 0 where
@@ -86,11 +87,12 @@ pub record Reprinted (g : List ℕ) (widths : List ℤ) (dvi out : List ℕ) (o 
   pub writer-accepts : dviResult g (length dvi) ≡ written (dviFile items)
   -- "the DVI file is the bytes it wrote, .. without the buffer beyond them"
   pub file-is : dvi′ ≡ dviFile items ++ drop (length (dviFile items)) dvi
-  -- "It shows page 1 and no rule": a cut shows as the start of the next page
+  -- "It shows page 1 and no rule. For each character of the galley, in order, and for nothing else": its font, its y, and the three cases of x; a cut
+  -- shows as the start of the next page
+  pub faithful : Faithful (dvi1980 widths) items
+  -- what it shows, in rsu
   pub marks : List Mark
   pub shown : readDvi widths (dviFile items) ≡ shows (pageMark (pos 1) ∷ marks)
-  -- "For each character of the galley, in order, and for nothing else": its font, its y, and the three cases of x
-  pub all-shown : ShowsAll 1 items marks
   -- our reader accepts that file
   pub reader-accepts : sheetResult (dviFile items) widths (length out) ≡ written (sheet (pageMark (pos 1) ∷ marks))
   -- "The sheet is the page field, then these characters' fields in that order, then end, byte for byte"
@@ -104,8 +106,8 @@ ReprintedWhenever g widths dvi out o dvi′ out′ =
     → sheetSize is ≤ length out → Reprinted g widths dvi out o dvi′ out′
 
 -- two such galleys, of the items is and js, and the marks that their files show
-pub record Distinguished (g h : List ℕ) (is js : List Item) (ms ns : List Mark) : Type 0 where
+pub record Distinguished (widths : List ℤ) (g h : List ℕ) (is js : List Item) (ms ns : List Mark) : Type 0 where
   -- the same file exactly where the galleys are equal
   pub same-file : (dviFile is ≡ dviFile js) ↔ (g ≡ h)
   -- "equal fonts where the font numbers are equal, and equal places where x and height are equal, at each character"
-  pub compared : Compared is js ms ns
+  pub compared : Compared (dvi1980 widths) is js ms ns

@@ -1,34 +1,33 @@
 -- The laws of a reprint: demand 3 of every galley that the check accepts and whose heights are low, and what each refusal is.
 -- Assumes nothing.
 use mathlib.Core.Path.{_≡_, sym, ap, subst, _∙_}
-use mathlib.Core.List.{List, [], _∷_, _++_, map}
-use mathlib.Core.Logic.{_↔_}
-use Prim.Native.Nat.{ℕ, _+_, _*_, _%_, _≤_, _<_}
+use mathlib.Core.List.{List, _∷_}
+use Prim.Native.Nat.{ℕ, _%_, _≤_, _<_}
 use native.Mathlib.Omega.{arith}
 use borrow.Author.Tests.{eq-eqb, ne-eqb}
 use lib.IntN.{ℤ, pos}
-use lib.ListN.{length, drop}
+use lib.ListN.{length}
 use Rattle.octets.specs.Octets.{Bytes}
-use Rattle.octets.specs.Answer.{Outcome, accepted, refused, Result, refusal, written, outcome, after, ifRoom, widthsNotWhole, noDviRoom, noSheetRoom}
+use Rattle.octets.specs.Answer.{accepted, refused, written, ifRoom, widthsNotWhole, noDviRoom, noSheetRoom}
 use Rattle.octets.specs.AnswerLaws.{room-short, room-enough}
 use Rattle.measure.specs.Place.{lowEnd}
 use Rattle.galley_file.specs.declared.form.Form.the-variants.{New}
 use Rattle.galley_file.specs.declared.item.Item.{Item}
-use Rattle.galley_file.specs.Item.{charactersOf, cutsOf}
 use Rattle.galley_file.specs.Galley.{maxItems, AllValid, galley, whole, readGalley, itemsIn, itemsOf}
 use Rattle.galley_file.specs.GalleyLaws.{Accepted, accepted-is}
 use Rattle.galley_check.specs.Low.{lowOutcome, lowResult}
 use Rattle.galley_check.specs.LowLaws.{low-checked, low-made, low-refused, low-accepts}
-use Rattle.sheet.specs.Sheet.{Mark, pageMark, sheet}
+use Rattle.sheet.specs.Sheet.{pageMark}
 use Rattle.dvi.specs.Page.{fontChars}
-use Rattle.sheet.specs.Shown.{shows}
-use Rattle.dvi.specs.File.{readDvi}
+use Rattle.sheet.specs.Sheet.{sheet}
 use Rattle.dvi.specs.Sheet.{sheetResult}
 use Rattle.dvi.specs.Writer.{dviFile}
-use Rattle.dvi.specs.Demand3.{ShowsAll, Faithful, Compared, markOf}
-use Rattle.dvi.proofs.Demand3.{demand3, file-result, shows-all-only, compared}
+use Rattle.dvi.specs.Edition.{Faithful, Within}
+use Rattle.dvi.specs.Demand3.{marksOf, dvi1980}
+use Rattle.dvi.proofs.Demand3.{demand3, sheet-size as size-of}
+use Rattle.dvi.proofs.Shown.{file-shows}
 use Rattle.dvi_writer.specs.Result.{dviResult}
-use Rattle.reprint.specs.Reprint.{Reprint, stopped, reprinted, sheetOf, fileOf, reprintMade, reprintResult, reprintOutcome, dviAfter, sheetAfter, sheetSize, Reprinted, ReprintedWhenever, Distinguished}
+use Rattle.reprint.specs.Reprint.{Reprint, stopped, reprinted, sheetOf, fileOf, reprintMade, reprintResult, reprintOutcome, dviAfter, sheetAfter, sheetSize, ReprintedWhenever, Distinguished}
 
 -- a galley that the check of heights refuses
 pub refused-galley : (g : List ℕ) (widths : List ℤ) (dviRoom sheetRoom number place : ℕ) → lowOutcome g ≡ refused number place
@@ -72,22 +71,23 @@ module _ (g : List ℕ) (count : ℕ) (b : Bytes g) (e : lowOutcome g ≡ accept
     pub not-whole : (dviRoom sheetRoom : ℕ) → (length widths % fontChars ≡ 0 → ⊥) → reprintResult g widths dviRoom sheetRoom ≡ stopped widthsNotWhole 0
     not-whole dviRoom sheetRoom h = by-galley dviRoom sheetRoom ∙ rw (ne-eqb _ _ h)
 
+    -- demand 3 over its items
+    within : Within (dvi1980 widths) (found .items)
+    within = record { valid = low; few = few }
+
     module _ (w : length widths % fontChars ≡ 0) where
-      -- demand 3 over its items
-      pub faithful : Faithful widths (found .items)
-      faithful = demand3 widths w low few
+      pub faithful : Faithful (dvi1980 widths) (found .items)
+      faithful = demand3 widths w .faithful within
 
       abbrev pub shownSheet : List ℕ
-      shownSheet = sheet (pageMark (pos 1) ∷ faithful .marks)
+      shownSheet = sheet (pageMark (pos 1) ∷ marksOf 1 (found .items))
 
       pub sheet-size : length shownSheet ≡ sheetSize (found .items)
-      sheet-size = faithful .sheet-size
+      sheet-size = size-of (found .items)
 
       -- the reader's result
       pub sheet-written : (room : ℕ) → sheetResult file widths room ≡ ifRoom noSheetRoom room (written shownSheet)
-      sheet-written room =
-          file-result widths w low few room
-          ∙ ap (λ (ms : List Mark). ifRoom noSheetRoom room (written (sheet (pageMark (pos 1) ∷ ms)))) (sym (shows-all-only (faithful .all-shown)))
+      sheet-written room = faithful .read-back room
 
       module _ (dviRoom sheetRoom : ℕ) where
         by-file : reprintResult g widths dviRoom sheetRoom ≡ fileOf widths sheetRoom (ifRoom noDviRoom dviRoom (written file))
@@ -126,22 +126,22 @@ reprints g widths dvi out b r q count is c readAs v w f s =
       valid = low g count b e;
       writer-accepts = file-written g count b e (length dvi) ∙ room-enough noDviRoom (length dvi) (dviFile (a .items)) room;
       file-is = ap (dviAfter dvi) done;
-      marks = t .marks;
-      shown = t .shown;
-      all-shown = t .all-shown;
-      reader-accepts = t .sheet-is (length out) fits;
+      faithful = t;
+      marks = marksOf 1 (a .items);
+      shown = file-shows widths (low g count b e) (few g count b e);
+      reader-accepts = t .read-back (length out) ∙ room-enough noSheetRoom (length out) (sheet (pageMark (pos 1) ∷ marksOf 1 (a .items))) (omega (arith, fits, size-of (a .items)));
       sheet-is = ap (sheetAfter out) done;
-      outcome-is = ap reprintOutcome done ∙ ap accepted (t .sheet-size);
+      outcome-is = ap reprintOutcome done ∙ ap accepted (size-of (a .items));
     }
 
 -- two such galleys, and what their files show
 module _ (g h : List ℕ) (n m : ℕ) (bg : Bytes g) (bh : Bytes h) (eg : lowOutcome g ≡ accepted n) (eh : lowOutcome h ≡ accepted m) where
-  pub distinguished : {ms ns : List Mark} → ShowsAll 1 (found g n bg eg .items) ms → ShowsAll 1 (found h m bh eh .items) ns
-      → Distinguished g h (found g n bg eg .items) (found h m bh eh .items) ms ns
-  distinguished p q =
+  pub distinguished : (widths : List ℤ) → length widths % fontChars ≡ 0 → (p : Faithful (dvi1980 widths) (found g n bg eg .items)) (q : Faithful (dvi1980 widths) (found h m bh eh .items))
+      → Distinguished widths g h (found g n bg eg .items) (found h m bh eh .items) (p .marks) (q .marks)
+  distinguished widths w p q =
       let a = found g n bg eg in
       let c = found h m bh eh in
-      let k = compared (low g n bg eg) (low h m bh eh) (few g n bg eg) (few h m bh eh) p q in
+      let k = demand3 widths w .compared (within g n bg eg widths) (within h m bh eh widths) (p .shown) (q .shown) in
       record {
         same-file = (
           λ f. a .bytes ∙ ap (galley New) (k .same-file .0 f) ∙ sym (c .bytes),

@@ -5,6 +5,8 @@
 
 mod back;
 mod convert;
+mod edition2;
+mod edition2_reader;
 mod galley;
 mod punch;
 mod reader;
@@ -15,6 +17,8 @@ mod writer;
 
 pub use back::dvi_to_galley;
 pub use convert::{to_new, to_old};
+pub use edition2::write_dvi2;
+pub use edition2_reader::read_dvi2;
 pub use galley::{check_galley, read_back};
 pub use punch::punch_tape;
 pub use reader::read_dvi;

@@ -114,12 +114,13 @@ impl Comparison {
         self.tape(tape, 8);
     }
 
-    /// A galley checked, read back, written, reprinted and punched.
+    /// A galley checked, read back, written in both editions, reprinted and punched.
     pub fn galley(&mut self, galley: &[u8]) {
         self.check_galley(galley);
         self.read_back(galley);
         self.write_dvi(galley);
         self.reprint(galley);
+        self.write_dvi2(galley);
         self.punch(galley);
     }
 
@@ -195,6 +196,30 @@ impl Comparison {
         self.same_bytes("reprint, DVI file", galley, &dvi.bytes, &after.0);
         self.same_bytes("reprint, sheet", galley, &sheet.bytes, &after.1);
         self.agree("reprint", galley, answer, answer_of(expected.map(|(_, sheet)| sheet)));
+    }
+
+    /// A galley written in the second edition; reading what was written gives it again.
+    pub fn write_dvi2(&mut self, galley: &[u8]) {
+        let result = plain::write_dvi2(galley);
+        let room = self.room(galley, &result);
+        let expected = plain::with_room(result, room, 42);
+        let call = |them: &Implementation, galley: &[u8], dvi: &mut [u8]| (them.write_dvi2)(galley, dvi);
+        self.fills("write_dvi2", galley, expected.clone(), room, call);
+        if let Ok(dvi) = expected {
+            let mut again = vec![0; galley.len()];
+            let answer = (self.implementation.read_dvi2)(&dvi, &mut again);
+            assert_eq!(answer, [0, 0, galley.len()], "written and read: {}", shown(galley));
+            assert!(again == galley, "written and read: {}", shown(galley));
+        }
+    }
+
+    /// A file read as one of the second edition.
+    pub fn read_dvi2(&mut self, dvi: &[u8]) {
+        let result = plain::read_dvi2(dvi);
+        let room = self.room(dvi, &result);
+        let expected = plain::with_room(result, room, 12);
+        let call = |them: &Implementation, dvi: &[u8], galley: &mut [u8]| (them.read_dvi2)(dvi, galley);
+        self.fills("read_dvi2", dvi, expected, room, call);
     }
 
     /// A galley punched; reading what was punched gives it again.

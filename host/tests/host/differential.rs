@@ -39,6 +39,7 @@ fn compare(implementation: Implementation) {
     conversions(&mut comparison);
     each_dvi_file(|dvi, widths| comparison.dvi(dvi, widths));
     shown_galleys(&mut comparison);
+    second_edition(&mut comparison);
     reports(&mut comparison);
     comparison.print();
     every_number_is_met(&comparison);
@@ -354,6 +355,30 @@ fn shown_galleys(comparison: &mut Comparison) {
     }
 }
 
+/// Files of the second edition of any kind; some ended anywhere and changed anywhere; and files of 1980.
+fn second_edition(comparison: &mut Comparison) {
+    let mut random = Random::new(SEED + 8);
+    for _ in 0..100_000 {
+        comparison.read_dvi2(&cases::edition2_file(&mut random));
+    }
+    for _ in 0..40 {
+        let file = cases::valid_edition2_file(&mut random);
+        for length in 0..=file.len() {
+            comparison.read_dvi2(&file[..length]);
+        }
+        each_byte_changed(&file, &mut random, |dvi| comparison.read_dvi2(dvi));
+    }
+    for _ in 0..2 {
+        let file = cases::valid_edition2_file(&mut random);
+        for value in 0..=255 {
+            each_byte_set(&file, value, |dvi| comparison.read_dvi2(dvi));
+        }
+    }
+    for _ in 0..1_000 {
+        comparison.read_dvi2(&cases::dvi_file(&mut random).bytes);
+    }
+}
+
 /// The bytes with each one changed in turn.
 fn each_byte_changed(bytes: &[u8], random: &mut Random, mut take: impl FnMut(&[u8])) {
     for place in 0..bytes.len() {
@@ -374,7 +399,7 @@ fn each_byte_set(bytes: &[u8], value: u8, mut take: impl FnMut(&[u8])) {
 
 /// The cases are worth their number: each answer that small inputs can get was met often.
 fn every_number_is_met(comparison: &Comparison) {
-    let numbers: [(&str, &[usize]); 16] = [
+    let numbers: [(&str, &[usize]); 18] = [
         ("read_tape, 4 fonts", &[0, 2, 3, 4, 5, 6, 7, 8, 9, 10, 12]),
         ("read_tape, 8 fonts", &[0, 2, 3, 4, 5, 6, 7, 8, 9, 10, 12]),
         ("read_tape, no machine", &[50]),
@@ -387,6 +412,8 @@ fn every_number_is_met(comparison: &Comparison) {
         ("read_dvi", &[0, 31, 21, 22, 23, 24, 25, 26, 27, 28, 29, 30]),
         ("dvi_to_galley", &[0, 31, 21, 22, 23, 24, 25, 26, 27, 28, 29, 45, 12]),
         ("reprint", &[0, 41, 43, 31, 42, 30]),
+        ("write_dvi2", &[0, 41, 42]),
+        ("read_dvi2", &[0, 46, 12]),
         ("punch_tape", &[0, 41, 48, 49]),
         ("to_new", &[0, 41, 44]),
         ("to_old", &[0, 41, 43, 44]),

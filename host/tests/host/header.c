@@ -38,8 +38,8 @@ static const uint8_t old_galley[] = {1, 0, 6, 0, 3, 0, 0, 2, 9, 6, 0, 0, 2, 0, 4
 static const uint8_t new_galley[] = {7, 0, 8, 0, 3, 0, 0, 0, 0, 2, 9, 6, 0, 0, 2, 0, 4, 0, 0, 0, 1};
 static const int32_t no_width[128];
 
-/* The tape's galley, its DVI file and that file's sheet. */
-static uint8_t galley[29], dvi[59], sheet[46];
+/* The tape's galley, its DVI file, that file's sheet, and the DVI file of the second edition. */
+static uint8_t galley[29], dvi[59], sheet[46], dvi2[148];
 
 static void make_files(void)
 {
@@ -49,6 +49,8 @@ static void make_files(void)
     expect("galley to DVI", SP_ACCEPTED, 0, sizeof dvi);
     sp_read_dvi(dvi, sizeof dvi, no_width, 128, sheet, sizeof sheet, answer);
     expect("DVI to sheet", SP_ACCEPTED, 0, sizeof sheet);
+    sp_write_dvi2(galley, sizeof galley, dvi2, sizeof dvi2, answer);
+    expect("galley to DVI of the second edition", SP_ACCEPTED, 0, sizeof dvi2);
 }
 
 static void refuse_tape(const char *what, const uint8_t *bytes, size_t length, size_t number, size_t place)
@@ -212,6 +214,32 @@ static void back(void)
     expect("beside a target, and a short postamble", SP_POSTAMBLE, 19, 0);
 }
 
+static void second_edition(void)
+{
+    uint8_t again[sizeof galley], other[sizeof dvi2];
+    sp_write_dvi2(galley, sizeof galley, room, sizeof dvi2 - 1, answer);
+    expect("room for DVI of the second edition", SP_DVI_ROOM, sizeof dvi2, 0);
+    sp_read_dvi2(dvi2, sizeof dvi2, again, sizeof again, answer);
+    expect("DVI of the second edition to galley", SP_ACCEPTED, 0, sizeof galley);
+    expect_true("the galley of the second edition", memcmp(again, galley, sizeof galley) == 0);
+    sp_read_dvi2(dvi2, sizeof dvi2, again, sizeof again - 1, answer);
+    expect("room for a galley of the second edition", SP_GALLEY_ROOM, sizeof galley, 0);
+    sp_read_dvi2(dvi2, sizeof dvi2 - 1, room, sizeof room, answer);
+    expect("a 223 too few", SP_NOT_OURS, sizeof dvi2 - 1, 0);
+    memcpy(other, dvi2, sizeof dvi2);
+    other[1] = 3;
+    sp_read_dvi2(other, sizeof other, room, sizeof room, answer);
+    expect("another identification", SP_NOT_OURS, 0, 0);
+    sp_write_dvi2(NULL, 0, NULL, 0, answer);
+    expect("null galley for the second edition", SP_GALLEY_MALFORMED, 0, 0);
+    sp_write_dvi2(galley, sizeof galley, NULL, 0, answer);
+    expect("null buffer for the second edition", SP_DVI_ROOM, sizeof dvi2, 0);
+    sp_read_dvi2(NULL, 0, NULL, 0, answer);
+    expect("null DVI file of the second edition", SP_NOT_OURS, 0, 0);
+    sp_read_dvi2(dvi2, sizeof dvi2, NULL, 0, answer);
+    expect("null buffer for its galley", SP_GALLEY_ROOM, sizeof galley, 0);
+}
+
 static void refuse_dvi(const char *what, const uint8_t *bytes, size_t length, size_t number, size_t place)
 {
     sp_read_dvi(bytes, length, no_width, 128, room, sizeof room, answer);
@@ -241,7 +269,7 @@ static void dvi_files(void)
 static void lengths(void)
 {
     uint64_t words[SP_TAPE_WORDS];
-    uint8_t *zeros = calloc(SP_DVI_LIMIT + 1, 1);
+    uint8_t *zeros = calloc(SP_DVI2_LIMIT + 1, 1);
     if (!zeros)
         abort();
     sp_read_tape(zeros, SP_TAPE_LIMIT, 8, room, sizeof room, answer);
@@ -266,6 +294,10 @@ static void lengths(void)
     expect("the longest DVI file", SP_COMMAND, 0, 0);
     sp_read_dvi(zeros, SP_DVI_LIMIT + 1, no_width, 0, room, sizeof room, answer);
     expect("a longer DVI file", SP_DVI_TOO_LONG, 0, 0);
+    sp_read_dvi2(zeros, SP_DVI2_LIMIT, room, sizeof room, answer);
+    expect("the longest DVI file of the second edition", SP_NOT_OURS, 0, 0);
+    sp_read_dvi2(zeros, SP_DVI2_LIMIT + 1, room, sizeof room, answer);
+    expect("a longer DVI file of the second edition", SP_DVI_TOO_LONG, 0, 0);
     free(zeros);
 }
 
@@ -417,6 +449,7 @@ int main(void)
     dvi_files();
     plain();
     back();
+    second_edition();
     lengths();
     items();
     heights();

@@ -88,6 +88,7 @@ fn the_header_has_the_package_s_numbers() {
         ("SP_GALLEY_LIMIT", spatecanter::GALLEY_LIMIT),
         ("SP_OLD_GALLEY_LIMIT", spatecanter::OLD_GALLEY_LIMIT),
         ("SP_DVI_LIMIT", spatecanter::DVI_LIMIT),
+        ("SP_DVI2_LIMIT", spatecanter::DVI2_LIMIT),
         ("SP_ITEM_LIMIT", spatecanter::ITEM_LIMIT),
         ("SP_HEIGHT_LIMIT", spatecanter::HEIGHT_LIMIT as usize),
         ("SP_DVI_HEIGHT_LIMIT", spatecanter::DVI_HEIGHT_LIMIT as usize),

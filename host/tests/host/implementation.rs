@@ -26,6 +26,8 @@ pub struct Implementation {
     pub read_dvi: ReadFile,
     pub dvi_to_galley: ReadFile,
     pub reprint: FillBoth,
+    pub write_dvi2: Fill,
+    pub read_dvi2: Fill,
     pub punch_tape: Fill,
     pub to_new: Fill,
     pub to_old: Fill,
@@ -74,6 +76,8 @@ pub const PLAIN: Implementation = Implementation {
         }
         Err((number, place)) => [number, place, 0],
     },
+    write_dvi2: |galley, dvi| filled(plain::write_dvi2(galley), dvi, 42),
+    read_dvi2: |dvi, galley| filled(plain::read_dvi2(dvi), galley, 12),
     punch_tape: |galley, tape| filled(plain::punch_tape(galley), tape, 49),
     to_new: |old, new| filled(plain::to_new(old), new, 44),
     to_old: |new, old| filled(plain::to_old(new), old, 44),
@@ -122,6 +126,8 @@ pub const QUICK: Implementation = Implementation {
     read_dvi: quick::read_dvi,
     dvi_to_galley: quick::dvi_to_galley,
     reprint: quick::reprint,
+    write_dvi2: quick::write_dvi2,
+    read_dvi2: quick::read_dvi2,
     punch_tape: quick::punch_tape,
     to_new: quick::to_new,
     to_old: quick::to_old,
@@ -213,6 +219,16 @@ pub const LIBRARY: Implementation = Implementation {
                 sheet.len(),
                 answer,
             )
+        })
+    },
+    write_dvi2: |galley, dvi| {
+        answered(|answer| unsafe {
+            ffi::sp_write_dvi2(galley.as_ptr(), galley.len(), dvi.as_mut_ptr(), dvi.len(), answer)
+        })
+    },
+    read_dvi2: |dvi, galley| {
+        answered(|answer| unsafe {
+            ffi::sp_read_dvi2(dvi.as_ptr(), dvi.len(), galley.as_mut_ptr(), galley.len(), answer)
         })
     },
     punch_tape: |galley, tape| {

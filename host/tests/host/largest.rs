@@ -5,7 +5,7 @@ use crate::compare::Comparison;
 use crate::implementation::{Implementation, BRACKETS, LIBRARY, QUICK};
 use crate::plain;
 use spatecanter::sample::{book, book_widths, chart, yearbook, Random};
-use spatecanter::{Machine, DVI_LIMIT, GALLEY_LIMIT, OLD_GALLEY_LIMIT, TAPE_LIMIT};
+use spatecanter::{Machine, DVI2_LIMIT, DVI_LIMIT, GALLEY_LIMIT, OLD_GALLEY_LIMIT, TAPE_LIMIT};
 
 /// Characters and cuts in a galley, together.
 const ITEMS: usize = 1_048_576;
@@ -44,6 +44,7 @@ fn on_a_small_stack(implementation: Implementation) {
         conversions(&mut comparison);
         each_dvi_file(|dvi, widths| comparison.dvi(dvi, widths));
         back_to_galleys(&mut comparison);
+        second_edition(&mut comparison);
         reports(&mut comparison);
         comparison.print();
         needs_the_largest_sheet(implementation);
@@ -252,6 +253,45 @@ fn back_to_galleys(comparison: &mut Comparison) {
     let mut dvi = [&page[..], &[130, 129, 0, 0, 0, 2, 0, 0, 0, 0, 130]].concat();
     postamble(&mut dvi, end);
     comparison.dvi_to_galley(&dvi, &[]);
+}
+
+/// The files of full galleys: of text, also cut short and with a command or a page more, of any characters and
+/// cuts, and of cuts alone, which is the longest. Then bytes after the longest to the limit, and one more.
+fn second_edition(comparison: &mut Comparison) {
+    let text = text_galley();
+    comparison.write_dvi2(&text);
+    let dvi = plain::write_dvi2(&text).unwrap();
+    comparison.read_dvi2(&dvi);
+    comparison.read_dvi2(&dvi[..dvi.len() - 1]);
+    // Before the 223 stand post's place, in four bytes, and the identification.
+    let end = dvi.iter().rposition(|&byte| byte != 223).unwrap();
+    let post = u32::from_be_bytes(dvi[end - 4..end].try_into().unwrap()) as usize;
+    for more in [&[133, 1][..], &[143, 1], &[243, 119]] {
+        comparison.read_dvi2(&[&dvi[..post - 1], more].concat());
+    }
+    comparison.read_dvi2(&[&dvi[..post], &[139]].concat());
+    comparison.read_dvi2(&plain::write_dvi2(&cases::tall_galley(&mut Random::new(13), ITEMS, 10)).unwrap());
+
+    let mut longest = plain::write_dvi2(&cuts_alone()).unwrap();
+    assert_eq!(longest.len(), 48_234_596);
+    comparison.read_dvi2(&longest);
+    longest.resize(DVI2_LIMIT, 223);
+    comparison.read_dvi2(&longest);
+    longest.push(223);
+    comparison.read_dvi2(&longest);
+}
+
+/// The characters of a tape, over and over.
+fn text_galley() -> Vec<u8> {
+    let page = plain::read_tape(&yearbook(Machine::Eight, 7, TAPE_LIMIT), 8).unwrap();
+    let mut galley: Vec<u8> = page[..page.len() - 7].iter().copied().cycle().take(11 * ITEMS).collect();
+    galley.extend([2, 0, 4]);
+    galley.extend((ITEMS as u32).to_be_bytes());
+    galley
+}
+
+fn cuts_alone() -> Vec<u8> {
+    [&[6, 0, 0].repeat(ITEMS)[..], &[2, 0, 4, 0, 0, 0, 0]].concat()
 }
 
 /// As many pages without a command as fit.

@@ -4,6 +4,7 @@ mod cases;
 mod command;
 mod compare;
 mod differential;
+mod dvitype;
 mod header;
 mod implementation;
 mod largest;

@@ -72,6 +72,18 @@ fn the_chart_is_made_by_the_generator() {
     assert_eq!(spatecanter::reprint(&galley, &[]), Err(refused));
 }
 
+/// The second edition of the pages and of the chart.
+#[test]
+fn the_dvi_files_are_of_the_second_edition() {
+    for (name, length) in [("pages", 3_044), ("chart", 1_776)] {
+        let galley = spatecanter::read_tape(&sample(&format!("{name}.tape")), Machine::Eight).unwrap();
+        let dvi = sample(&format!("{name}.dvi"));
+        assert_eq!(dvi.len(), length);
+        assert!(spatecanter::write_dvi2(&galley).unwrap() == dvi);
+        assert!(spatecanter::read_dvi2(&dvi).unwrap() == galley);
+    }
+}
+
 /// The galley of the three pages in the old form.
 #[test]
 fn the_shelf_is_converted() {

@@ -33,6 +33,8 @@ pub struct Arguments {
     pub format: Option<OsString>,
     /// --order
     pub order: Option<OsString>,
+    /// --edition
+    pub edition: Option<OsString>,
     /// --force
     pub force: bool,
     /// --plain
@@ -145,6 +147,7 @@ impl Arguments {
             "--list" => Some(&mut self.list),
             "--format" => Some(&mut self.format),
             "--order" => Some(&mut self.order),
+            "--edition" => Some(&mut self.edition),
             _ => None,
         }
     }

@@ -2,6 +2,7 @@
 
 use crate::arguments::{Arguments, Inputs};
 use crate::differences::{Differences, Named};
+use crate::edition::{Edition, Reprinted};
 use crate::explain::{self, Form};
 use crate::failure::{say, Failure};
 use crate::fonts::Fonts;
@@ -11,10 +12,10 @@ use crate::plot::{self, Picture};
 use crate::report::Counted;
 use crate::summary::Summary;
 use crate::text::{self, counted};
-use crate::{help, options, pieces, progress, tapes};
+use crate::{explain2, help, options, pieces, progress, tapes};
 use spatecanter::galley::characters;
 use spatecanter::{
-    sheet, Extents, Machine, Refusal, Reprint, RunningTape, DVI_LIMIT, GALLEY_LIMIT, OLD_GALLEY_LIMIT,
+    sheet, Extents, Machine, Refusal, RunningTape, DVI2_LIMIT, DVI_LIMIT, GALLEY_LIMIT, OLD_GALLEY_LIMIT,
     SHEET_LIMIT, TAPE_LIMIT,
 };
 use std::ffi::OsStr;
@@ -56,9 +57,9 @@ pub const COMMANDS: [Command; 13] = [
     },
     Command {
         name: "set",
-        usage: "set GALLEY [-o DVI] [--force]",
+        usage: "set GALLEY [--edition 1980|2] [-o DVI] [--force]",
         inputs: Inputs::One,
-        options: &["-o", "--force"],
+        options: &["--edition", "-o", "--force"],
         help: help::SET,
         run: set,
     },
@@ -90,7 +91,7 @@ pub const COMMANDS: [Command; 13] = [
         name: "reprint",
         usage: REPRINT_USAGE,
         inputs: Inputs::One,
-        options: &["--machine", "--fonts", "-d", "--force"],
+        options: &["--machine", "--fonts", "--edition", "-d", "--force"],
         help: help::REPRINT,
         run: reprint,
     },
@@ -136,7 +137,8 @@ pub const COMMANDS: [Command; 13] = [
     },
 ];
 
-pub const REPRINT_USAGE: &str = "reprint TAPE [--machine 4|8] [--fonts NAMES] -d FOLDER [--force]";
+pub const REPRINT_USAGE: &str =
+    "reprint TAPE [--machine 4|8] [--fonts NAMES] [--edition 1980|2] -d FOLDER [--force]";
 pub const CONVERT_USAGE: &str = "convert --to new|old GALLEY [-o GALLEY] [--force]";
 const COMPARE_USAGE: &str = "compare TAPE|GALLEY TAPE|GALLEY [--machine 4|8] [--order any]";
 const REPORT_USAGE: &str = "report PATH... [--machine 4|8] [--list FILE] [--format csv|json] [--tapes]";
@@ -176,9 +178,10 @@ fn list(arguments: &Arguments) -> Result<(), Failure> {
 }
 
 fn set(arguments: &Arguments) -> Result<(), Failure> {
+    let edition = options::edition(arguments)?;
     let place = place(arguments, &[&arguments.input], "dvi")?;
     let galley = input::read(&arguments.input, GALLEY_LIMIT)?;
-    let dvi = progress::during("writing the DVI file", || spatecanter::write_dvi(&galley))
+    let dvi = progress::during("writing the DVI file", || edition.write(&galley))
         .map_err(|refusal| explain::galley(&arguments.input, &galley, refusal))?;
     place.write(&dvi)?;
     place.tell(&counted(dvi.len(), "byte"));
@@ -189,7 +192,7 @@ fn show(arguments: &Arguments) -> Result<(), Failure> {
     if arguments.plain && arguments.check {
         return Err(Failure::Usage("--plain and --check do not go together: --check reads both ways".into()));
     }
-    let (place, dvi, widths) = dvi_file(arguments, "sheet")?;
+    let (place, dvi, widths) = dvi_file(arguments, "sheet", DVI_LIMIT)?;
     let read = if arguments.plain { spatecanter::read_dvi_plain } else { spatecanter::read_dvi };
     let sheet = progress::during("reading the DVI file", || read(&dvi, &widths));
     if arguments.check {
@@ -222,25 +225,40 @@ fn readers_agree(
 }
 
 fn back(arguments: &Arguments) -> Result<(), Failure> {
-    let (place, dvi, widths) = dvi_file(arguments, "galley")?;
-    let galley = progress::during("reading the DVI file", || spatecanter::dvi_to_galley(&dvi, &widths))
-        .map_err(|refusal| {
+    let (place, dvi, widths) = dvi_file(arguments, "galley", DVI2_LIMIT)?;
+    let edition = Edition::of(&dvi);
+    if edition == Edition::Second && arguments.widths.is_some() {
+        let what = format!("{} is of the second edition, which needs no --widths", shown(&arguments.input));
+        return Err(Failure::Usage(what));
+    }
+    let galley = progress::during("reading the DVI file", || match edition {
+        Edition::First => spatecanter::dvi_to_galley(&dvi, &widths),
+        Edition::Second => spatecanter::read_dvi2(&dvi),
+    })
+    .map_err(|refusal| match edition {
+        Edition::First => {
             explain::back(&arguments.input, arguments.widths.as_deref(), &dvi, &widths, refusal)
-        })?;
+        }
+        Edition::Second => explain2::dvi2(&arguments.input, &dvi, refusal),
+    })?;
     place.write(&galley)?;
     place.tell(&counted(characters(&galley).count(), "character"));
     Ok(())
 }
 
-/// A DVI file and its widths, and where the output goes.
-fn dvi_file(arguments: &Arguments, ending: &str) -> Result<(Place, Vec<u8>, Vec<i32>), Failure> {
+/// A DVI file of at most so many bytes and its widths, and where the output goes.
+fn dvi_file(
+    arguments: &Arguments,
+    ending: &str,
+    limit: usize,
+) -> Result<(Place, Vec<u8>, Vec<i32>), Failure> {
     let mut inputs = vec![arguments.input.as_os_str()];
     inputs.extend(arguments.widths.as_deref());
     if inputs == ["-", "-"] {
         return Err(Failure::Usage("the DVI file and the widths cannot both be standard input".into()));
     }
     let place = place(arguments, &inputs, ending)?;
-    let dvi = input::read(&arguments.input, DVI_LIMIT)?;
+    let dvi = input::read(&arguments.input, limit)?;
     let widths = match &arguments.widths {
         Some(name) => widths(name)?,
         None => vec![],
@@ -277,24 +295,32 @@ fn list_sheet(arguments: &Arguments) -> Result<(), Failure> {
 fn reprint(arguments: &Arguments) -> Result<(), Failure> {
     let folder = options::folder(arguments)?;
     let machine = options::machine(arguments)?;
+    let edition = options::edition(arguments)?;
     let fonts = Fonts::choose(arguments.fonts.as_deref(), Some(machine.unwrap_or(Machine::Eight)))?;
-    let in_folder = |ending| {
+    let in_folder = |ending: &&str| {
         let path = named_after(&arguments.input, Some(folder), ending);
         Place::file(path, &[&arguments.input], arguments.force)
     };
-    let places = [in_folder("galley")?, in_folder("dvi")?, in_folder("sheet")?];
+    let places = edition.endings().iter().map(in_folder).collect::<Result<Vec<Place>, Failure>>()?;
     let tape = input::read(&arguments.input, TAPE_LIMIT)?;
     let (galley, extents) = galley_of(&arguments.input, &tape, machine)?;
-    let Reprint { dvi, sheet } = progress::during("reprinting", || spatecanter::reprint(&galley, &[]))
+    let Reprinted { dvi, read } = progress::during("reprinting", || edition.reprint(&galley))
         .map_err(|refusal| explain::galley(&arguments.input, &galley, refusal))?;
+    if edition == Edition::Second && read != galley {
+        let what = format!(
+            "{}: reading the DVI file gives another galley, a fault of the library",
+            shown(&arguments.input)
+        );
+        return Err(Failure::Refused(what));
+    }
     let mut drafts = Vec::new();
-    for (place, bytes) in places.iter().zip([&galley, &dvi, &sheet]) {
+    for (place, bytes) in places.iter().zip([&galley, &dvi, &read]) {
         let mut draft = Draft::start(place)?;
         draft.fill(|out| out.write_all(bytes))?;
         drafts.push(draft);
     }
     output::finish(drafts)?;
-    output::print(&Summary::of(&galley, &sheet, extents, &fonts).to_string())
+    output::print(&Summary::of(&galley, extents, &fonts).to_string())
 }
 
 fn draw(arguments: &Arguments) -> Result<(), Failure> {

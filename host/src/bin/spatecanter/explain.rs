@@ -1,5 +1,6 @@
 //! Refusals in words: what stands at the place, and what was expected there.
 
+use crate::edition::Edition;
 use crate::failure::Failure;
 use crate::input::shown;
 use crate::targets::{self, Break};
@@ -113,10 +114,14 @@ fn dvi_lines(name: &OsStr, widths: Option<&OsStr>, dvi: &[u8], refusal: Refusal)
             None => format!("{}: the end of the file", offset(refusal.place)),
         });
     }
+    if refusal.place == 0 && Edition::of(dvi) == Edition::Second {
+        lines.push("  a file of the second edition begins so: see spatecanter back".into());
+    }
     lines
 }
 
-fn offset(place: usize) -> String {
+/// A place in words.
+pub fn offset(place: usize) -> String {
     format!("  at offset {place} (hexadecimal {place:X})")
 }
 

@@ -1,16 +1,16 @@
 //! The texts of --help.
 
 pub const WHOLE: &str = "\
-C/A/T phototypesetter tapes to galleys, galleys to DVI files of 1980, and DVI files to
-sheets and back to galleys; galleys back to tapes, and old galleys to new ones and back;
-and reports over many tapes.
+C/A/T phototypesetter tapes to galleys, galleys to DVI files of 1980 and of the second
+edition, and DVI files to sheets and back to galleys; galleys back to tapes, and old galleys
+to new ones and back; and reports over many tapes.
 
 Usage: spatecanter COMMAND ...
 
   read TAPE [-o GALLEY]                 a tape to a galley
   check GALLEY                          is this a galley, and of how many characters?
   list GALLEY                           a galley as text
-  set GALLEY [-o DVI]                   a galley to a DVI file
+  set GALLEY [--edition 2] [-o DVI]     a galley to a DVI file
   show DVI [--widths FILE] [-o SHEET]   a DVI file to a sheet
   back DVI [--widths FILE] [-o GALLEY]  a DVI file back to its galley
   sheet SHEET                           a sheet as text
@@ -27,6 +27,9 @@ Usage: spatecanter COMMAND ...
 Machines. A tape does not say whether its machine had 4 or 8 fonts: commands that take tapes
 take --machine 4 or --machine 8. Without it the machine has 8, and a tape without a tilt code
 gives a hint, since it may be of the other.
+
+DVI files are of 1980, which printers no longer take, or of the second edition, which DVItype
+describes: set and reprint write it with --edition 2, and back reads both.
 
 Old galleys. Characters once had tag 1, and heights of two bytes. Only convert takes such a
 galley; all other commands take and make the new form, with tag 7 and four bytes.
@@ -109,11 +112,16 @@ standard output. Refusals are those of check.
 ";
 
 pub const SET: &str = "\
-Writes a galley as a DVI file of 1980. Each cut ends a page and starts the next.
+Writes a galley as a DVI file. Each cut ends a page and starts the next.
 
-Usage: spatecanter set GALLEY [-o DVI] [--force]
+Usage: spatecanter set GALLEY [--edition 1980|2] [-o DVI] [--force]
 
-DVI holds heights of at most 65,535. Refusals are those of check, and one more:
+The file is of the edition of 1980; with --edition 2 it is of the second, with identification
+2, as DVItype describes it. There a unit is 1/432 inch, and places are exact; the fonts are
+C107 to C836, C with the font and the points in two digits.
+
+Refusals are those of check, and in the edition of 1980, which holds heights of at most
+65,535, one more:
   43  a greater height; at the field of the first such character
 
 Without -o the DVI file of page.galley is page.galley.dvi. --force writes over a file that is
@@ -151,12 +159,15 @@ already.
 ";
 
 pub const BACK: &str = "\
-Makes the galley whose targets a DVI file of 1980 shows, whoever made or edited the file. One
-that set made gives back its galley, byte for byte.
+Makes the galley whose targets a DVI file of 1980 shows, whoever made or edited the file, or
+the galley of a DVI file of the second edition, which only set made. Either way a file that
+set made gives back its galley, byte for byte.
 
 Usage: spatecanter back DVI [--widths FILE] [-o GALLEY] [--force]
 
-There is such a galley, and only one, exactly if pages are numbered 1, 2, 3 on; there is no
+The file's first byte tells its edition: 247 (F7) begins the second.
+
+1980: there is such a galley, and only one, exactly if pages are numbered 1, 2, 3 on; there is no
 rule; each character is 1 to 108 in a font 0 to 119, at the target of a height and of an x
 that is valid in the font's size; and characters and cuts are at most 1,048,576.
 
@@ -164,6 +175,12 @@ that is valid in the font's size; and characters and cuts are at most 1,048,576.
 file. Then:
   45  a condition does not hold; at the first command that breaks one. Standard error tells
       what it shows, on which page, and what would have been right; for a place, the nearest
+
+Second edition: the file has to be one that set --edition 2 makes. --widths is wrong usage.
+  20  the file is longer than 67,108,864 bytes; at 0
+  46  no file that set makes begins so; at the first command through which that holds, or at
+      the length if the file ends early. Standard error tells the command and, where there is
+      but one way to go on, what set would have put there
 
 Without -o the galley of page.dvi is page.dvi.galley. --force writes over a file that is there
 already.
@@ -186,7 +203,8 @@ The text goes to standard output.
 pub const REPRINT: &str = "\
 Takes a tape all the way: TAPE to TAPE.galley, TAPE.dvi and TAPE.sheet in a folder.
 
-Usage: spatecanter reprint TAPE [--machine 4|8] [--fonts NAMES] -d FOLDER [--force]
+Usage: spatecanter reprint TAPE [--machine 4|8] [--fonts NAMES] [--edition 1980|2]
+                           -d FOLDER [--force]
 
 Prints a summary: characters, pages, the farthest x and the greatest height over all pages,
 fonts, and how many characters are in font 1 and in font 2, since measured and estimated
@@ -197,12 +215,15 @@ The yearbooks of the 8-font machine set measured values in font 1 and estimates 
 and the summary says so. For other books --fonts names one or two fonts that are told apart,
 as in --fonts 3=measured,4=estimated; with --fonts none they are fonts 1 and 2, without names.
 
-The folder is made if it is missing. All three files are written or none; from standard input
+With --edition 2 the DVI file is of the second edition, as of set, and is read back: it has to
+give the galley. There is no sheet then.
+
+The folder is made if it is missing. All files are written or none; from standard input
 they are tape.galley, tape.dvi and tape.sheet. --force writes over files that are there
 already.
 
---machine and refusals are those of read. A tape with a height above 65,535, which DVI cannot
-hold, is refused too: 43, at a place in the galley that read makes of it.
+--machine and refusals are those of read. A tape with a height above 65,535, which DVI of 1980
+cannot hold, is refused too: 43, at a place in the galley that read makes of it.
 ";
 
 pub const PLOT: &str = "\

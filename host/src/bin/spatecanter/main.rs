@@ -3,7 +3,9 @@
 mod arguments;
 mod commands;
 mod differences;
+mod edition;
 mod explain;
+mod explain2;
 mod failure;
 mod fonts;
 mod help;

@@ -3,6 +3,7 @@
 use crate::arguments::Arguments;
 use crate::commands::{CONVERT_USAGE, REPRINT_USAGE};
 use crate::differences::Order;
+use crate::edition::Edition;
 use crate::explain::Form;
 use crate::failure::Failure;
 use crate::report::Format;
@@ -90,6 +91,19 @@ pub fn order(arguments: &Arguments) -> Result<Order, Failure> {
         Some(word) if word == "any" => Ok(Order::Any),
         Some(word) => Err(Failure::Usage(format!(
             "--order {} is no order: it is any; without it characters have to come in the same order",
+            word.to_string_lossy()
+        ))),
+    }
+}
+
+/// The edition of DVI that --edition names.
+pub fn edition(arguments: &Arguments) -> Result<Edition, Failure> {
+    match &arguments.edition {
+        None => Ok(Edition::First),
+        Some(word) if word == "1980" => Ok(Edition::First),
+        Some(word) if word == "2" => Ok(Edition::Second),
+        Some(word) => Err(Failure::Usage(format!(
+            "--edition {} is no edition of DVI: it is 1980 or 2",
             word.to_string_lossy()
         ))),
     }

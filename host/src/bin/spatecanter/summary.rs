@@ -2,8 +2,7 @@
 
 use crate::fonts::Fonts;
 use crate::text::{farthest_x, greatest_height, grouped};
-use spatecanter::galley::{characters, font_name, Character};
-use spatecanter::sheet::{fields, Field};
+use spatecanter::galley::{characters, font_name, items, Character, Item};
 use spatecanter::Extents;
 use std::collections::BTreeMap;
 use std::fmt;
@@ -17,8 +16,8 @@ pub struct Summary<'a> {
 }
 
 impl Summary<'_> {
-    pub fn of<'a>(galley: &[u8], sheet: &[u8], extents: Extents, fonts: &'a Fonts) -> Summary<'a> {
-        let pages = fields(sheet).filter(|field| matches!(field, Field::Page(_))).count();
+    pub fn of<'a>(galley: &[u8], extents: Extents, fonts: &'a Fonts) -> Summary<'a> {
+        let pages = 1 + items(galley).filter(|item| *item == Item::Cut).count();
         let mut by_font = BTreeMap::new();
         for character in characters(galley) {
             *by_font.entry(character.font_number).or_default() += 1;

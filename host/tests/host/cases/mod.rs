@@ -2,11 +2,13 @@
 
 mod back;
 mod dvi;
+mod edition2;
 mod galley;
 mod tape;
 
 pub use back::shown_galley;
 pub use dvi::{dvi_file, valid_dvi_file};
+pub use edition2::{edition2_file, valid_edition2_file};
 pub use galley::{
     galley, galley_of, tall_galley, valid_galley, valid_galley_with_cuts, valid_old_galley, Form,
 };

@@ -1,6 +1,7 @@
 //! The command `spatecanter`: files, exit status and texts.
 
 mod comparisons;
+mod editions;
 mod outputs;
 mod pictures;
 mod pieces;

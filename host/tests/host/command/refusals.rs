@@ -131,7 +131,7 @@ fn a_galley_with_one_cut_too_many() {
 }
 
 /// What is said of 43.
-const TOO_HIGH: &str = "a height above 65,535, which neither DVI nor the old form can hold";
+const TOO_HIGH: &str = "a height above 65,535, which neither DVI of 1980 nor the old form can hold";
 
 #[test]
 fn a_column_that_dvi_cannot_hold() {

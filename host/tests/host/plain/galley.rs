@@ -46,7 +46,7 @@ impl Character {
         }
     }
 
-    fn is_valid(&self, form: Form) -> bool {
+    pub fn is_valid(&self, form: Form) -> bool {
         let doubled = self.font_number % 15 >= 9;
         let across = if doubled { -55..=3_184 } else { 0..=3_239 };
         across.contains(&self.x)

@@ -5,6 +5,7 @@
 mod back;
 mod convert;
 mod dvi;
+mod edition2;
 mod galley;
 mod punch;
 mod report;
@@ -15,6 +16,7 @@ mod writer;
 pub use back::dvi_to_galley;
 pub use convert::{to_new, to_old};
 pub use dvi::read_dvi;
+pub use edition2::{read_dvi2, write_dvi2};
 pub use galley::{check_galley, read_back, Character};
 pub use punch::punch_tape;
 pub use report::count_tape;

@@ -56,6 +56,14 @@ impl Call {
                     (them.reprint)(&galley, &widths, dvi, sheet)
                 })
             }
+            "write_dvi2" => {
+                let galley = inputs.take("galley", bytes)?;
+                Call::of(&["dvi"], move |them, lent| (them.write_dvi2)(&galley, lent[0]))
+            }
+            "read_dvi2" => {
+                let dvi = inputs.take("dvi", bytes)?;
+                Call::of(&["galley"], move |them, lent| (them.read_dvi2)(&dvi, lent[0]))
+            }
             "punch_tape" => {
                 let galley = inputs.take("galley", bytes)?;
                 Call::of(&["tape"], move |them, lent| (them.punch_tape)(&galley, lent[0]))

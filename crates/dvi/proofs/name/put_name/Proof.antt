@@ -1,13 +1,13 @@
--- `dvi_writer::postamble::put_name` meets its contract: one write after the other.
+-- `dvi::name::put_name` meets its contract: one write after the other.
 -- Assumes nothing.
 use mathlib.Core.Path.{ap}
 use mathlib.Core.List.{[], _∷_}
 use Prim.Native.Nat.{ℕ, _+_, _/_, _%_}
 use borrow.Author.Needs.{needs}
 use Rattle.octets.specs.Write.{then, named}
 use Rattle.dvi.specs.Writer.{nameOf}
-use Rattle.dvi_writer.proofs.postamble.put_name.Statement.{statement}
-use Rattle.dvi_writer.proofs.postamble.put_name.Tie as tie
+use Rattle.dvi.proofs.name.put_name.Statement.{statement}
+use Rattle.dvi.proofs.name.put_name.Tie as tie
 
 point-size-requires : tie.Need-point-size-requires
 point-size-requires c κs = search needs

@@ -1,0 +1,5 @@
+mod Runs
+mod Pieces
+pub mod Items
+mod Examples
+pub mod Shown

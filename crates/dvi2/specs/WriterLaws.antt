@@ -1,0 +1,262 @@
+-- How long the pieces of the file are, and how it grows by one item.
+--     widthOf-range, widthOf-holds, widthOf-least    a number's width is 1 to 4; so many bytes hold it, and no fewer
+--     itemsBytes-append      the bytes of two runs of items, and itemsBytes-more of one item more
+--     itemsBytes-part        the first items have no more bytes than all
+--     pressAll-more          the press after one item more
+--     press-at               the offset after a run of items
+--     press-behind           the characters set by then
+--     Small, press-small     no number of the press is too large for four bytes
+--     fillers-range          there are four to seven bytes 223, and fillers-fewest no fewer do
+--     length-pages, length-commands, length-file     the length of all pages, of all commands, of the file
+--     file-fits              which a reader takes
+-- Assumes nothing.
+use mathlib.Core.Path.{_≡_, refl, sym, ap, _∙_}
+use mathlib.Core.Bool.{Bool, true, false, cond}
+use mathlib.Core.List.{List, [], _∷_, _++_, append-assoc, append-nil}
+use mathlib.Core.Option.{Option, none, some}
+use Prim.Native.Nat.{ℕ, zero, suc, _+_, _*_, _-_, _%_, _≤_, _<_}
+use native.Mathlib.Nat.{zero-add, suc-add}
+use native.Mathlib.Omega.{arith}
+use borrow.Author.Tests.{ltb-true, ltb-false}
+use lib.Dec.{ltb, eqb}
+use lib.IntN.{ℤ, pos, _-ℤ_}
+use lib.ListN.{length, length-append}
+use lib.Signed.{mag}
+use Rattle.integers.specs.Parts.{eqZ}
+use Rattle.octets.specs.Octets.{bytes, signedBytes, Holds}
+use Rattle.octets.specs.Octets as octets
+use Rattle.octets.specs.OctetsLaws.{by-cond, length-signedBytes, width-range, width-holds, width-least}
+use Rattle.galley_file.specs.declared.character.Character.{Character}
+use Rattle.galley_file.specs.declared.item.Item.{Item}
+use Rattle.galley_file.specs.declared.item.Item.the-variants.{Placed, Cut}
+use Rattle.galley_file.specs.Item.{charactersOf}
+use Rattle.galley_file.specs.Galley.{maxItems}
+use Rattle.extents.specs.FontMarks.{uses, usedFonts}
+use Rattle.dvi.specs.Writer.{Pen, nameOf}
+use Rattle.dvi.specs.WriterLaws.{usedFonts-most}
+use Rattle.dvi2.specs.Command.{EOP, RIGHT1, DOWN1, POSTPOST}
+use Rattle.dvi2.specs.File.{maxDvi2}
+use Rattle.dvi2.specs.Writer.{hOf, vOf, widthOf, selects, definition, fontCommands, fontChange, shortest, move, commandsOf, unitBytes, preambleBytes, bopBytes, Press, firstPress, itemBytes, pressAfter, itemsBytes, pressAll, pagesBytes, definitionBytes, postBytes, postambleBytes, commandBytes, fillers, bytes223, dvi2File}
+
+-- ---- the commands of a character
+
+pub widthOf-range : (z : ℤ) → (1 ≤ widthOf z) × (widthOf z ≤ 4)
+unfolding widthOf
+widthOf-range z =
+    by-cond (λ (n : ℕ). (1 ≤ n) × (n ≤ 4)) (ltb (mag z) 128) _ _ (λ _. omega arith) (λ _. omega (arith, width-range z))
+
+pub widthOf-holds : (z : ℤ) → mag z < 2147483648 → Holds (widthOf z) z
+unfolding widthOf
+widthOf-holds z h =
+    by-cond (λ (n : ℕ). Holds n z) (ltb (mag z) 128) _ _
+    (λ t. record { half = omega (arith, ltb-true (mag z) 128 t) })
+    (λ _. width-holds z h)
+
+-- no fewer hold it
+pub widthOf-least : (k : ℕ) (z : ℤ) → 1 ≤ k → k < widthOf z → Holds k z → ⊥
+unfolding widthOf
+widthOf-least k z l =
+    by-cond (λ (n : ℕ). k < n → Holds k z → ⊥) (ltb (mag z) 128) _ _
+    (λ _ h o. omega arith)
+    (λ t. wide k l (ltb-false (mag z) 128 t))
+  where
+    wide : (k : ℕ) → 1 ≤ k → 128 ≤ mag z → k < octets.widthOf z → Holds k z → ⊥
+    wide zero a b c o = omega arith
+    wide (suc zero) a b c o = omega (arith, o .half)
+    wide (suc (suc k)) a b c o = width-least (suc (suc k)) z (omega arith) c o
+
+pub length-definition : (f : ℕ) → length (definition f) ≡ 20
+unfolding definition nameOf bytes
+length-definition f = refl
+
+selects-most : (f : ℕ) → length (selects f) ≤ 2
+unfolding selects
+selects-most f = by-cond (λ (bs : List ℕ). length bs ≤ 2) (ltb f 64) _ _ (λ _. omega arith) (λ _. omega arith)
+
+fontCommands-most : (known : Bool) (f : ℕ) → length (fontCommands known f) ≤ 22
+unfolding fontCommands
+fontCommands-most known f =
+    by-cond (λ (bs : List ℕ). length bs ≤ 22) known _ _
+    (λ _. omega (arith, selects-most f))
+    (λ _. rw length-append (omega (arith, selects-most f, length-definition f)))
+
+pub fontChange-most : (known : Bool) (o : Option ℕ) (f : ℕ) → length (fontChange known o f) ≤ 22
+unfolding fontChange
+fontChange-most known none f = fontCommands-most known f
+fontChange-most known (some g) f =
+    by-cond (λ (bs : List ℕ). length bs ≤ 22) (eqb g f) _ _ (λ _. omega arith) (λ _. fontCommands-most known f)
+
+-- a move's length does not depend on its command
+pub length-move : (op : ℕ) (m : ℤ) → length (move op m) ≡ cond (eqZ m (pos 0)) 0 (1 + widthOf m)
+unfolding move shortest
+length-move op m = go (eqZ m (pos 0))
+  where
+    go : (t : Bool) → length (cond t [] (shortest op m)) ≡ cond t 0 (1 + widthOf m)
+    go true = refl
+    go false = let l = length-signedBytes (widthOf m) m in omega arith
+
+pub move-most : (op : ℕ) (m : ℤ) → length (move op m) ≤ 5
+move-most op m =
+    rw (length-move op m)
+    (by-cond (λ (n : ℕ). n ≤ 5) (eqZ m (pos 0)) _ _ (λ _. omega arith) (λ _. omega (arith, widthOf-range m)))
+
+pub commandsOf-most : (known : Bool) (p : Pen) (c : Character) → length (commandsOf known p c) ≤ 34
+unfolding commandsOf
+commandsOf-most known p c =
+    simp length-append
+    (omega (arith, fontChange-most known (p .font) (c .font), move-most RIGHT1 (hOf c -ℤ p .x), move-most DOWN1 (vOf c -ℤ p .y)))
+
+-- ---- the bytes of items
+
+pub length-bop : (n : ℕ) (previous : ℤ) → length (bopBytes n previous) ≡ 45
+unfolding bopBytes signedBytes bytes
+length-bop n previous = refl
+
+pub length-cut : (p : Press) → length (itemBytes p Cut) ≡ 46
+unfolding itemBytes bopBytes signedBytes bytes
+length-cut p = refl
+
+pub itemBytes-most : (p : Press) (i : Item) → length (itemBytes p i) ≤ 46
+unfolding itemBytes
+itemBytes-most p (Placed c) = omega (arith, commandsOf-most (uses (c .font) (p .behind)) (p .pen) c)
+itemBytes-most p Cut = omega (arith, length-cut p)
+
+pub itemsBytes-most : (p : Press) (is : List Item) → length (itemsBytes p is) ≤ 46 * length is
+unfolding itemsBytes
+itemsBytes-most p [] = omega arith
+itemsBytes-most p (i ∷ is) = rw length-append (omega (arith, itemBytes-most p i, itemsBytes-most (pressAfter p i) is))
+
+pub itemsBytes-append : (p : Press) (is js : List Item) → itemsBytes p (is ++ js) ≡ itemsBytes p is ++ itemsBytes (pressAll p is) js
+unfolding itemsBytes pressAll
+itemsBytes-append p [] js = refl
+itemsBytes-append p (i ∷ is) js =
+    ap (λ (l : List ℕ). itemBytes p i ++ l) (itemsBytes-append (pressAfter p i) is js)
+    ∙ sym (append-assoc (itemBytes p i) (itemsBytes (pressAfter p i) is) (itemsBytes (pressAll (pressAfter p i) is) js))
+
+pub itemsBytes-more : (p : Press) (is : List Item) (i : Item) → itemsBytes p (is ++ (i ∷ [])) ≡ itemsBytes p is ++ itemBytes (pressAll p is) i
+unfolding itemsBytes
+itemsBytes-more p is i =
+    itemsBytes-append p is (i ∷ []) ∙ ap (λ (l : List ℕ). itemsBytes p is ++ l) (append-nil (itemBytes (pressAll p is) i))
+
+pub itemsBytes-part : (p : Press) (is js : List Item) → length (itemsBytes p is) ≤ length (itemsBytes p (is ++ js))
+itemsBytes-part p is js = rw (itemsBytes-append p is js, length-append) (omega arith)
+
+-- ---- the press after them
+
+pub pressAll-more : (p : Press) (is : List Item) (i : Item) → pressAll p (is ++ (i ∷ [])) ≡ pressAfter (pressAll p is) i
+unfolding pressAll
+pressAll-more p [] i = refl
+pressAll-more p (j ∷ is) i = pressAll-more (pressAfter p j) is i
+
+pub press-next : (p : Press) (i : Item) → pressAfter p i .at ≡ p .at + length (itemBytes p i)
+unfolding pressAfter itemBytes
+press-next p (Placed c) = refl
+press-next p Cut = let l = length-cut p in omega arith
+
+pub press-at : (p : Press) (is : List Item) → pressAll p is .at ≡ p .at + length (itemsBytes p is)
+unfolding pressAll itemsBytes
+press-at p [] = omega arith
+press-at p (i ∷ is) = rw length-append (omega (arith, press-next p i, press-at (pressAfter p i) is))
+
+pub press-behind : (p : Press) (is : List Item) → pressAll p is .behind ≡ p .behind ++ charactersOf is
+unfolding pressAll pressAfter charactersOf
+press-behind p [] = sym (append-nil (p .behind))
+press-behind p (Placed c ∷ is) = press-behind (pressAfter p (Placed c)) is ∙ append-assoc (p .behind) (c ∷ []) (charactersOf is)
+press-behind p (Cut ∷ is) = press-behind (pressAfter p Cut) is
+
+page-next : (p : Press) (i : Item) → pressAfter p i .page ≤ suc (p .page)
+unfolding pressAfter
+page-next p (Placed c) = omega arith
+page-next p Cut = omega arith
+
+-- the numbers of the press fit four bytes, after n items more too
+pub record Small (p : Press) (n : ℕ) : Type 0 where
+  pub bop-before : p .bop ≤ p .at
+  pub at-small : p .at + 46 * n < 2147483648
+  pub page-small : p .page + n < 2147483648
+
+bop-next : (p : Press) (i : Item) → p .bop ≤ p .at → pressAfter p i .bop ≤ pressAfter p i .at
+unfolding pressAfter
+bop-next p (Placed c) h = omega arith
+bop-next p Cut h = omega arith
+
+pub small-next : (p : Press) (i : Item) (n : ℕ) → Small p (suc n) → Small (pressAfter p i) n
+small-next p i n s =
+    record {
+      bop-before = bop-next p i (s .bop-before);
+      at-small = omega (arith, s .at-small, press-next p i, itemBytes-most p i);
+      page-small = omega (arith, s .page-small, page-next p i);
+    }
+
+small-all : (p : Press) (is : List Item) (n : ℕ) → Small p (length is + n) → Small (pressAll p is) n
+unfolding pressAll
+small-all p [] n s = rw zero-add at s
+small-all p (i ∷ is) n s = small-all (pressAfter p i) is n (small-next p i (length is + n) (rw suc-add at s))
+
+pub small-first : (n : ℕ) → n ≤ maxItems → Small firstPress n
+unfolding firstPress
+small-first n h = record { bop-before = omega arith; at-small = omega arith; page-small = omega arith }
+
+pub press-small : (is : List Item) (n : ℕ) → length is + n ≤ maxItems → Small (pressAll firstPress is) n
+press-small is n h = small-all firstPress is n (small-first (length is + n) h)
+
+-- ---- all pages
+
+pub length-pages : (is : List Item) → length (pagesBytes is) ≡ 61 + length (itemsBytes firstPress is)
+unfolding pagesBytes preambleBytes unitBytes bopBytes bytes signedBytes
+length-pages is = rw (length-append (itemsBytes firstPress is) (EOP ∷ [])) (omega arith)
+
+-- ---- the postamble
+
+-- 20 bytes for each definition
+pub length-definitions : (fs : List ℕ) → length (definitionBytes fs) ≡ 20 * length fs
+unfolding definitionBytes
+length-definitions [] = refl
+length-definitions (f ∷ fs) = length-append (definition f) (definitionBytes fs) ∙ (let l = length-definition f in let r = length-definitions fs in omega arith)
+
+pub definitions-append : (fs gs : List ℕ) → definitionBytes (fs ++ gs) ≡ definitionBytes fs ++ definitionBytes gs
+unfolding definitionBytes
+definitions-append [] gs = refl
+definitions-append (f ∷ fs) gs =
+    ap (λ (l : List ℕ). definition f ++ l) (definitions-append fs gs)
+    ∙ sym (append-assoc (definition f) (definitionBytes fs) (definitionBytes gs))
+
+pub length-post : (last pages : ℕ) (cs : List Character) → length (postBytes last pages cs) ≡ 29
+unfolding postBytes unitBytes bytes signedBytes
+length-post last pages cs = refl
+
+pub length-postamble : (last pages post : ℕ) (cs : List Character) → length (postambleBytes last pages post cs) ≡ 35 + 20 * length (usedFonts 120 cs)
+unfolding postambleBytes bytes
+length-postamble last pages post cs =
+    let fs = usedFonts 120 cs in
+    rw (length-append (postBytes last pages cs) (definitionBytes fs ++ (POSTPOST ∷ bytes 4 post ++ (2 ∷ []))), length-append (definitionBytes fs) (POSTPOST ∷ bytes 4 post ++ (2 ∷ [])))
+    (omega (arith, length-post last pages cs, length-definitions fs))
+
+-- ---- the file
+
+pub length-commands : (is : List Item) → length (commandBytes is) ≡ 96 + length (itemsBytes firstPress is) + 20 * length (usedFonts 120 (charactersOf is))
+unfolding commandBytes
+length-commands is = rw (length-append, length-postamble, length-pages is) (omega arith)
+
+pub length-223 : (n : ℕ) → length (bytes223 n) ≡ n
+unfolding bytes223
+length-223 zero = refl
+length-223 (suc n) = ap suc (length-223 n)
+
+-- four to seven of them, which make a multiple of four
+pub fillers-range : (n : ℕ) → (4 ≤ fillers n) × ((fillers n ≤ 7) × ((n + fillers n) % 4 ≡ 0))
+unfolding fillers
+fillers-range n = (omega arith, (omega arith, omega arith))
+
+pub fillers-fewest : (n k : ℕ) → 4 ≤ k → (n + k) % 4 ≡ 0 → fillers n ≤ k
+unfolding fillers
+fillers-fewest n k h e = omega arith
+
+pub length-file : (is : List Item) → length (dvi2File is) ≡ length (commandBytes is) + fillers (length (commandBytes is))
+unfolding dvi2File
+length-file is = rw (length-append, length-223 (fillers (length (commandBytes is))))
+
+pub file-fits : (is : List Item) → length is ≤ maxItems → length (dvi2File is) ≤ maxDvi2
+file-fits is h =
+    rw (length-file is)
+    (omega (arith, fillers-range (length (commandBytes is)) .1 .0, length-commands is, itemsBytes-most firstPress is, usedFonts-most 120 (charactersOf is)))

@@ -1,0 +1,37 @@
+-- `dvi2_moves::moves::valid_at` meets its contract: farther out no character stands.
+-- Assumes nothing.
+use mathlib.Core.Path.{ap, _∙_}
+use mir.Syntax.{w32}
+use mir.Val.{SFits}
+use Rattle.dvi2_reading.specs.Reading.{validIn}
+use Rattle.dvi2_commands.specs.Pen.{fontIn}
+use Rattle.integers.specs.Parts.{integers, plain}
+use Rattle.dvi2_moves.proofs.Rights.{out-left, out-right}
+use borrow.Author.Needs.{needs}
+use Rattle.dvi2_moves.proofs.moves.valid_at.Statement.{statement}
+use Rattle.dvi2_moves.proofs.moves.valid_at.Tie as tie
+
+narrow : (c : tie.Else2) → SFits w32 (c .before .before .args .t)
+narrow c =
+    let f = c .before .before .fits in
+    let low = rw (plain (f .t)) at (c .before .if1 .left) in
+    let high = rw (plain (f .t)) at (c .if2 .left) in
+    omega (integers, low, high)
+
+returns : tie.Need-returns
+returns c = let f = c .before .fits in out-left (fontIn (c .before .args .f)) (c .before .args .t) (rw (plain (f .t)) at (c .if1 .taken))
+
+returns-2 : tie.Need-returns-2
+returns-2 c = let f = c .before .before .fits in out-right (fontIn (c .before .before .args .f)) (c .before .before .args .t) (rw (plain (f .t)) at (c .if2 .taken))
+
+cast-valid-in : tie.Need-cast-valid-in
+cast-valid-in c = rw (plain (c .before .before .fits .t)) (narrow c)
+
+valid-in-requires : tie.Need-valid-in-requires
+valid-in-requires c κs = search needs
+
+returns-3 : tie.Need-returns-3
+returns-3 c = let f = c .before .before .before .fits in c .valid-in .ensures ∙ ap (validIn (fontIn (c .before .before .before .args .f))) (rw (plain (f .t)) (plain (narrow (c .before))))
+
+pub valid-at-spec : {M : Type 1} → statement M
+valid-at-spec = tie.close (tie.spec returns returns-2 cast-valid-in valid-in-requires returns-3)

@@ -1,0 +1,2 @@
+-- What the contracts cite: a pass.
+pub mod Pass

@@ -1,0 +1,267 @@
+-- The commands of a character are a way inside a page.
+-- Assumes nothing.
+use mathlib.Core.Path.{_≡_, refl, sym, ap, subst, _∙_}
+use mathlib.Core.Bool.{Bool, true, false, not, cond, _&&_}
+use mathlib.Core.List.{List, [], _∷_, _++_}
+use mathlib.Core.Option.{Option, none, some}
+use Prim.Native.Nat.{ℕ, suc, _+_, _-_, _*_, _%_, _≤_, _<_}
+use native.Mathlib.Omega.{arith}
+use borrow.Author.Tests.{lt-ltb, le-leb, leb-true, eqb-true, eq-eqb}
+use lib.Dec.{ltb, leb, eqb}
+use lib.IntN.{ℤ, pos, negsuc, _+ℤ_, _-ℤ_, _*ℤ_}
+use lib.ListN.{length}
+use lib.Signed.{mag, leZ}
+use Rattle.integers.specs.Parts.{integers, up, dn, sum-parts, dif-parts, eqZ, eqZ-true}
+use Rattle.octets.specs.FieldLaws.{both}
+use Rattle.measure.specs.Place.{heightEnd}
+use Rattle.galley_file.specs.Font.{sizeIndex, isDouble}
+use Rattle.galley_file.specs.declared.character.Character.{Character}
+use Rattle.galley_file.specs.declared.item.Item.{Item}
+use Rattle.galley_file.specs.declared.item.Item.the-variants.{Placed}
+use Rattle.galley_file.specs.Character.{validX, valid}
+use Rattle.galley_file.specs.CharacterLaws.{Valid, valid-parts}
+use Rattle.galley_file.specs.Item.{charactersOf}
+use Rattle.galley_file.specs.Galley.{maxItems}
+use Rattle.extents.specs.FontMarks.{uses}
+use Rattle.dvi.specs.Writer.{Pen}
+use Rattle.dvi2.specs.Command.{PUT1, RIGHT1, DOWN1}
+use Rattle.dvi2.specs.Writer.{hOf, vOf, penAt, selects, definition, fontCommands, fontChange, shortest, move, commandsOf}
+use Rattle.dvi2_reading.specs.Reading.{defining, selecting, across, downward, putting, inBytes, Stage, ready, named, chosen, moved, lowered, PageState, beforeRight, beforeDown, beforePut, isMore, isFont, validIn, isDown, mayCome, inPage, heightOf, characterOf, withFont, pageStateAfter}
+use Rattle.dvi2_reading.specs.BytesLaws.{both-true}
+use Rattle.dvi2_reading.specs.SizeLaws.{put-command, definition-command, selects-command, right-command, down-command}
+use Rattle.dvi2_reading.specs.CommandLaws.{page-next}
+use Rattle.dvi2_reading.specs.PieceLaws.{move-none, move-some, x-mag}
+use Rattle.dvi2_reading.specs.Path.{Path, stop, step, path-append, path-one}
+
+-- ---- numbers
+
+up-mag : (z : ℤ) → (up z ≤ suc (mag z)) × (dn z ≤ suc (mag z))
+up-mag (pos n) = omega arith
+up-mag (negsuc n) = omega arith
+
+pub mag-dif : (a b : ℤ) → mag a < 4000000 → mag b < 4000000 → mag (a -ℤ b) < 2147483648
+mag-dif a b h k = go (a -ℤ b) (dif-parts a b)
+  where
+    go : (z : ℤ) → up z + (dn a + up b) ≡ up a + dn b + dn z → mag z < 2147483648
+    go (pos n) e = omega (arith, up-mag a, up-mag b)
+    go (negsuc n) e = omega (arith, up-mag a, up-mag b)
+
+pub back-and-there : (a b : ℤ) → a +ℤ (b -ℤ a) ≡ b
+back-and-there a b = omega (integers, dif-parts b a, sum-parts a (b -ℤ a))
+
+none-moved : (a b : ℤ) → b -ℤ a ≡ pos 0 → a ≡ b
+none-moved a b e = omega (integers, dif-parts b a)
+
+pub down-mag : (y : ℤ) → isDown y ≡ true → mag y < 4000000
+unfolding isDown
+down-mag (pos n) e = let b = both (eqb (n % 3) 0) (leb n 3000000) e in let l = leb-true n 3000000 (b .1) in omega arith
+down-mag (negsuc n) e = let z : _≡_ {A = ℕ} 0 1 = cc in absurd (omega arith)
+
+thrice-down : (h : ℤ) → leZ (pos 0) h ≡ true → leZ h heightEnd ≡ true → (isDown (pos 3 *ℤ h) ≡ true) × (heightOf (pos 3 *ℤ h) ≡ h)
+unfolding isDown heightOf
+thrice-down (pos n) l u =
+    let k = leb-true n 1000000 u in
+    (both-true (eqb (3 * n % 3) 0) (leb (3 * n) 3000000) (eq-eqb (3 * n % 3) 0 (omega arith)) (le-leb (3 * n) 3000000 (omega arith)), ap pos (omega arith))
+thrice-down (negsuc n) l u = let z : _≡_ {A = ℕ} 0 1 = cc in absurd (omega arith)
+
+not-so : (t : Bool) → t ≡ false → not t ≡ true
+not-so t e = rw e
+
+-- ---- the commands of a character, from a page so reached
+
+module _ (is : List Item) (l : length is < maxItems) where
+  abbrev midpage : Stage → Pen → PageState
+  midpage s p = record { items = is; stage = s; pen = p }
+
+  is-more : isMore is ≡ true
+  is-more = lt-ltb (length is) maxItems l
+
+  -- a font that differs
+  select-path : (pen : Pen) (f : ℕ) → f < 120 → isFont (pen .font) f ≡ false
+      → Path (inPage (midpage ready pen)) (fontCommands (uses f (charactersOf is)) f) (inPage (midpage chosen (withFont pen f)))
+  unfolding fontCommands mayCome pageStateAfter inBytes withFont
+  select-path pen f s n = go (uses f (charactersOf is)) refl
+    where
+      go : (t : Bool) → uses f (charactersOf is) ≡ t
+          → Path (inPage (midpage ready pen)) (cond t (selects f) (definition f ++ selects f)) (inPage (midpage chosen (withFont pen f)))
+      go true u =
+          path-one
+          (page-next (midpage ready pen) (selecting f) tt
+          (both-true (isMore is) (uses f (charactersOf is) && not (isFont (pen .font) f)) is-more
+          (both-true (uses f (charactersOf is)) (not (isFont (pen .font) f)) u (not-so (isFont (pen .font) f) n))))
+          (selects-command f)
+      go false u =
+          step
+          (page-next (midpage ready pen) (defining f) tt
+          (both-true (isMore is) (true && (ltb f 120 && not (uses f (charactersOf is)))) is-more
+          (both-true (ltb f 120) (not (uses f (charactersOf is))) (lt-ltb f 120 s) (not-so (uses f (charactersOf is)) u))))
+          (definition-command f)
+          (path-one
+          (page-next (midpage named (withFont pen f)) (selecting f) tt (both-true (isMore is) (eqb f f) is-more (eq-eqb f f refl)))
+          (selects-command f))
+
+  record Fonted (pen : Pen) (f : ℕ) : Type 0 where
+    pub at-stage : Stage
+    pub before : beforeRight at-stage ≡ true
+    pub path : Path (inPage (midpage ready pen)) (fontChange (uses f (charactersOf is)) (pen .font) f) (inPage (midpage at-stage (withFont pen f)))
+
+  font-path : (pen : Pen) (f : ℕ) → f < 120 → Fonted pen f
+  unfolding fontChange withFont
+  font-path pen f s = go (pen .font) refl
+    where
+      other : (o : Option ℕ) → pen .font ≡ o → isFont o f ≡ false → fontChange (uses f (charactersOf is)) o f ≡ fontCommands (uses f (charactersOf is)) f → Fonted pen f
+      other o e n w =
+          record {
+            at-stage = chosen;
+            before = refl;
+            path =
+                subst (λ (b : List ℕ). Path (inPage (midpage ready pen)) b (inPage (midpage chosen (withFont pen f))))
+                (sym (ap (λ (p : Option ℕ). fontChange (uses f (charactersOf is)) p f) e ∙ w))
+                (select-path pen f s (ap (λ (p : Option ℕ). isFont p f) e ∙ n));
+          }
+
+      go : (o : Option ℕ) → pen .font ≡ o → Fonted pen f
+      go none e = other none e refl refl
+      go (some g) e = by-font (eqb g f) refl
+        where
+          by-font : (t : Bool) → eqb g f ≡ t → Fonted pen f
+          by-font true q =
+              let p : pen .font ≡ some f = e ∙ ap (λ (n : ℕ). some n) (eqb-true g f q) in
+              record {
+                at-stage = ready;
+                before = refl;
+                path =
+                    subst (λ (b : List ℕ). Path (inPage (midpage ready pen)) b (inPage (midpage ready (withFont pen f))))
+                    (sym (ap (λ (o : Option ℕ). fontChange (uses f (charactersOf is)) o f) e ∙ rw q))
+                    (subst (λ (o : Option ℕ). Path (inPage (midpage ready pen)) [] (inPage (midpage ready (record { font = o; x = pen .x; y = pen .y })))) p stop);
+              }
+          by-font false q = other (some g) e q (rw q)
+
+  -- to the place across
+  record Righted (s : Stage) (f : ℕ) (x y to : ℤ) : Type 0 where
+    pub at-stage : Stage
+    pub before : beforeDown at-stage ≡ true
+    pub path :
+        Path (inPage (midpage s (record { font = some f; x = x; y = y }))) (move RIGHT1 (to -ℤ x))
+        (inPage (midpage at-stage (record { font = some f; x = to; y = y })))
+
+  right-path : (s : Stage) (f : ℕ) (x y to : ℤ) → beforeRight s ≡ true → mag x < 4000 → validX (isDouble (sizeIndex f)) to ≡ true → Righted s f x y to
+  unfolding mayCome pageStateAfter inBytes
+  right-path s f x y to b k v = go (eqZ (to -ℤ x) (pos 0)) refl
+    where
+      before-down : (s : Stage) → beforeRight s ≡ true → beforeDown s ≡ true
+      before-down ready e = e
+      before-down named e = e
+      before-down chosen e = e
+      before-down moved e = refl
+      before-down lowered e = e
+
+      go : (t : Bool) → eqZ (to -ℤ x) (pos 0) ≡ t → Righted s f x y to
+      go true q =
+          let z = eqZ-true (to -ℤ x) (pos 0) q in
+          record {
+            at-stage = s;
+            before = before-down s b;
+            path =
+                subst (λ (w : List ℕ). Path (inPage (midpage s (record { font = some f; x = x; y = y }))) w (inPage (midpage s (record { font = some f; x = to; y = y }))))
+                (sym (move-none RIGHT1 (to -ℤ x) z))
+                (subst (λ (a : ℤ). Path (inPage (midpage s (record { font = some f; x = x; y = y }))) [] (inPage (midpage s (record { font = some f; x = a; y = y }))))
+                (none-moved x to z) stop);
+          }
+      go false q =
+          let m = to -ℤ x in
+          let r = back-and-there x to in
+          let a : validIn (some f) (x +ℤ m) ≡ true = subst (λ (z : ℤ). validX (isDouble (sizeIndex f)) z ≡ true) (sym r) v in
+          record {
+            at-stage = moved;
+            before = refl;
+            path =
+                subst (λ (w : List ℕ). Path (inPage (midpage s (record { font = some f; x = x; y = y }))) w (inPage (midpage moved (record { font = some f; x = to; y = y }))))
+                (sym (move-some RIGHT1 m q))
+                (subst (λ (z : ℤ). Path (inPage (midpage s (record { font = some f; x = x; y = y }))) (shortest RIGHT1 m) (inPage (midpage moved (record { font = some f; x = z; y = y })))) r
+                (path-one
+                (page-next (midpage s (record { font = some f; x = x; y = y })) (across m)
+                (let g = x-mag (isDouble (sizeIndex f)) to v in mag-dif to x (omega arith) (omega arith))
+                (both-true (isMore is) (beforeRight s && (not (eqZ m (pos 0)) && validIn (some f) (x +ℤ m))) is-more
+                (both-true (beforeRight s) (not (eqZ m (pos 0)) && validIn (some f) (x +ℤ m)) b
+                (both-true (not (eqZ m (pos 0))) (validIn (some f) (x +ℤ m)) (not-so (eqZ m (pos 0)) q) a))))
+                (right-command m)));
+          }
+
+  -- to the place down
+  record Lowered (s : Stage) (f : ℕ) (x y to : ℤ) : Type 0 where
+    pub at-stage : Stage
+    pub before : beforePut at-stage ≡ true
+    pub path :
+        Path (inPage (midpage s (record { font = some f; x = x; y = y }))) (move DOWN1 (to -ℤ y))
+        (inPage (midpage at-stage (record { font = some f; x = x; y = to })))
+
+  down-path : (s : Stage) (f : ℕ) (x y to : ℤ) → beforeDown s ≡ true → isDown y ≡ true → validX (isDouble (sizeIndex f)) x ≡ true → isDown to ≡ true → Lowered s f x y to
+  unfolding mayCome pageStateAfter inBytes
+  down-path s f x y to b k v d = go (eqZ (to -ℤ y) (pos 0)) refl
+    where
+      before-put : (s : Stage) → beforeDown s ≡ true → beforePut s ≡ true
+      before-put ready e = e
+      before-put named e = e
+      before-put chosen e = e
+      before-put moved e = e
+      before-put lowered e = refl
+
+      go : (t : Bool) → eqZ (to -ℤ y) (pos 0) ≡ t → Lowered s f x y to
+      go true q =
+          let z = eqZ-true (to -ℤ y) (pos 0) q in
+          record {
+            at-stage = s;
+            before = before-put s b;
+            path =
+                subst (λ (w : List ℕ). Path (inPage (midpage s (record { font = some f; x = x; y = y }))) w (inPage (midpage s (record { font = some f; x = x; y = to }))))
+                (sym (move-none DOWN1 (to -ℤ y) z))
+                (subst (λ (a : ℤ). Path (inPage (midpage s (record { font = some f; x = x; y = y }))) [] (inPage (midpage s (record { font = some f; x = x; y = a }))))
+                (none-moved y to z) stop);
+          }
+      go false q =
+          let m = to -ℤ y in
+          let r = back-and-there y to in
+          let a : isDown (y +ℤ m) ≡ true = subst (λ (z : ℤ). isDown z ≡ true) (sym r) d in
+          record {
+            at-stage = lowered;
+            before = refl;
+            path =
+                subst (λ (w : List ℕ). Path (inPage (midpage s (record { font = some f; x = x; y = y }))) w (inPage (midpage lowered (record { font = some f; x = x; y = to }))))
+                (sym (move-some DOWN1 m q))
+                (subst (λ (z : ℤ). Path (inPage (midpage s (record { font = some f; x = x; y = y }))) (shortest DOWN1 m) (inPage (midpage lowered (record { font = some f; x = x; y = z })))) r
+                (path-one
+                (page-next (midpage s (record { font = some f; x = x; y = y })) (downward m) (mag-dif to y (down-mag to d) (down-mag y k))
+                (both-true (isMore is) (beforeDown s && (not (eqZ m (pos 0)) && (validIn (some f) x && isDown (y +ℤ m)))) is-more
+                (both-true (beforeDown s) (not (eqZ m (pos 0)) && (validIn (some f) x && isDown (y +ℤ m))) b
+                (both-true (not (eqZ m (pos 0))) (validIn (some f) x && isDown (y +ℤ m)) (not-so (eqZ m (pos 0)) q)
+                (both-true (validIn (some f) x) (isDown (y +ℤ m)) v a)))))
+                (down-command m)));
+          }
+
+  put-path : (s : Stage) (c : Character) → beforePut s ≡ true → Valid heightEnd c → heightOf (vOf c) ≡ c .height .0
+      → Path (inPage (midpage s (penAt c))) (PUT1 ∷ c .code ∷ []) (inPage (record { items = is ++ (Placed c ∷ []); stage = ready; pen = penAt c }))
+  unfolding mayCome pageStateAfter inBytes characterOf penAt
+  put-path s c b v e =
+      subst (λ (h : ℤ). Path (inPage (midpage s (penAt c))) (PUT1 ∷ c .code ∷ [])
+      (inPage (record { items = is ++ (Placed (record { x = c .x; height = record { 0 = h }; font = c .font; code = c .code }) ∷ []); stage = ready; pen = penAt c }))) e
+      (path-one
+      (page-next (midpage s (penAt c)) (putting (c .code)) tt
+      (both-true (isMore is) (beforePut s && (validIn (some (c .font)) (c .x .0) && (leb 1 (c .code) && leb (c .code) 108))) is-more
+      (both-true (beforePut s) (validIn (some (c .font)) (c .x .0) && (leb 1 (c .code) && leb (c .code) 108)) b
+      (both-true (validIn (some (c .font)) (c .x .0)) (leb 1 (c .code) && leb (c .code) 108) (v .across)
+      (both-true (leb 1 (c .code)) (leb (c .code) 108) (le-leb 1 (c .code) (v .first)) (le-leb (c .code) 108 (v .last)))))))
+      (put-command (c .code)))
+
+  pub character-path : (pen : Pen) (c : Character) → mag (pen .x) < 4000 → isDown (pen .y) ≡ true → valid heightEnd c ≡ true
+      → Path (inPage (midpage ready pen)) (commandsOf (uses (c .font) (charactersOf is)) pen c) (inPage (record { items = is ++ (Placed c ∷ []); stage = ready; pen = penAt c }))
+  unfolding commandsOf penAt withFont
+  character-path pen c kx ky u =
+      let v = valid-parts {c = c} u in
+      let f = c .font in
+      let h = both (leZ (pos 0) (c .height .0)) (leZ (c .height .0) heightEnd) (v .height) in
+      let t = thrice-down (c .height .0) (h .0) (h .1) in
+      let a = font-path pen f (v .font) in
+      let r = right-path (a .at-stage) f (pen .x) (pen .y) (hOf c) (a .before) kx (v .across) in
+      let d = down-path (r .at-stage) f (hOf c) (pen .y) (vOf c) (r .before) ky (v .across) (t .0) in
+      path-append (a .path) (path-append (r .path) (path-append (d .path) (put-path (d .at-stage) c (d .before) v (t .1))))

@@ -1,0 +1,24 @@
+-- The files of the second edition, read back: where a file is refused, how it is read, and that the two agree.
+pub mod Beginning
+pub mod Reading
+pub mod BytesLaws
+pub mod SizeLaws
+pub mod CommandLaws
+pub mod Reached
+pub mod PieceLaws
+pub mod WayLaws
+pub mod PageLaws
+pub mod LiveLaws
+pub mod StateLaws
+pub mod Path
+pub mod CharacterPath
+pub mod PathLaws
+pub mod MayLaws
+pub mod StableLaws
+pub mod StepLaws
+pub mod BeginningLaws
+pub mod ReadLaws
+pub mod ReadingLaws
+pub mod Standing
+pub mod StandingLaws
+pub mod Demand3

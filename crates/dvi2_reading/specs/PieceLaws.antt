@@ -1,0 +1,164 @@
+-- Lists of items that the writer takes, numbers, and changes of font.
+-- Assumes nothing.
+use mathlib.Core.Path.{_≡_, refl, sym, ap, subst, _∙_}
+use mathlib.Core.Bool.{Bool, true, false, not, cond, _||_}
+use mathlib.Core.List.{List, [], _∷_, _++_, append-assoc}
+use mathlib.Core.Option.{Option, none, some}
+use Prim.Native.Nat.{ℕ, _+_, _-_, _*_, _/_, _%_, _<_}
+use native.Mathlib.Omega.{arith}
+use borrow.Author.Tests.{leb-true, eqb-true, eq-eqb, le-leb}
+use lib.Dec.{leb, eqb}
+use lib.IntN.{ℤ, pos, negsuc, _+ℤ_, _-ℤ_, _*ℤ_}
+use lib.ListN.{length, length-append}
+use lib.Signed.{mag, leZ}
+use Rattle.integers.specs.Parts.{integers, sum-parts, dif-parts, eqZ, true-eqZ}
+use Rattle.octets.specs.FieldLaws.{both}
+use Rattle.measure.specs.Place.{heightEnd, within}
+use Rattle.galley_file.specs.declared.character.Character.{Character}
+use Rattle.galley_file.specs.declared.item.Item.{Item}
+use Rattle.galley_file.specs.declared.item.Item.the-variants.{Placed, Cut}
+use Rattle.galley_file.specs.Character.{validX}
+use Rattle.galley_file.specs.CharacterLaws.{valid-parts}
+use Rattle.galley_file.specs.Item.{validItem, charactersOf}
+use Rattle.galley_file.specs.Galley.{maxItems, AllValid, nil, more}
+use Rattle.extents.specs.FontMarks.{uses}
+use Rattle.dvi2.specs.Command.{EOP}
+use Rattle.dvi2.specs.Writer.{selects, definition, fontCommands, fontChange, shortest, move, preambleBytes, bopBytes, firstPress, itemBytes, itemsBytes, pagesBytes, postambleBytes, commandBytes, bytes223, fillers, dvi2File}
+use Rattle.dvi2.specs.WriterLaws.{itemsBytes-more, press-behind}
+use Rattle.dvi2_reading.specs.Beginning.{Writable}
+use Rattle.dvi2_reading.specs.Reading.{isFont, isDown, heightOf, firstBop}
+use Rattle.dvi2_reading.specs.BytesLaws.{both-true, either}
+use Rattle.dvi2_reading.specs.Reached.{pressOf, openBytes}
+
+-- ---- lists of items
+
+pub all-append : {top : ℤ} {is js : List Item} → AllValid top is → AllValid top js → AllValid top (is ++ js)
+all-append nil w = w
+all-append (more v vs) w = more v (all-append vs w)
+
+-- one item more
+pub writable-more : (is : List Item) (i : Item) → Writable is → validItem heightEnd i ≡ true → length is < maxItems → Writable (is ++ (i ∷ []))
+writable-more is i w v l =
+    let n = length-append is (i ∷ []) in
+    record { all-valid = all-append (w .all-valid) (more v nil); few = omega arith }
+
+pub behind-is : (is : List Item) → pressOf is .behind ≡ charactersOf is
+unfolding firstPress
+behind-is is = press-behind firstPress is
+
+pub open-more : (is : List Item) (i : Item) → openBytes (is ++ (i ∷ [])) ≡ openBytes is ++ itemBytes (pressOf is) i
+unfolding openBytes
+open-more is i =
+    ap (λ (l : List ℕ). preambleBytes ++ (firstBop ++ l)) (itemsBytes-more firstPress is i)
+    ∙ ap (λ (l : List ℕ). preambleBytes ++ l) (sym (append-assoc firstBop (itemsBytes firstPress is) (itemBytes (pressOf is) i)))
+    ∙ sym (append-assoc preambleBytes (firstBop ++ itemsBytes firstPress is) (itemBytes (pressOf is) i))
+
+pub pages-open : (is : List Item) → pagesBytes is ≡ openBytes is ++ (EOP ∷ [])
+unfolding pagesBytes openBytes firstBop
+pages-open is =
+    ap (λ (l : List ℕ). preambleBytes ++ l) (sym (append-assoc (bopBytes 1 (negsuc 0)) (itemsBytes firstPress is) (EOP ∷ [])))
+    ∙ sym (append-assoc preambleBytes (bopBytes 1 (negsuc 0) ++ itemsBytes firstPress is) (EOP ∷ []))
+
+-- what stands in a file after its pages
+unfoldable pub closeBytes : List Item → List ℕ
+closeBytes is =
+    postambleBytes (pressOf is .bop) (pressOf is .page) (length (pagesBytes is)) (charactersOf is) ++ bytes223 (fillers (length (commandBytes is)))
+
+pub file-pages : (is : List Item) → dvi2File is ≡ pagesBytes is ++ closeBytes is
+unfolding dvi2File commandBytes closeBytes
+file-pages is =
+    append-assoc (pagesBytes is) (postambleBytes (pressOf is .bop) (pressOf is .page) (length (pagesBytes is)) (charactersOf is))
+    (bytes223 (fillers (length (commandBytes is))))
+
+pub file-open : (is : List Item) → dvi2File is ≡ openBytes is ++ ((EOP ∷ []) ++ closeBytes is)
+file-open is =
+    file-pages is ∙ ap (λ (l : List ℕ). l ++ closeBytes is) (pages-open is) ∙ append-assoc (openBytes is) (EOP ∷ []) (closeBytes is)
+
+-- ---- numbers
+
+pub there-and-back : (a m : ℤ) → (a +ℤ m) -ℤ a ≡ m
+there-and-back a m = omega (integers, sum-parts a m, dif-parts (a +ℤ m) a)
+
+pub nowhere : (a b : ℤ) → a ≡ b → a -ℤ b ≡ pos 0
+nowhere a b e = omega (integers, dif-parts a b)
+
+pub move-none : (op : ℕ) (m : ℤ) → m ≡ pos 0 → move op m ≡ []
+unfolding move
+move-none op m e = rw (true-eqZ m (pos 0) e)
+
+pub move-some : (op : ℕ) (m : ℤ) → eqZ m (pos 0) ≡ false → move op m ≡ shortest op m
+unfolding move
+move-some op m e = rw e
+
+-- three times the height is the place down
+pub thrice : (y : ℤ) → isDown y ≡ true → pos 3 *ℤ heightOf y ≡ y
+unfolding isDown heightOf
+thrice (pos n) e =
+    let b = both (eqb (n % 3) 0) (leb n 3000000) e in
+    let z = eqb-true (n % 3) 0 (b .0) in
+    ap pos (omega arith)
+thrice (negsuc n) e = let z : _≡_ {A = ℕ} 0 1 = cc in absurd (omega arith)
+
+pub height-valid : (y : ℤ) → isDown y ≡ true → within heightEnd (heightOf y) ≡ true
+unfolding isDown heightOf
+height-valid (pos n) e =
+    let b = both (eqb (n % 3) 0) (leb n 3000000) e in
+    let l = leb-true n 3000000 (b .1) in
+    both-true (leb 0 (n / 3)) (leb (n / 3) 1000000) (le-leb 0 (n / 3) (omega arith)) (le-leb (n / 3) 1000000 (omega arith))
+height-valid (negsuc n) e = let z : _≡_ {A = ℕ} 0 1 = cc in absurd (omega arith)
+
+pub x-mag : (d : Bool) (x : ℤ) → validX d x ≡ true → mag x < 4000
+x-mag true (pos n) e = let b = both (leZ (negsuc 54) (pos n)) (leZ (pos n) (pos 3184)) e in let l = leb-true n 3184 (b .1) in omega arith
+x-mag true (negsuc n) e = let b = both (leZ (negsuc 54) (negsuc n)) (leZ (negsuc n) (pos 3184)) e in let l = leb-true n 54 (b .0) in omega arith
+x-mag false (pos n) e = let b = both (leZ (pos 0) (pos n)) (leZ (pos n) (pos 3239)) e in let l = leb-true n 3239 (b .1) in omega arith
+x-mag false (negsuc n) e = let z : _≡_ {A = ℕ} 0 1 = cc in absurd (omega arith)
+
+pub zero-valid : (d : Bool) → validX d (pos 0) ≡ true
+zero-valid true = refl
+zero-valid false = refl
+
+-- ---- fonts
+
+pub uses-last : (f : ℕ) (cs : List Character) (c : Character) → c .font ≡ f → uses f (cs ++ (c ∷ [])) ≡ true
+unfolding uses
+uses-last f [] c e = rw (eq-eqb (c .font) f e)
+uses-last f (d ∷ cs) c e = rw (uses-last f cs c e) (or-right (eqb (d .font) f))
+  where
+    or-right : (t : Bool) → (t || true) ≡ true
+    or-right true = refl
+    or-right false = refl
+
+-- a font that is not used yet is defined and selected
+pub change-new : (cs : List Character) (o : Option ℕ) (f : ℕ) → uses f cs ≡ false → ((g : ℕ) → o ≡ some g → uses g cs ≡ true)
+    → fontChange (uses f cs) o f ≡ definition f ++ selects f
+unfolding fontChange fontCommands
+change-new cs none f u k = rw u
+change-new cs (some g) f u k = go (eqb g f) refl
+  where
+    go : (t : Bool) → eqb g f ≡ t → cond t [] (cond (uses f cs) (selects f) (definition f ++ selects f)) ≡ definition f ++ selects f
+    go true e =
+        let h : uses f cs ≡ true = ap (λ (j : ℕ). uses j cs) (sym (eqb-true g f e)) ∙ k g refl in
+        let z : true ≡ false = sym h ∙ u in
+        let y : _≡_ {A = ℕ} 0 1 = cc in
+        absurd (omega arith)
+    go false e = rw u
+
+-- one that is, and differs, is only selected
+pub change-used : (cs : List Character) (o : Option ℕ) (f : ℕ) → uses f cs ≡ true → isFont o f ≡ false → fontChange (uses f cs) o f ≡ selects f
+unfolding fontChange fontCommands
+change-used cs none f u n = rw u
+change-used cs (some g) f u n = rw (n, u)
+
+pub change-none : (cs : List Character) (f : ℕ) → fontChange (uses f cs) (some f) f ≡ []
+unfolding fontChange
+change-none cs f = rw (eq-eqb f f refl)
+
+-- a font that is used is one of the 120
+pub used-small : (f : ℕ) (is : List Item) → AllValid heightEnd is → uses f (charactersOf is) ≡ true → f < 120
+unfolding uses charactersOf
+used-small f [] v u = let z : _≡_ {A = ℕ} 0 1 = cc in absurd (omega arith)
+used-small f (Placed c ∷ is) (more v vs) u =
+    either (eqb (c .font) f) (uses f (charactersOf is)) u (f < 120)
+    (λ e. subst (λ (g : ℕ). g < 120) (eqb-true (c .font) f e) (valid-parts {c = c} v .font))
+    (λ e. used-small f is vs e)
+used-small f (Cut ∷ is) (more v vs) u = used-small f is vs u

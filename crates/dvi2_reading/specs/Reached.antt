@@ -1,0 +1,116 @@
+-- What stands behind a reader that has come to a state: the bytes that the writer has made by then, and that it can go on from there.
+--     openBytes      a file through some items
+--     wayTo          the commands from a press to a font and a place
+--     PageReached         inside a page
+--     Reached        in any state
+-- Assumes nothing.
+use mathlib.Core.Path.{_≡_}
+use mathlib.Core.Bool.{true}
+use mathlib.Core.List.{List, [], _∷_, _++_}
+use mathlib.Core.Option.{some}
+use Prim.Native.Nat.{ℕ, _<_}
+use lib.IntN.{_-ℤ_}
+use lib.ListN.{length}
+use lib.Signed.{mag}
+use Rattle.galley_file.specs.Font.{sizeIndex, isDouble}
+use Rattle.galley_file.specs.Character.{validX}
+use Rattle.galley_file.specs.declared.item.Item.{Item}
+use Rattle.galley_file.specs.Item.{charactersOf}
+use Rattle.galley_file.specs.Galley.{maxItems}
+use Rattle.extents.specs.FontMarks.{uses}
+use Rattle.dvi.specs.Writer.{Pen}
+use Rattle.dvi2.specs.Command.{RIGHT1, DOWN1}
+use Rattle.dvi2.specs.Writer.{selects, definition, fontChange, move, preambleBytes, Press, firstPress, itemsBytes, pressAll, pagesBytes, dvi2File}
+use Rattle.dvi2_reading.specs.Beginning.{Writable}
+use Rattle.dvi2_reading.specs.SizeLaws.{Command}
+use Rattle.dvi2_reading.specs.Reading.{Stage, ready, named, chosen, moved, lowered, PageState, isDown, withFont, firstBop, State, start, opened, inPage, between, closing}
+
+abbrev pub pressOf : List Item → Press
+pressOf is = pressAll firstPress is
+
+unfoldable pub openBytes : List Item → List ℕ
+openBytes is = preambleBytes ++ (firstBop ++ itemsBytes firstPress is)
+
+unfoldable pub wayTo : Press → ℕ → Pen → List ℕ
+wayTo p f to = fontChange (uses f (p .behind)) (p .pen .font) f ++ (move RIGHT1 (to .x -ℤ p .pen .x) ++ move DOWN1 (to .y -ℤ p .pen .y))
+
+-- ---- inside a page, by what is there of the next character; `rest` are its bytes
+
+pub record AtReady (is : List Item) (pen : Pen) (rest : List ℕ) : Type 0 where
+  pub pen-is : pen ≡ pressOf is .pen
+  pub rest-is : rest ≡ []
+  pub fonts : (g : ℕ) → pen .font ≡ some g → (g < 120) × (uses g (charactersOf is) ≡ true)
+
+pub record AtNamed (is : List Item) (pen : Pen) (rest : List ℕ) : Type 0 where
+  pub font : ℕ
+  pub small : font < 120
+  pub more : length is < maxItems
+  pub pen-is : pen ≡ withFont (pressOf is .pen) font
+  pub rest-is : rest ≡ definition font
+  pub change : fontChange (uses font (pressOf is .behind)) (pressOf is .pen .font) font ≡ definition font ++ selects font
+
+-- the font and the moves
+pub record Way (is : List Item) (pen : Pen) (rest : List ℕ) : Type 0 where
+  pub font : ℕ
+  pub font-is : pen .font ≡ some font
+  pub small : font < 120
+  pub rest-is : rest ≡ wayTo (pressOf is) font pen
+
+pub record AtChosen (is : List Item) (pen : Pen) (rest : List ℕ) : Type 0 where
+  pub way : Way is pen rest
+  pub more : length is < maxItems
+  pub x-is : pen .x ≡ pressOf is .pen .x
+  pub y-is : pen .y ≡ pressOf is .pen .y
+
+pub record AtMoved (is : List Item) (pen : Pen) (rest : List ℕ) : Type 0 where
+  pub way : Way is pen rest
+  pub more : length is < maxItems
+  pub x-valid : validX (isDouble (sizeIndex (way .font))) (pen .x) ≡ true
+  pub y-is : pen .y ≡ pressOf is .pen .y
+
+pub record AtLowered (is : List Item) (pen : Pen) (rest : List ℕ) : Type 0 where
+  pub way : Way is pen rest
+  pub more : length is < maxItems
+  pub x-valid : validX (isDouble (sizeIndex (way .font))) (pen .x) ≡ true
+
+abbrev pub Staged : Stage → List Item → Pen → List ℕ → Type 0
+Staged ready is pen rest = AtReady is pen rest
+Staged named is pen rest = AtNamed is pen rest
+Staged chosen is pen rest = AtChosen is pen rest
+Staged moved is pen rest = AtMoved is pen rest
+Staged lowered is pen rest = AtLowered is pen rest
+
+pub record PageReached (h : PageState) (bs : List ℕ) : Type 0 where
+  pub writable : Writable (h .items)
+  pub x-small : mag (h .pen .x) < 4000
+  pub y-down : isDown (h .pen .y) ≡ true
+  pub rest : List ℕ
+  pub bytes-are : bs ≡ openBytes (h .items) ++ rest
+  pub staged : Staged (h .stage) (h .items) (h .pen) rest
+
+-- ---- in any state
+
+unfoldable pub joined : List (List ℕ) → List ℕ
+joined [] = []
+joined (e ∷ es) = e ++ joined es
+
+pub record Between (is : List Item) (bs : List ℕ) : Type 0 where
+  pub writable : Writable is
+  pub bytes-are : bs ≡ pagesBytes is
+
+-- each is one command
+pub data Commands : List (List ℕ) → Type 0 where
+  no-more : Commands []
+  one-more : {e : List ℕ} {es : List (List ℕ)} → Command e → Commands es → Commands (e ∷ es)
+
+pub record Closing (is : List Item) (es : List (List ℕ)) (bs : List ℕ) : Type 0 where
+  pub writable : Writable is
+  pub bytes-are : bs ++ joined es ≡ dvi2File is
+  pub commands : Commands es
+
+abbrev pub Reached : State → List ℕ → Type 0
+Reached start bs = bs ≡ []
+Reached opened bs = bs ≡ preambleBytes
+Reached (inPage h) bs = PageReached h bs
+Reached (between is) bs = Between is bs
+Reached (closing is es) bs = Closing is es bs

@@ -1,0 +1,324 @@
+-- How a file of the second edition is read: command by command, each only if the writer may have made it there (document 02, "The second edition of DVI"). `Beginning`
+-- says what this comes to.
+--     same, begins      two lists are equal; one is a beginning of the other
+--     PageCommand       the commands that the writer uses inside a page, and inBytes their bytes
+--     commandOf         the only one of them that some bytes can be
+--     PageState              how far a page is read: the items that are whole, and what is there of the next character
+--     mayCome           a command may come next, and pageStateAfter the state after it
+--     State             how far a file is read
+--     next              the state after a whole command
+--     mayBegin          a command that may come next begins so
+--     step              what the next command leads to
+--     read              the items of a file, or the place where it is refused
+--     read2Result       what the reader gives for a file and a buffer of so many bytes
+use Prim.Native.Nat.{ℕ, zero, suc, _+_, _-_, _*_, _/_, _%_}
+use mathlib.Core.Bool.{Bool, true, false, not, cond, _&&_, _||_}
+use mathlib.Core.List.{List, [], _∷_, _++_, map}
+use mathlib.Core.Option.{Option, none, some}
+use lib.Dec.{ltb, leb, eqb}
+use lib.IntN.{ℤ, pos, negsuc, _+ℤ_, _-ℤ_}
+use lib.ListN.{length, getD, take}
+use Rattle.integers.specs.Parts.{eqZ}
+use Rattle.octets.specs.Octets.{bytes, signed}
+use Rattle.octets.specs.Answer.{Result, refusal, written, ifRoom, dviTooLong, noGalleyRoom, notOurs}
+use Rattle.galley_file.specs.Font.{sizeIndex, isDouble}
+use Rattle.galley_file.specs.declared.character.Character.{Character}
+use Rattle.galley_file.specs.declared.form.Form.the-variants.{New}
+use Rattle.galley_file.specs.declared.item.Item.{Item}
+use Rattle.galley_file.specs.declared.item.Item.the-variants.{Placed, Cut}
+use Rattle.galley_file.specs.Character.{validX}
+use Rattle.galley_file.specs.Item.{charactersOf}
+use Rattle.galley_file.specs.Galley.{maxItems, galley}
+use Rattle.extents.specs.FontMarks.{uses, usedFonts}
+use Rattle.dvi.specs.Writer.{Pen, newPen}
+use Rattle.dvi2.specs.Command.{PUT1, EOP, RIGHT1, DOWN1, FNTNUM0, FNT1, FNTDEF1, POSTPOST}
+use Rattle.dvi2.specs.File.{maxDvi2}
+use Rattle.dvi2.specs.Writer.{selects, definition, shortest, preambleBytes, bopBytes, Press, firstPress, pressAll, pagesBytes, postBytes, commandBytes, fillers}
+use Rattle.dvi2_reading.specs.Beginning.{parameters}
+
+-- ---- lists of bytes
+
+unfoldable pub same : List ℕ → List ℕ → Bool
+same [] [] = true
+same [] (y ∷ ys) = false
+same (x ∷ xs) [] = false
+same (x ∷ xs) (y ∷ ys) = eqb x y && same xs ys
+
+-- the first begins the second
+unfoldable pub begins : List ℕ → List ℕ → Bool
+begins [] ys = true
+begins (x ∷ xs) [] = false
+begins (x ∷ xs) (y ∷ ys) = eqb x y && begins xs ys
+
+-- some number below n
+unfoldable pub someBelow : ℕ → (ℕ → Bool) → Bool
+someBelow zero p = false
+someBelow (suc n) p = p n || someBelow n p
+
+-- ---- the commands of a page
+
+pub data PageCommand : Type 0 where
+  ending : PageCommand  -- eop
+  defining : ℕ → PageCommand  -- fnt_def1
+  selecting : ℕ → PageCommand  -- fnt_num or fnt1
+  across : ℤ → PageCommand  -- right
+  downward : ℤ → PageCommand  -- down
+  putting : ℕ → PageCommand  -- put1
+
+-- as the writer has them
+unfoldable pub inBytes : PageCommand → List ℕ
+inBytes ending = EOP ∷ []
+inBytes (defining f) = definition f
+inBytes (selecting f) = selects f
+inBytes (across m) = shortest RIGHT1 m
+inBytes (downward m) = shortest DOWN1 m
+inBytes (putting c) = PUT1 ∷ c ∷ []
+
+-- by the opcode; the bytes are then compared
+unfoldable pub commandOf : List ℕ → PageCommand
+commandOf [] = ending
+commandOf (op ∷ ps) =
+    cond (eqb op PUT1) (putting (getD ps 0 0))
+    (cond (eqb op EOP) ending
+    (cond (eqb op FNTDEF1) (defining (getD ps 0 0))
+    (cond (eqb op FNT1) (selecting (getD ps 0 0))
+    (cond (leb FNTNUM0 op) (selecting (op - FNTNUM0)) (cond (leb DOWN1 op) (downward (signed ps)) (across (signed ps)))))))
+
+-- ---- how far a page is read
+
+-- what is there of the next character
+pub data Stage : Type 0 where
+  ready : Stage  -- nothing
+  named : Stage  -- the definition of its font
+  chosen : Stage  -- its font, that differs from the last
+  moved : Stage  -- a move right, and perhaps the font
+  lowered : Stage  -- a move down, and perhaps these
+
+pub record PageState : Type 0 where
+  -- the items before it
+  pub items : List Item
+  pub stage : Stage
+  -- the font and the place to which the commands so far lead
+  pub pen : Pen
+
+abbrev pub isReady : Stage → Bool
+isReady ready = true
+isReady named = false
+isReady chosen = false
+isReady moved = false
+isReady lowered = false
+
+-- a move right, a move down, a put may follow
+abbrev pub beforeRight : Stage → Bool
+beforeRight ready = true
+beforeRight named = false
+beforeRight chosen = true
+beforeRight moved = false
+beforeRight lowered = false
+
+abbrev pub beforeDown : Stage → Bool
+beforeDown ready = true
+beforeDown named = false
+beforeDown chosen = true
+beforeDown moved = true
+beforeDown lowered = false
+
+abbrev pub beforePut : Stage → Bool
+beforePut ready = true
+beforePut named = false
+beforePut chosen = true
+beforePut moved = true
+beforePut lowered = true
+
+-- one item more is within the limit
+abbrev pub isMore : List Item → Bool
+isMore is = ltb (length is) maxItems
+
+abbrev pub isFont : Option ℕ → ℕ → Bool
+isFont none f = false
+isFont (some g) f = eqb g f
+
+-- after its definition only the font itself; else one that was defined and differs
+abbrev pub mayChoose : Stage → List Character → Option ℕ → ℕ → Bool
+mayChoose ready cs o f = uses f cs && not (isFont o f)
+mayChoose named cs o f = isFont o f
+mayChoose chosen cs o f = false
+mayChoose moved cs o f = false
+mayChoose lowered cs o f = false
+
+-- a character of this font may stand there
+abbrev pub validIn : Option ℕ → ℤ → Bool
+validIn none x = false
+validIn (some f) x = validX (isDouble (sizeIndex f)) x
+
+-- three times a height
+unfoldable pub isDown : ℤ → Bool
+isDown (pos n) = eqb (n % 3) 0 && leb n 3000000
+isDown (negsuc n) = false
+
+unfoldable pub mayCome : PageState → PageCommand → Bool
+mayCome h ending = isReady (h .stage)
+mayCome h (defining f) = isMore (h .items) && (isReady (h .stage) && (ltb f 120 && not (uses f (charactersOf (h .items)))))
+mayCome h (selecting f) = isMore (h .items) && mayChoose (h .stage) (charactersOf (h .items)) (h .pen .font) f
+mayCome h (across m) = isMore (h .items) && (beforeRight (h .stage) && (not (eqZ m (pos 0)) && validIn (h .pen .font) (h .pen .x +ℤ m)))
+mayCome h (downward m) =
+    isMore (h .items) && (beforeDown (h .stage) && (not (eqZ m (pos 0)) && (validIn (h .pen .font) (h .pen .x) && isDown (h .pen .y +ℤ m))))
+mayCome h (putting c) = isMore (h .items) && (beforePut (h .stage) && (validIn (h .pen .font) (h .pen .x) && (leb 1 c && leb c 108)))
+
+-- ---- the file
+
+pub data State : Type 0 where
+  start : State
+  -- the preamble is there
+  opened : State
+  inPage : PageState → State
+  -- eop, after these items
+  between : List Item → State
+  -- post, and these commands are to come
+  closing : List Item → List (List ℕ) → State
+
+abbrev pub fontIn : Option ℕ → ℕ
+fontIn none = 0
+fontIn (some f) = f
+
+unfoldable pub heightOf : ℤ → ℤ
+heightOf (pos n) = pos (n / 3)
+heightOf (negsuc n) = pos 0
+
+-- the character that is put
+unfoldable pub characterOf : Pen → ℕ → Character
+characterOf p c = record { x = record { 0 = p .x }; height = record { 0 = heightOf (p .y) }; font = fontIn (p .font); code = c }
+
+unfoldable pub withFont : Pen → ℕ → Pen
+withFont p f = record { font = some f; x = p .x; y = p .y }
+
+unfoldable pub pageStateAfter : PageState → PageCommand → State
+pageStateAfter h ending = between (h .items)
+pageStateAfter h (defining f) = inPage (record { items = h .items; stage = named; pen = withFont (h .pen) f })
+pageStateAfter h (selecting f) = inPage (record { items = h .items; stage = chosen; pen = withFont (h .pen) f })
+pageStateAfter h (across m) =
+    inPage (record { items = h .items; stage = moved; pen = record { font = h .pen .font; x = h .pen .x +ℤ m; y = h .pen .y } })
+pageStateAfter h (downward m) =
+    inPage (record { items = h .items; stage = lowered; pen = record { font = h .pen .font; x = h .pen .x; y = h .pen .y +ℤ m } })
+pageStateAfter h (putting c) = inPage (record { items = h .items ++ (Placed (characterOf (h .pen) c) ∷ []); stage = ready; pen = h .pen })
+
+-- at the start of a page
+unfoldable pub newPageState : List Item → PageState
+newPageState is = record { items = is; stage = ready; pen = newPen }
+
+-- the bop that may come, of the first page and of a further one
+unfoldable pub firstBop : List ℕ
+firstBop = bopBytes 1 (negsuc 0)
+
+unfoldable pub furtherBop : Press → List ℕ
+furtherBop p = bopBytes (suc (p .page)) (pos (p .bop))
+
+unfoldable pub postOf : List Item → List ℕ
+postOf is = postBytes (pressAll firstPress is .bop) (pressAll firstPress is .page) (charactersOf is)
+
+unfoldable pub fill : ℕ → List (List ℕ)
+fill zero = []
+fill (suc n) = (223 ∷ []) ∷ fill n
+
+-- the commands after post: the definitions, post_post, the bytes 223
+unfoldable pub closingOf : List Item → List (List ℕ)
+closingOf is =
+    map definition (usedFonts 120 (charactersOf is))
+    ++ ((POSTPOST ∷ bytes 4 (length (pagesBytes is)) ++ (2 ∷ [])) ∷ fill (fillers (length (commandBytes is))))
+
+-- ---- one command
+
+unfoldable pub only : List ℕ → List ℕ → State → Option State
+only c e q = cond (same c e) (some q) none
+
+unfoldable pub pageNext : PageState → List ℕ → PageCommand → Option State
+pageNext h c d = cond (same c (inBytes d) && mayCome h d) (some (pageStateAfter h d)) none
+
+-- after the whole command c
+unfoldable pub next : State → List ℕ → Option State
+next start c = only c preambleBytes opened
+next opened c = only c firstBop (inPage (newPageState []))
+next (inPage h) c = pageNext h c (commandOf c)
+next (between is) c =
+    cond (same c (postOf is)) (some (closing is (closingOf is)))
+    (cond (isMore is) (only c (furtherBop (pressAll firstPress is)) (inPage (newPageState (is ++ (Cut ∷ []))))) none)
+next (closing is []) c = none
+next (closing is (e ∷ es)) c = only c e (closing is es)
+
+-- a command that is cut short: one that may come begins so
+unfoldable pub mayBeginAs : PageState → List ℕ → PageCommand → Bool
+mayBeginAs h s d = begins s (inBytes d) && mayCome h d
+
+-- all that may come, but for eop, which is not cut short, and with one character for all
+unfoldable pub mayBeginIn : PageState → List ℕ → Bool
+mayBeginIn h s =
+    someBelow 120 (λ f. mayBeginAs h s (defining f))
+    || (someBelow 120 (λ f. mayBeginAs h s (selecting f))
+    || (someBelow 3295 (λ k. mayBeginAs h s (across ((pos k -ℤ pos 55) -ℤ h .pen .x)))
+    || (someBelow 1000001 (λ k. mayBeginAs h s (downward (pos (3 * k) -ℤ h .pen .y))) || mayBeginAs h s (putting 1))))
+
+unfoldable pub mayBegin : State → List ℕ → Bool
+mayBegin start s = begins s preambleBytes
+mayBegin opened s = begins s firstBop
+mayBegin (inPage h) s = mayBeginIn h s
+mayBegin (between is) s = begins s (postOf is) || isMore is && begins s (furtherBop (pressAll firstPress is))
+mayBegin (closing is []) s = false
+mayBegin (closing is (e ∷ es)) s = begins s e
+
+-- ---- the file
+
+pub data Read : Type 0 where
+  gives : List Item → Read
+  bad : ℕ → Read
+
+-- at the end of the file
+unfoldable pub atEnd : State → ℕ → Read
+atEnd start at = bad at
+atEnd opened at = bad at
+atEnd (inPage h) at = bad at
+atEnd (between is) at = bad at
+atEnd (closing is []) at = gives is
+atEnd (closing is (e ∷ es)) at = bad at
+
+-- ---- one command after another
+
+pub data Step : Type 0 where
+  -- no file goes on so
+  refuse : Step
+  -- the file ends inside a command that may come
+  short : Step
+  -- the state after the command, and the bytes of its parameters
+  go : State → ℕ → Step
+
+unfoldable pub wholeStep : ℕ → Option State → Step
+wholeStep n none = refuse
+wholeStep n (some r) = go r n
+
+-- the command with the opcode op before the bytes ps
+unfoldable pub step : State → ℕ → List ℕ → Step
+step q op ps =
+    cond (leb (parameters op ps) (length ps)) (wholeStep (parameters op ps) (next q (op ∷ take (parameters op ps) ps)))
+    (cond (mayBegin q (op ∷ ps)) short refuse)
+
+-- what a step leads to at a place, where the file ends at `end`; `rest` reads on
+unfoldable pub follow : ℕ → ℕ → Step → (State → ℕ → Read) → Read
+follow at end refuse rest = bad at
+follow at end short rest = bad end
+follow at end (go r n) rest = rest r n
+
+-- what is read from a state at a place, after so many bytes that are passed over
+unfoldable pub read : State → ℕ → ℕ → List ℕ → Read
+read q at n [] = atEnd q at
+read q at (suc n) (b ∷ bs) = read q (suc at) n bs
+read q at zero (b ∷ bs) = follow at (at + suc (length bs)) (step q b bs) (λ r n. read r (suc at) n bs)
+
+abbrev pub readFile : List ℕ → Read
+readFile s = read start 0 0 s
+
+unfoldable pub readResult : Read → Result
+readResult (gives is) = written (galley New is)
+readResult (bad place) = refusal notOurs place
+
+-- 20, 46, 12
+unfoldable pub read2Result : List ℕ → ℕ → Result
+read2Result dvi room = cond (ltb maxDvi2 (length dvi)) (refusal dviTooLong 0) (ifRoom noGalleyRoom room (readResult (readFile dvi)))

@@ -1,0 +1,3 @@
+-- The values of the writer's code in terms of the format.
+pub mod Press
+pub mod Postamble

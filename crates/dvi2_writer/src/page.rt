@@ -1,0 +1,98 @@
+// The preamble and the pages: bop, the commands of characters, eop.
+use crate::press;
+use crate::press::Press;
+use dvi2_commands::command;
+use dvi2_commands::pen;
+use dvi2_commands::put;
+use extents::fonts;
+use galley_file::character::Character;
+use galley_file::form::Form;
+use galley_file::item;
+use galley_file::item::Item;
+use octets::field;
+use octets::number;
+ghost use mathlib.Core.Path.{_≡_};
+ghost use mathlib.Core.Bool.{true};
+ghost use mathlib.Core.List.{List, [], _∷_, _++_};
+ghost use Prim.Native.Nat.{_+_, _<_};
+ghost use Rattle.octets.specs.Answer.{accepted};
+ghost use Rattle.measure.specs.Place.{heightEnd};
+ghost use Rattle.galley_file.specs.declared.form.Form.the-variants.{New};
+ghost use Rattle.galley_file.specs.declared.item.Item.{Item as ItemOf};
+ghost use Rattle.galley_file.specs.declared.item.Item.the-variants.{Placed, Cut};
+ghost use Rattle.galley_file.specs.Character.{valid};
+ghost use Rattle.galley_file.specs.Item.{validItem};
+ghost use Rattle.galley_file.specs.Galley.{itemsOf};
+ghost use Rattle.galley_file.specs.Outcome.{checkOutcome};
+ghost use Rattle.dvi2.specs.Writer.{firstPress, itemBytes, itemsBytes, pressAll, pagesBytes};
+ghost use Rattle.octets.specs.PutIfRoom.{PutIfRoom};
+ghost use Rattle.dvi2_writer.specs.Press.{Tallied, PressIs, Ready};
+
+const EOP: u8 = 140;
+
+// Writes the commands of c.
+fn put_character(out: &mut [u8], p: Press, c: Character) -> Press
+    requires { ⌜ Ready p × (valid heightEnd c ≡ true) ⌝ }
+    ensures { λ r. ⌜ ((is : List ItemOf) → PressIs p is → (PutIfRoom (now (out .entry)) (p .at) (itemBytes (pressAll firstPress is) (Placed c)) (now (out .exit)) (r .at)) × PressIs r (is ++ (Placed c ∷ []))) ⌝ }
+{
+    let known = fonts::has_font(p.extents.fonts, c.font);
+    let to = command::put_commands(out, p.at, known, p.pen, c);
+    press::after_character(p, c, to)
+}
+
+// Writes a cut: ends the page, and starts the next.
+fn put_cut(out: &mut [u8], p: Press) -> Press
+    requires { ⌜ Ready p ⌝ }
+    ensures { λ r. ⌜ ((is : List ItemOf) → PressIs p is → (PutIfRoom (now (out .entry)) (p .at) (itemBytes (pressAll firstPress is) Cut) (now (out .exit)) (r .at)) × PressIs r (is ++ (Cut ∷ []))) ⌝ }
+{
+    let bop = put::put_byte(out, p.at, EOP);
+    let page = p.page + 1;
+    let to = dvi2_frame::put_bop(out, bop, page, p.bop as i32);
+    let pen = pen::new_pen();
+    let extents = p.extents;
+    Press {
+        pen: pen,
+        extents: extents,
+        page: page,
+        bop: bop as u32,
+        at: to,
+    }
+}
+
+// Writes an item.
+fn put_item(out: &mut [u8], p: Press, i: Item) -> Press
+    requires { ⌜ Ready p × (validItem heightEnd i ≡ true) ⌝ }
+    ensures { λ r. ⌜ ((is : List ItemOf) → PressIs p is → (PutIfRoom (now (out .entry)) (p .at) (itemBytes (pressAll firstPress is) i) (now (out .exit)) (r .at)) × PressIs r (is ++ (i ∷ []))) ⌝ }
+{
+    match i {
+        Item::Placed(c) => put_character(out, p, c),
+        Item::Cut => put_cut(out, p),
+    }
+}
+
+// Writes the items of a checked galley after the first bop.
+fn put_items(g: &[u8], count: usize, out: &mut [u8]) -> Press
+    requires { ⌜ accepted count ≡ checkOutcome New (now g) ⌝ }
+    ensures { λ r. ⌜ (PutIfRoom (now (out .entry)) 60 (itemsBytes firstPress (itemsOf New (now (g .entry)))) (now (out .exit)) (r .at)) × PressIs r (itemsOf New (now (g .entry))) ⌝ }
+{
+    let mut p = press::first_press();
+    let mut at: usize = 0;
+    while at + field::END_FIELD < g.len() {
+        let i = item::item_at(Form::New, g, at);
+        p = put_item(out, p, i);
+        at += item::item_size(Form::New, i);
+    }
+    p
+}
+
+// Writes the preamble and the pages of a checked galley; gives the press after the last eop.
+pub fn put_pages(g: &[u8], count: usize, out: &mut [u8]) -> Press
+    requires { ⌜ accepted count ≡ checkOutcome New (now g) ⌝ }
+    ensures { λ r. ⌜ (PutIfRoom (now (out .entry)) 0 (pagesBytes (itemsOf New (now (g .entry)))) (now (out .exit)) (r .at)) × Tallied r (itemsOf New (now (g .entry))) ⌝ }
+{
+    let bop = dvi2_frame::put_preamble(out);
+    dvi2_frame::put_bop(out, bop, 1, -1);
+    let mut p = put_items(g, count, out);
+    p.at = put::put_byte(out, p.at, EOP);
+    p
+}
