@@ -55,6 +55,7 @@ fn print_operations() {
     let galley = galley_of_length(&tape, GALLEY_LIMIT);
     print_row("check a galley", "yearbook", &galley, &mut check_galley(&galley));
     print_row("read back the last character", "yearbook", &galley, &mut read_back(&galley));
+    print_row("go from item to item", "yearbook", &galley, &mut items(&galley));
     print_row("write a DVI file", "yearbook", &galley, &mut write_dvi(&galley));
     print_row("reprint", "yearbook", &galley, &mut reprint(&galley));
     print_row("write the second edition", "yearbook", &galley, &mut write_dvi2(&galley));
@@ -229,6 +230,22 @@ fn read_back(galley: &[u8]) -> Contest<'_> {
         library: Box::new(move || done(spatecanter::read_back(black_box(galley), last))),
         quick: Box::new(move || done(quick::read_back(black_box(galley), last))),
     }
+}
+
+fn items(galley: &[u8]) -> Contest<'_> {
+    let all = move |length_at: fn(&[u8], usize) -> usize| {
+        let mut at = 0;
+        loop {
+            match length_at(black_box(galley), at) {
+                0 => return at,
+                length => at += length,
+            }
+        }
+    };
+    let library = |galley: &[u8], at| spatecanter::item_at(galley, at).map_or(0, |(_, length)| length);
+    let quick = |galley: &[u8], at| quick::item_at(galley, at).0[2];
+    assert_eq!((all(library), all(quick)), (galley.len() - 7, galley.len() - 7));
+    Contest { library: Box::new(move || done(all(library))), quick: Box::new(move || done(all(quick))) }
 }
 
 fn write_dvi(galley: &[u8]) -> Contest<'_> {

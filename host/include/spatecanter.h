@@ -8,16 +8,16 @@
  *
  *     answer[0]  number  0 if accepted, else the refusal's number (enum sp_number)
  *     answer[1]  place   0 if accepted, else where the input was refused
- *     answer[2]  length  the bytes written if accepted (sp_check_galley: the characters; sp_read_back and
- *                        sp_count_tape: 0), else 0
+ *     answer[2]  length  the bytes written if accepted (sp_check_galley: the characters; sp_item_at: the bytes of
+ *                        the item's field; sp_read_back and sp_count_tape: 0), else 0
  *
  * An accepted call leaves the buffer beyond the bytes written as it was. A refused call changes no
  * byte of any buffer. To learn how long a buffer must be, call with a length of 0: if the input is good,
  * the answer is the refusal for room, and its place is the number of bytes needed.
  *
  * LENT MEMORY. A pointer and the length after it make one slice; the length counts bytes, for `widths`
- * 32-bit numbers. With length 0 the pointer may be null; `answer`, `character`, a running tape and a report may
- * not. A buffer that is written must not overlap anything else in the call. Nothing is allocated, kept or freed,
+ * 32-bit numbers. With length 0 the pointer may be null; `answer`, `character`, `item`, a running tape and a report
+ * may not. A buffer that is written must not overlap anything else in the call. Nothing is allocated, kept or freed,
  * and no state is held between calls but a running tape or a report in the caller's array: any number of threads
  * may call at once, each with its own. A stack of 256 KB is enough.
  *
@@ -70,6 +70,10 @@ extern "C" {
 /* The greatest height of a character, and the greatest that DVI of 1980 and the old form hold. */
 #define SP_HEIGHT_LIMIT     1000000
 #define SP_DVI_HEIGHT_LIMIT 65535
+
+/* The kinds of a galley's items. */
+#define SP_ITEM_CHARACTER   1
+#define SP_ITEM_CUT         2
 
 /* The words of a running tape. */
 #define SP_TAPE_WORDS       23
@@ -134,7 +138,7 @@ enum sp_number {
     SP_GALLEY_TOO_LONG   = 40, /* galley over SP_GALLEY_LIMIT, or of the old form over
                                   SP_OLD_GALLEY_LIMIT; 0 */
     SP_GALLEY_MALFORMED  = 41, /* a bad field, one cut short included, or a character or cut past
-                                  SP_ITEM_LIMIT; the first one's offset.
+                                  SP_ITEM_LIMIT; the first one's offset. No item at a place; that place.
                                   Bytes after End; the first one's offset.
                                   No End; the galley's length */
     SP_DVI_ROOM          = 42, /* DVI buffer too short; the bytes needed */
@@ -181,6 +185,26 @@ void sp_check_galley(const uint8_t *galley, size_t galley_len,
  */
 void sp_read_back(const uint8_t *galley, size_t galley_len, size_t n,
                   size_t answer[3], int32_t character[4]);
+
+/*
+ * Tells the item whose whole field starts at the offset `at` of a galley: item[0] is its kind, SP_ITEM_CHARACTER or
+ * SP_ITEM_CUT, and of a character item[1] is its x, [2] its height, [3] its font number, [4] the character. These
+ * four are 0 for a cut, and all five in a refusal. The length is that of the field; the next one starts behind it.
+ * Refusal: 41, at `at`, wherever no whole field of a valid character or a cut starts: at End, and past the galley
+ * too. Only the field itself is looked at, so that each call takes the same time. This goes through a galley that
+ * sp_check_galley accepts, and ends at End:
+ *
+ *     size_t at = 0;
+ *     for (;;) {
+ *         sp_item_at(galley, galley_len, at, answer, item);
+ *         if (answer[0] != SP_ACCEPTED)
+ *             break;
+ *         ...
+ *         at += answer[2];
+ *     }
+ */
+void sp_item_at(const uint8_t *galley, size_t galley_len, size_t at,
+                size_t answer[3], int32_t item[5]);
 
 /*
  * Writes a galley as a DVI file of 1980. Its pages are numbered 1, 2, 3, ...: each cut ends a page and starts the

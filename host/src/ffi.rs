@@ -6,6 +6,10 @@
 /// The words of a running tape.
 pub const TAPE_WORDS: usize = 23;
 
+/// The kinds of an item.
+pub const ITEM_CHARACTER: i32 = 1;
+pub const ITEM_CUT: i32 = 2;
+
 extern "C" {
     pub fn sp_read_tape(
         tape: *const u8,
@@ -24,6 +28,14 @@ extern "C" {
         n: usize,
         answer: *mut [usize; 3],
         character: *mut [i32; 4],
+    );
+
+    pub fn sp_item_at(
+        galley: *const u8,
+        galley_len: usize,
+        at: usize,
+        answer: *mut [usize; 3],
+        item: *mut [i32; 5],
     );
 
     pub fn sp_write_dvi(

@@ -1,5 +1,7 @@
 //! The characters and cuts of a galley.
 
+use crate::operations::item_at;
+
 /// A field of a galley, End apart.
 #[derive(Clone, Copy, Debug, PartialEq, Eq)]
 pub enum Item {
@@ -53,10 +55,10 @@ impl Character {
 
 /// The characters and cuts of a galley that the check accepts, in its order.
 pub fn items(galley: &[u8]) -> impl Iterator<Item = Item> + '_ {
-    let mut rest = galley;
+    let mut at = 0;
     std::iter::from_fn(move || {
-        let (item, after) = split(rest)?;
-        rest = after;
+        let (item, length) = item_at(galley, at).ok()?;
+        at += length;
         Some(item)
     })
 }
@@ -79,24 +81,4 @@ pub fn pages(galley: &[u8]) -> Vec<Vec<Character>> {
         }
     }
     pages
-}
-
-/// The first field and what follows it; nothing at End.
-fn split(rest: &[u8]) -> Option<(Item, &[u8])> {
-    let (header, body) = rest.split_first_chunk()?;
-    match header {
-        [7, 0, 8] => body.split_first_chunk().map(|(body, after)| (Item::Character(character(body)), after)),
-        [6, 0, 0] => Some((Item::Cut, body)),
-        _ => None,
-    }
-}
-
-fn character(body: &[u8; 8]) -> Character {
-    let [x1, x2, height @ .., font_number, code] = *body;
-    Character {
-        x: i16::from_be_bytes([x1, x2]).into(),
-        height: i32::from_be_bytes(height),
-        font_number: font_number.into(),
-        code: code.into(),
-    }
 }

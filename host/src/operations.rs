@@ -1,7 +1,7 @@
 //! The library's operations on slices. Each `…_into` fills a lent buffer; its namesake makes a vector.
 
 use crate::ffi;
-use crate::galley::Character;
+use crate::galley::{Character, Item};
 use crate::machine::Machine;
 use crate::refusal::{number, Outcome, Refusal};
 
@@ -72,6 +72,23 @@ pub fn read_back(galley: &[u8], n: usize) -> Result<Character, Refusal> {
     }
     let [x, height, font_number, code] = character;
     outcome(answer).map(|_| Character { x, height, font_number, code })
+}
+
+/// The item whose whole field starts at a place of a galley, and the bytes of that field. `galley::items` goes
+/// from each to the next.
+pub fn item_at(galley: &[u8], at: usize) -> Result<(Item, usize), Refusal> {
+    let mut answer = [0; 3];
+    let mut item = [0; 5];
+    // SAFETY: the pointers come from a live slice, with its length, and from live arrays.
+    unsafe {
+        ffi::sp_item_at(galley.as_ptr(), galley.len(), at, &mut answer, &mut item);
+    }
+    outcome(answer).map(|length| match item {
+        [ffi::ITEM_CUT, ..] => (Item::Cut, length),
+        [_, x, height, font_number, code] => {
+            (Item::Character(Character { x, height, font_number, code }), length)
+        }
+    })
 }
 
 /// Writes a galley as a DVI file, with a new page for each cut; the length is the file's. A height above

@@ -1,4 +1,4 @@
-//! A galley checked and read back.
+//! A galley checked, read back, and gone through item by item.
 
 use super::{accepted, refused};
 
@@ -23,13 +23,30 @@ pub fn read_back(galley: &[u8], n: usize) -> ([usize; 3], [i32; 4]) {
     let mut left = n;
     for page in pages(galley, count) {
         if let Some(field) = page.get(left) {
-            let word = body(field);
-            let character = [across(word), height(word) as i32, font_number(word) as i32, code(word).into()];
-            return (accepted(0), character);
+            return (accepted(0), numbers(body(field)));
         }
         left -= page.len();
     }
     (refused((11, 0)), [0; 4])
+}
+
+/// The item at a place: 1 and a character's numbers, or 2 for a cut.
+#[inline(never)]
+pub fn item_at(galley: &[u8], at: usize) -> ([usize; 3], [i32; 5]) {
+    let rest = galley.get(at..).unwrap_or_default();
+    match rest.first_chunk() {
+        Some(field) if is_good(field) => {
+            let [x, height, font_number, code] = numbers(body(field));
+            (accepted(field.len()), [1, x, height, font_number, code])
+        }
+        _ if rest.starts_with(&[6, 0, 0]) => (accepted(3), [2, 0, 0, 0, 0]),
+        _ => (refused((41, at)), [0; 5]),
+    }
+}
+
+/// X, height, font number and character.
+fn numbers(word: u64) -> [i32; 4] {
+    [across(word), height(word) as i32, font_number(word) as i32, code(word).into()]
 }
 
 /// How many characters and cuts a galley has.

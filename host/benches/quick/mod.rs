@@ -19,7 +19,7 @@ pub use back::dvi_to_galley;
 pub use convert::{to_new, to_old};
 pub use edition2::write_dvi2;
 pub use edition2_reader::read_dvi2;
-pub use galley::{check_galley, read_back};
+pub use galley::{check_galley, item_at, read_back};
 pub use punch::punch_tape;
 pub use reader::read_dvi;
 pub use report::count_tape;

@@ -114,10 +114,11 @@ impl Comparison {
         self.tape(tape, 8);
     }
 
-    /// A galley checked, read back, written in both editions, reprinted and punched.
+    /// A galley checked, read back, looked at in a place, written in both editions, reprinted and punched.
     pub fn galley(&mut self, galley: &[u8]) {
         self.check_galley(galley);
         self.read_back(galley);
+        self.item_at(galley);
         self.write_dvi(galley);
         self.reprint(galley);
         self.write_dvi2(galley);
@@ -147,6 +148,16 @@ impl Comparison {
             shown(galley)
         );
         self.agree("read_back", galley, answer, expected);
+    }
+
+    pub fn item_at(&mut self, galley: &[u8]) {
+        let lent = Lent::holding(&mut self.random, galley);
+        let at = self.place(galley);
+        let (expected, expected_item) = (PLAIN.item_at)(galley, at);
+        let (answer, item) = (self.implementation.item_at)(lent.slice(), at);
+        lent.still_holds(galley);
+        assert_eq!(item, expected_item, "{}, place {at} of {}", self.implementation.name, shown(galley));
+        self.agree("item_at", galley, answer, expected);
     }
 
     pub fn write_dvi(&mut self, galley: &[u8]) {
@@ -421,6 +432,22 @@ impl Comparison {
             1 => usize::MAX,
             2 => count.saturating_sub(1),
             _ => self.random.below(count + 1),
+        }
+    }
+
+    /// A place in a galley or past it, as often as not the start of a field.
+    fn place(&mut self, galley: &[u8]) -> usize {
+        match self.random.below(8) {
+            0 => galley.len(),
+            1 => usize::MAX,
+            2 | 3 => self.random.below(galley.len() + 12),
+            _ => {
+                let mut at = 0;
+                for _ in 0..self.random.below(20) {
+                    at += plain::item_at(galley, at).map_or(0, |(_, length)| length);
+                }
+                at
+            }
         }
     }
 

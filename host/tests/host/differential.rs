@@ -399,7 +399,7 @@ fn each_byte_set(bytes: &[u8], value: u8, mut take: impl FnMut(&[u8])) {
 
 /// The cases are worth their number: each answer that small inputs can get was met often.
 fn every_number_is_met(comparison: &Comparison) {
-    let numbers: [(&str, &[usize]); 18] = [
+    let numbers: [(&str, &[usize]); 19] = [
         ("read_tape, 4 fonts", &[0, 2, 3, 4, 5, 6, 7, 8, 9, 10, 12]),
         ("read_tape, 8 fonts", &[0, 2, 3, 4, 5, 6, 7, 8, 9, 10, 12]),
         ("read_tape, no machine", &[50]),
@@ -408,6 +408,7 @@ fn every_number_is_met(comparison: &Comparison) {
         ("close", &[0, 2, 3, 4, 5, 6, 7, 8, 9, 10, 12, 13]),
         ("check_galley", &[0, 41]),
         ("read_back", &[0, 41, 11]),
+        ("item_at", &[0, 41]),
         ("write_dvi", &[0, 41, 43, 42]),
         ("read_dvi", &[0, 31, 21, 22, 23, 24, 25, 26, 27, 28, 29, 30]),
         ("dvi_to_galley", &[0, 31, 21, 22, 23, 24, 25, 26, 27, 28, 29, 45, 12]),

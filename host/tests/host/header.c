@@ -127,6 +127,26 @@ static void running_tapes(void)
     expect("the refusal repeated", SP_ILLEGAL_CODE, 3, 0);
 }
 
+/* A character and a cut, as the header's loop meets them. */
+static void one_by_one(void)
+{
+    static const int32_t expected[][5] = {{SP_ITEM_CHARACTER, 3, 0, 2, 9}, {SP_ITEM_CUT, 0, 0, 0, 0}, {0, 0, 0, 0, 0}};
+    int32_t item[5] = {7, 7, 7, 7, 7};
+    size_t at = 0, number = 0;
+    for (;;) {
+        sp_item_at(new_galley, sizeof new_galley, at, answer, item);
+        expect_true("an item", number < 3 && memcmp(item, expected[number], sizeof item) == 0);
+        if (answer[0] != SP_ACCEPTED)
+            break;
+        at += answer[2];
+        number++;
+    }
+    expect("no item at End", SP_GALLEY_MALFORMED, sizeof new_galley - sizeof end, 0);
+    expect_true("the number of items", number == 2);
+    sp_item_at(new_galley, sizeof new_galley, SIZE_MAX, answer, item);
+    expect("no item past the galley", SP_GALLEY_MALFORMED, SIZE_MAX, 0);
+}
+
 static void galleys(void)
 {
     int32_t character[4] = {7, 7, 7, 7};
@@ -140,6 +160,7 @@ static void galleys(void)
     expect_true("no character", character[0] == 0 && character[1] == 0 && character[2] == 0 && character[3] == 0);
     sp_check_galley(galley, sizeof galley - 1, answer);
     expect("malformed", SP_GALLEY_MALFORMED, 22, 0);
+    one_by_one();
     sp_write_dvi(galley, sizeof galley, room, sizeof dvi - 1, answer);
     expect("room for a DVI file", SP_DVI_ROOM, sizeof dvi, 0);
 }
@@ -385,7 +406,7 @@ static void reports(void)
 
 static void nulls(void)
 {
-    int32_t character[4];
+    int32_t character[4], item[5];
     uint64_t words[SP_TAPE_WORDS];
     sp_new_tape(words);
     sp_start(words, 8, answer);
@@ -403,6 +424,8 @@ static void nulls(void)
     expect("null galley", SP_GALLEY_MALFORMED, 0, 0);
     sp_read_back(NULL, 0, 0, answer, character);
     expect("null galley read back", SP_GALLEY_MALFORMED, 0, 0);
+    sp_item_at(NULL, 0, 0, answer, item);
+    expect("an item of a null galley", SP_GALLEY_MALFORMED, 0, 0);
     sp_write_dvi(NULL, 0, NULL, 0, answer);
     expect("null galley written", SP_GALLEY_MALFORMED, 0, 0);
     sp_write_dvi(galley, sizeof galley, NULL, 0, answer);

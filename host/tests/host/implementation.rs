@@ -22,6 +22,7 @@ pub struct Implementation {
     pub read_tape: fn(&[u8], u32, &mut [u8]) -> Answer,
     pub check_galley: fn(&[u8]) -> Answer,
     pub read_back: fn(&[u8], usize) -> (Answer, [i32; 4]),
+    pub item_at: fn(&[u8], usize) -> (Answer, [i32; 5]),
     pub write_dvi: Fill,
     pub read_dvi: ReadFile,
     pub dvi_to_galley: ReadFile,
@@ -65,6 +66,13 @@ pub const PLAIN: Implementation = Implementation {
             ([0; 3], [x, height as i32, font_number, code])
         }
         Err((number, place)) => ([number, place, 0], [0; 4]),
+    },
+    item_at: |galley, at| match plain::item_at(galley, at) {
+        Ok((plain::Item::Character(plain::Character { x, height, font_number, code }), length)) => {
+            ([0, 0, length], [1, x, height as i32, font_number, code])
+        }
+        Ok((plain::Item::Cut, length)) => ([0, 0, length], [2, 0, 0, 0, 0]),
+        Err((number, place)) => ([number, place, 0], [0; 5]),
     },
     write_dvi: |galley, dvi| filled(plain::write_dvi(galley), dvi, 42),
     read_dvi: |dvi, widths, sheet| filled(plain::read_dvi(dvi, widths), sheet, 30),
@@ -122,6 +130,7 @@ pub const QUICK: Implementation = Implementation {
     read_tape: quick::read_tape,
     check_galley: quick::check_galley,
     read_back: quick::read_back,
+    item_at: quick::item_at,
     write_dvi: quick::write_dvi,
     read_dvi: quick::read_dvi,
     dvi_to_galley: quick::dvi_to_galley,
@@ -174,6 +183,15 @@ pub const LIBRARY: Implementation = Implementation {
         let [before, x, height, font_number, code, after] = lent;
         assert_eq!([before, after], [0x5A5A_5A5A; 2], "written beside the character");
         (answer, [x, height, font_number, code])
+    },
+    item_at: |galley, at| {
+        let mut lent = [0x5A5A_5A5A_i32; 7];
+        let item = lent[1..6].as_mut_ptr().cast();
+        let answer =
+            answered(|answer| unsafe { ffi::sp_item_at(galley.as_ptr(), galley.len(), at, answer, item) });
+        let [before, kind, x, height, font_number, code, after] = lent;
+        assert_eq!([before, after], [0x5A5A_5A5A; 2], "written beside the item");
+        (answer, [kind, x, height, font_number, code])
     },
     write_dvi: |galley, dvi| {
         answered(|answer| unsafe {

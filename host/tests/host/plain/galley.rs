@@ -121,40 +121,38 @@ pub fn items(form: Form, galley: &[u8]) -> Result<Vec<Item>, Refused> {
     }
     let mut items = Vec::new();
     let mut place = 0;
-    loop {
-        let bad = Err((41, place));
-        let rest = &galley[place..];
-        if rest.len() < 3 {
-            return bad;
+    while let Some(item) = first(form, &galley[place..]) {
+        if items.len() == 1_048_576 {
+            return Err((41, place));
         }
-        let (tag, length) = (rest[0], usize::from(rest[1]) * 256 + usize::from(rest[2]));
-        if rest.len() < 3 + length {
-            return bad;
-        }
-        let body = &rest[3..3 + length];
-        place += 3 + length;
-        if items.len() == 1_048_576 && tag != 2 {
-            return bad;
-        }
-        if tag == form.tag && length == 4 + form.height_bytes {
-            let character = Character::of(form, body);
-            if !character.is_valid(form) {
-                return bad;
-            }
-            items.push(Item::Character(character));
-        } else if tag == 6 && length == 0 {
-            items.push(Item::Cut);
-        } else if tag == 2 && length == 4 {
-            let count = u32::from_be_bytes([body[0], body[1], body[2], body[3]]);
-            if count as usize != characters(&items).len() {
-                return bad;
-            }
-            if place < galley.len() {
-                return Err((41, place));
-            }
-            return Ok(items);
-        } else {
-            return bad;
-        }
+        place += item.field(form).len();
+        items.push(item);
     }
+    let count = characters(&items).len() as u32;
+    let end = field(2, &count.to_be_bytes());
+    if !galley[place..].starts_with(&end) {
+        return Err((41, place));
+    }
+    if place + end.len() < galley.len() {
+        return Err((41, place + end.len()));
+    }
+    Ok(items)
+}
+
+/// The item whose field starts at a place, and the bytes of that field.
+pub fn item_at(galley: &[u8], at: usize) -> Result<(Item, usize), Refused> {
+    let item = galley.get(at..).and_then(|rest| first(NEW, rest)).ok_or((41, at))?;
+    Ok((item, item.field(NEW).len()))
+}
+
+/// The item whose whole field comes first.
+fn first(form: Form, rest: &[u8]) -> Option<Item> {
+    let (head, rest) = rest.split_first_chunk()?;
+    let [tag, high, low] = *head;
+    let body = rest.get(..usize::from(high) * 256 + usize::from(low))?;
+    if tag == form.tag && body.len() == 4 + form.height_bytes {
+        let character = Character::of(form, body);
+        return character.is_valid(form).then_some(Item::Character(character));
+    }
+    (tag == 6 && body.is_empty()).then_some(Item::Cut)
 }

@@ -17,7 +17,7 @@ pub use back::dvi_to_galley;
 pub use convert::{to_new, to_old};
 pub use dvi::read_dvi;
 pub use edition2::{read_dvi2, write_dvi2};
-pub use galley::{check_galley, read_back, Character};
+pub use galley::{check_galley, item_at, read_back, Character, Item};
 pub use punch::punch_tape;
 pub use report::count_tape;
 pub use running::RunningTape;

@@ -37,6 +37,10 @@ impl Call {
                 let (galley, n) = (inputs.take("galley", bytes)?, inputs.take("n", number)?);
                 Call::of(&[], move |them, _| (them.read_back)(&galley, n))
             }
+            "item_at" => {
+                let (galley, at) = (inputs.take("galley", bytes)?, inputs.take("at", number)?);
+                Call::of(&[], move |them, _| (them.item_at)(&galley, at))
+            }
             "write_dvi" => {
                 let galley = inputs.take("galley", bytes)?;
                 Call::of(&["dvi"], move |them, lent| (them.write_dvi)(&galley, lent[0]))
@@ -104,20 +108,22 @@ impl Call {
     }
 }
 
-/// What a call gives back beside what it writes: its answer, and reading back a character, extents or a report too.
+/// What a call gives back beside what it writes: its answer, and a character, an item, extents or a report too.
 #[derive(PartialEq, Debug)]
 pub struct Given {
     answer: Answer,
     character: Option<[i32; 4]>,
+    item: Option<[i32; 5]>,
     extents: Option<([i32; 2], Vec<i32>)>,
     report: Option<Box<ReportWords>>,
 }
 
 impl Given {
-    /// What an operation should give; a character that is left out is four zeros.
+    /// What an operation should give; a character or an item that is left out is zeros.
     pub fn read(operation: &str, answer: Answer, outputs: &mut Words) -> Result<Given, String> {
         match operation {
             "read_back" => Ok((answer, outputs.find("character", character)?.unwrap_or_default()).into()),
+            "item_at" => Ok((answer, outputs.find("item", item)?.unwrap_or_default()).into()),
             "extents" => {
                 let reach = outputs.find("reach", reach)?.unwrap_or_default();
                 Ok((reach, outputs.find("fonts", numbers)?.unwrap_or_default()).into())
@@ -130,25 +136,31 @@ impl Given {
 
 impl From<Answer> for Given {
     fn from(answer: Answer) -> Given {
-        Given { answer, character: None, extents: None, report: None }
+        Given { answer, character: None, item: None, extents: None, report: None }
     }
 }
 
 impl From<(Answer, [i32; 4])> for Given {
     fn from((answer, character): (Answer, [i32; 4])) -> Given {
-        Given { answer, character: Some(character), extents: None, report: None }
+        Given { character: Some(character), ..answer.into() }
+    }
+}
+
+impl From<(Answer, [i32; 5])> for Given {
+    fn from((answer, item): (Answer, [i32; 5])) -> Given {
+        Given { item: Some(item), ..answer.into() }
     }
 }
 
 impl From<([i32; 2], Vec<i32>)> for Given {
     fn from(extents: ([i32; 2], Vec<i32>)) -> Given {
-        Given { answer: [0; 3], character: None, extents: Some(extents), report: None }
+        Given { extents: Some(extents), ..[0; 3].into() }
     }
 }
 
 impl From<(Answer, ReportWords)> for Given {
     fn from((answer, report): (Answer, ReportWords)) -> Given {
-        Given { answer, character: None, extents: None, report: Some(Box::new(report)) }
+        Given { report: Some(Box::new(report)), ..answer.into() }
     }
 }
 
@@ -165,4 +177,9 @@ fn reach(text: &str) -> Result<[i32; 2], String> {
 /// Four numbers: x, height, font number, character.
 fn character(text: &str) -> Result<[i32; 4], String> {
     numbers(text)?.try_into().map_err(|_| "four numbers are wanted".into())
+}
+
+/// Five numbers: kind, x, height, font number, character.
+fn item(text: &str) -> Result<[i32; 5], String> {
+    numbers(text)?.try_into().map_err(|_| "five numbers are wanted".into())
 }
