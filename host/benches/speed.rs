@@ -3,9 +3,9 @@
 
 mod quick;
 
-use spatecanter::sample::{book, book_widths, yearbook};
+use spatecanter::sample::{book, book_widths, stations, stations_widths, yearbook, STATIONS_SPACING};
 use spatecanter::{
-    Machine, Report, RunningTape, DVI_LIMIT, GALLEY_LIMIT, REPORT_LIMIT, REPORT_WORDS, TAPE_LIMIT,
+    Machine, Report, RunningTape, DVI_LIMIT, GALLEY_LIMIT, REPORT_LIMIT, REPORT_WORDS, TAPE_LIMIT, XGP_LIMIT,
 };
 use std::hint::black_box;
 use std::time::{Duration, Instant};
@@ -78,6 +78,10 @@ fn print_operations() {
     let dvi = book(SEED, DVI_LIMIT);
     print_row("read a DVI file", "book with pushes and rules", &dvi, &mut read_dvi(&dvi, book_widths(SEED)));
     print_row("read it the plain way", "the same book", &dvi, &mut read_dvi_plain(&dvi, book_widths(SEED)));
+    let list = stations(SEED, XGP_LIMIT);
+    print_row("read an XGP file", "lists of stations", &list, &mut read_xgp(&list));
+    let text = text_lines(XGP_LIMIT);
+    print_row("read an XGP file", "lines of 70 characters", &text, &mut read_xgp(&text));
     println!();
 }
 
@@ -131,6 +135,10 @@ fn print_growth() {
         let dvi = book(SEED, length);
         print_growth_row("read it the plain way", &dvi, &mut read_dvi_plain(&dvi, book_widths(SEED)));
     }
+    for length in lengths(XGP_LIMIT) {
+        let list = stations(SEED, length);
+        print_growth_row("read an XGP file", &list, &mut read_xgp(&list));
+    }
 }
 
 /// Lengths from the smallest, each four times the one before, to the limit.
@@ -147,6 +155,12 @@ fn galley_of_length(tape: &[u8], length: usize) -> Vec<u8> {
     galley.extend([2, 0, 4]);
     galley.extend((count as u32).to_be_bytes());
     galley
+}
+
+/// An XGP file of characters and ends of lines alone.
+fn text_lines(length: usize) -> Vec<u8> {
+    let line: Vec<u8> = (0..70).map(|column| 0x41 + column % 26).chain([0o15, 0o12]).collect();
+    line.into_iter().cycle().take(length).collect()
 }
 
 /// The same work by the library and by the quick version.
@@ -274,6 +288,16 @@ fn read_dvi_plain(dvi: &[u8], widths: Vec<i32>) -> Contest<'_> {
         room,
         move |sheet| spatecanter::read_dvi_plain_into(dvi, &widths, sheet).unwrap(),
         move |sheet| quick::read_dvi(dvi, &same_widths, sheet),
+    )
+}
+
+fn read_xgp(file: &[u8]) -> Contest<'_> {
+    let (widths, same_widths) = (stations_widths(), stations_widths());
+    let room = spatecanter::read_xgp(file, STATIONS_SPACING, &widths).unwrap().len();
+    contest_of_one(
+        room,
+        move |sheet| spatecanter::read_xgp_into(file, STATIONS_SPACING, &widths, sheet).unwrap(),
+        move |sheet| quick::read_xgp(file, STATIONS_SPACING, &same_widths, sheet),
     )
 }
 

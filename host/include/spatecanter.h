@@ -4,6 +4,8 @@
  * ones and back; and reports over many tapes. Link with libspatecanter.a, which the script `library` at the root of
  * the repository proves and builds in target/staticlib.
  *
+ * Files of XGP character mode become sheets too.
+ *
  * ANSWERS. Every function but sp_new_tape and sp_extents fills `answer` with three numbers:
  *
  *     answer[0]  number  0 if accepted, else the refusal's number (enum sp_number)
@@ -35,14 +37,17 @@
  *           A galley does not record its tape's machine; the 4-font machine's fonts are 1 to 4.
  *           The old form, which only sp_galley_to_new takes and sp_galley_to_old makes, differs in its
  *           characters: tag 1, length 6, height in 2 bytes, 0 to SP_DVI_HEIGHT_LIMIT.
- *   sheet   a run of fields as above. Places and sides are in rsu, 1/65536 of a point of 1/72 inch.
+ *   sheet   a run of fields as above. Places and sides are in rsu, 1/65536 of a point of 1/72 inch; of an XGP file
+ *           in dots to the right and scan lines down.
  *           page       tag 5, length 4: its number
  *           character  tag 3, length 13: x, y, font (4 each), character (1)
  *           rule       tag 4, length 17: 0 vertical or 1 horizontal (1), x, y before the rule, height,
  *                      width (4 each)
  *           End        tag 2, length 4: the number of fields before it
- *   widths  128 signed numbers a font, in rsu, for fonts 0, 1, ... in order. Only the DVI commands 0 to 127
- *           look there.
+ *   widths  128 signed numbers a font, in rsu, for fonts 0, 1, ... in order. Of a DVI file only the commands 0 to
+ *           127 look there. Of an XGP file they are in dots, of fonts 0 to 3, and none is negative.
+ *   XGP     character mode of the Xerox Graphics Printer, with bytes to 127. The part that is read stands with
+ *           sp_read_xgp.
  *   report  SP_REPORT_WORDS numbers, all 0 before the first tape: each is a sum over the tapes counted,
  *           whatever their order. Where each stands is defined below.
  */
@@ -70,6 +75,10 @@ extern "C" {
 /* The greatest height of a character, and the greatest that DVI of 1980 and the old form hold. */
 #define SP_HEIGHT_LIMIT     1000000
 #define SP_DVI_HEIGHT_LIMIT 65535
+
+/* The longest XGP file, in bytes, and its widths, of four fonts. */
+#define SP_XGP_LIMIT        33554432
+#define SP_XGP_WIDTHS       512
 
 /* The kinds of a galley's items. */
 #define SP_ITEM_CHARACTER   1
@@ -151,7 +160,15 @@ enum sp_number {
     SP_TAPE_ROOM         = 49, /* tape buffer too short; the bytes needed */
 
     /* Reports */
-    SP_REPORT_FULL       = 47  /* the report has SP_REPORT_LIMIT tapes already; 0 */
+    SP_REPORT_FULL       = 47, /* the report has SP_REPORT_LIMIT tapes already; 0 */
+
+    /* XGP files; also 20 (over SP_XGP_LIMIT), 28 (x, the baseline or a character's y leaves signed 32 bits; the
+       code's offset), 30 and 31 (the width table is not SP_XGP_WIDTHS numbers) */
+    SP_OUTSIDE_PART      = 60, /* a code of character mode that is not read here, or one with a byte above 127;
+                                  the code's offset */
+    SP_RESERVED_CODE     = 61, /* a reserved or unlisted code; its offset */
+    SP_CODE_CUT_SHORT    = 62, /* the file ends inside a code; its offset */
+    SP_NEGATIVE_WIDTH    = 63  /* a negative width; 0 */
 };
 
 /*
@@ -254,6 +271,35 @@ void sp_dvi_to_galley(const uint8_t *dvi, size_t dvi_len,
                       const int32_t *widths, size_t widths_len,
                       uint8_t *galley, size_t galley_len,
                       size_t answer[3]);
+
+/*
+ * Reads a file of XGP character mode, with the scan lines from one line to the next and the widths of four fonts, and
+ * writes what it shows as a sheet. The codes that are read, in octal:
+ *
+ *     0                          null: nothing
+ *     1 to 7, 13, 16 to 176      the character of this number in the current font; the next stands its width to
+ *                                the right
+ *     177, then 0, 11, 12, 14,   the same of the second byte
+ *     15, 40 to 177
+ *     12                         LF: the next line; x stays
+ *     14                         FF: the first line of the next page; x stays
+ *     15                         CR: to the left margin, x = 0
+ *     177 1 0 to 177 1 3         font select; the base-line adjustment becomes 0
+ *     177 1 40 H L               column select: x = 128 H + L
+ *     177 1 43 N                 base-line adjust: y is N less than the line's, N in two's complement of 7 bits
+ *     177 2 N                    column increment: x grows by N, N as above
+ *
+ * At the start font, x and adjustment are 0, and the line is at y = spacing, as the first of every page. A page field
+ * stands before a page's first character; its number is one more than the FFs before it. There is no rule.
+ * Refusals: 20; then 31; then 63; then 60, 61, 62 and 28, of which the earliest place decides, and at one place the
+ * first of these; then 30. 60 has 10 and 11 (backspace and TAB), 177 3, 177 4, and 177 1 followed by 41, 42 or 44 to
+ * 50; 61 has 177 followed by 5 to 10, 13 or 16 to 37, and 177 1 followed by 4 to 37 or 51 to 177.
+ * A sheet has at most 16 bytes for each byte of the file, and 14.
+ */
+void sp_read_xgp(const uint8_t *file, size_t file_len, uint16_t spacing,
+                 const int32_t *widths, size_t widths_len,
+                 uint8_t *sheet, size_t sheet_len,
+                 size_t answer[3]);
 
 /*
  * Writes a galley as a DVI file and reads that file into a sheet, in one call. The length is the

@@ -76,6 +76,17 @@ extern "C" {
         answer: *mut [usize; 3],
     );
 
+    pub fn sp_read_xgp(
+        file: *const u8,
+        file_len: usize,
+        spacing: u16,
+        widths: *const i32,
+        widths_len: usize,
+        sheet: *mut u8,
+        sheet_len: usize,
+        answer: *mut [usize; 3],
+    );
+
     pub fn sp_reprint(
         galley: *const u8,
         galley_len: usize,

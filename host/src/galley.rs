@@ -25,7 +25,7 @@ pub struct Character {
 
 /// A font in a size, by its font number, as DVI files name it: C, the font, and the points in two digits.
 pub fn font_name(font_number: i32) -> String {
-    let character = Character { x: 0, height: 0, font_number, code: 1 };
+    let character = Character::of_font(font_number);
     format!("C{}{:02}", character.font(), character.points())
 }
 
@@ -33,6 +33,11 @@ pub fn font_name(font_number: i32) -> String {
 const POINTS: [i32; 15] = [7, 8, 10, 11, 12, 14, 18, 9, 6, 16, 20, 22, 24, 28, 36];
 
 impl Character {
+    /// Some character of a font number.
+    pub fn of_font(font_number: i32) -> Character {
+        Character { x: 0, height: 0, font_number, code: 1 }
+    }
+
     /// The font, 1 to 8.
     pub fn font(self) -> i32 {
         self.font_number / 15 + 1

@@ -2,6 +2,8 @@
 //! edition, and DVI files to sheets and back to galleys; galleys back to tapes, and old galleys to new ones and back; and reports over many
 //! tapes.
 //!
+//! Files of XGP character mode become sheets too.
+//!
 //! The operations are those of the proved library `libspatecanter.a`; this package adds safe calls,
 //! readers of galleys and sheets for people, and the command `spatecanter`.
 
@@ -16,6 +18,7 @@ mod report;
 mod running;
 pub mod sample;
 pub mod sheet;
+mod xgp;
 
 pub use edition2::{read_dvi2, read_dvi2_into, write_dvi2, write_dvi2_into, DVI2_LIMIT};
 pub use extents::Extents;
@@ -30,3 +33,4 @@ pub use operations::{
 pub use refusal::{number, Outcome, Refusal};
 pub use report::{Report, REPORT_LIMIT, REPORT_WORDS};
 pub use running::RunningTape;
+pub use xgp::{read_xgp, read_xgp_into, XGP_LIMIT, XGP_WIDTHS};

@@ -11,8 +11,9 @@ pub const GALLEY_LIMIT: usize = 11_534_343;
 pub const OLD_GALLEY_LIMIT: usize = 9_437_191;
 pub const DVI_LIMIT: usize = 33_554_432;
 
-/// No sheet is longer, in bytes: the shortest command that shows something is one byte, and what it shows 16.
-pub const SHEET_LIMIT: usize = 16 * DVI_LIMIT;
+/// No sheet is longer, in bytes: the shortest command or code that shows something is one byte, and what it shows
+/// 16; an XGP file has no byte for its first page and for End, of 7 each.
+pub const SHEET_LIMIT: usize = 16 * DVI_LIMIT + 14;
 
 /// The most characters and cuts, together, that a galley holds.
 pub const ITEM_LIMIT: usize = 1_048_576;

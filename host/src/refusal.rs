@@ -38,7 +38,7 @@ numbers! {
     NO_SUCH_CHARACTER = 11: "the galley has no character of this number",
     GALLEY_ROOM = 12: "the buffer for the galley is too short",
     NOT_STARTED = 13: "a piece or a closing before any start, or after an accepted closing",
-    DVI_TOO_LONG = 20: "the DVI file is longer than 33,554,432 bytes, or 67,108,864 in the second edition",
+    DVI_TOO_LONG = 20: "the file is longer than 33,554,432 bytes, or as DVI of the second edition 67,108,864",
     COMMAND = 21: "an undefined command, or one not allowed there",
     DVI_ENDS = 22: "the file ends inside a page or a command, or before its postamble",
     BOP_OFFSET = 23: "the page's pointer to the page before it is wrong",
@@ -49,7 +49,7 @@ numbers! {
     OVERFLOW = 28: "x or y leaves 32 bits",
     POSTAMBLE = 29: "the postamble is malformed or cut short",
     SHEET_ROOM = 30: "the buffer for the sheet is too short",
-    WIDTHS = 31: "the width table is not a whole number of fonts of 128 widths",
+    WIDTHS = 31: "the width table is not a whole number of fonts of 128 widths, or for an XGP file not four",
     GALLEY_TOO_LONG = 40: "the galley is longer than 11,534,343 bytes, or 9,437,191 in the old form",
     GALLEY_MALFORMED = 41: "the galley is malformed",
     DVI_ROOM = 42: "the buffer for the DVI file is too short",
@@ -61,6 +61,10 @@ numbers! {
     PUNCHED_TOO_LONG = 48: "the tape of this galley would be longer than 1,048,576 bytes",
     TAPE_ROOM = 49: "the buffer for the tape is too short",
     NO_MACHINE = 50: "the machine is neither the 4-font nor the 8-font machine",
+    OUTSIDE_PART = 60: "a code of character mode that is not read here, or a byte above 127",
+    RESERVED_CODE = 61: "a reserved or unlisted code",
+    CODE_CUT_SHORT = 62: "the file ends inside a code",
+    NEGATIVE_WIDTH = 63: "a negative width",
 }
 
 impl Refusal {

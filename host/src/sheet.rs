@@ -2,7 +2,8 @@
 
 use std::fmt;
 
-/// A field of a sheet, End apart. Places and sides are in rsu, 1/65536 of a point.
+/// A field of a sheet, End apart. Places and sides are in rsu, 1/65536 of a point; of an XGP file in dots and scan
+/// lines.
 #[derive(Clone, Copy, Debug, PartialEq, Eq)]
 pub enum Field {
     Page(i32),

@@ -16,7 +16,7 @@ use Rattle.galley_file.specs.declared.item.Item.{Item}
 use Rattle.galley_file.specs.declared.item.Item.the-variants.{Placed, Cut}
 use Rattle.galley_file.specs.Item.{charactersOf, cutsOf}
 use Rattle.sheet.specs.Sheet.{Mark, pageMark}
-use Rattle.dvi.specs.Page.{fontChars}
+use Rattle.sheet.specs.Readable.{fontChars}
 use Rattle.sheet.specs.Sheet.{markField, markFields, sheet}
 use Rattle.sheet.specs.Shown.{Shown, shownResult}
 use Rattle.dvi.specs.Sheet.{sheetResult}

@@ -17,9 +17,10 @@ use Rattle.galley_file.specs.declared.item.Item.{Item}
 use Rattle.galley_file.specs.declared.item.Item.the-variants.{Placed, Cut}
 use Rattle.sheet.specs.Sheet.{Mark, pageMark, charMark, ruleMark}
 use Rattle.sheet.specs.Shown.{Shown, refusedAt, shows}
+use Rattle.sheet.specs.Readable.{maxFile}
 use Rattle.dvi.specs.File.{readDvi}
 use Rattle.sheet.specs.Sheet.{sheet}
-use Rattle.dvi.specs.Sheet.{maxDvi, sheetResult}
+use Rattle.dvi.specs.Sheet.{sheetResult}
 use Rattle.dvi.specs.Writer.{dviFile}
 use Rattle.dvi.specs.Edition.{Edition}
 
@@ -51,7 +52,7 @@ dvi1980 widths =
       show = λ dvi. shownInThirds (readDvi widths dvi);
       distance = 1;
       greatest = lowEnd;
-      longest = maxDvi;
+      longest = maxFile;
       read = λ dvi room. sheetResult dvi widths room;
       noRoom = noSheetRoom;
       reply = λ is. sheet (pageMark (pos 1) ∷ marksOf 1 is);

@@ -14,15 +14,12 @@ use lib.ListN.{length, getD}
 use Rattle.octets.specs.Octets.{fits32}
 use Rattle.octets.specs.Answer.{stackFull, stackEmpty, entriesLeft, cannotSet, outOf32Bits}
 use Rattle.sheet.specs.Sheet.{Mark, charMark, ruleMark}
+use Rattle.sheet.specs.Readable.{fontChars}
 use Rattle.dvi.specs.Command.{Command, setChar, nop, eop, push, pop, vertRule, horzRule, horzChar, setFont, moveW, moveW0, moveX, moveX0, moveY, moveY0, moveZ, moveZ0}
 
 -- the entries of the stack
 abbrev pub maxStack : ℕ
 maxStack = 200
-
--- a font has the characters 0 to 127, and a width for each
-abbrev pub fontChars : ℕ
-fontChars = 128
 
 -- ---- the state
 

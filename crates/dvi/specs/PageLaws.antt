@@ -18,9 +18,10 @@ use lib.ListN.{length}
 use Rattle.octets.specs.Octets.{fits32}
 use Rattle.octets.specs.OctetsLaws.{by-cond}
 use Rattle.octets.specs.Answer.{cannotSet}
+use Rattle.sheet.specs.Readable.{fontChars}
 use Rattle.dvi.specs.Command.{Command, setChar, nop, eop, push, pop, vertRule, horzRule, horzChar, setFont, moveW, moveW0, moveX, moveX0, moveY, moveY0, moveZ, moveZ0}
 use Rattle.sheet.specs.Sheet.{Mark}
-use Rattle.dvi.specs.Page.{maxStack, fontChars, Numbers, Page, newPage, Effect, fault, moved, marked, ended, withNumbers, withFont, ifFits, goTo, showAndGoTo, widthIn, setMoving, setInFont, setStill, pushed, popped, endPage, effect}
+use Rattle.dvi.specs.Page.{maxStack, Numbers, Page, newPage, Effect, fault, moved, marked, ended, withNumbers, withFont, ifFits, goTo, showAndGoTo, widthIn, setMoving, setInFont, setStill, pushed, popped, endPage, effect}
 
 -- "a character before a font command on the new page is 27"
 pub unset-char : (ws : List ℤ) (c : ℕ) → effect ws newPage (setChar c) ≡ fault cannotSet

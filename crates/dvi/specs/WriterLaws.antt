@@ -30,7 +30,7 @@ use Rattle.galley_file.specs.Item.{charactersOf}
 use Rattle.galley_file.specs.Galley.{maxItems}
 use Rattle.extents.specs.FontMarks.{uses, usedFonts}
 use Rattle.dvi.specs.Command.{EOP, X4, Y4}
-use Rattle.dvi.specs.Sheet.{maxDvi}
+use Rattle.sheet.specs.Readable.{maxFile}
 use Rattle.dvi.specs.Writer.{xTargetOf, yTargetOf, Pen, fontCommand, fontChange, shortest, move, commandsOf, bopBytes, Press, firstPress, itemBytes, pressAfter, itemsBytes, pressAll, pagesBytes, nameOf, definition, definitionBytes, trailerBytes, postambleBytes, dviFile}
 
 -- ---- the commands of a character
@@ -194,5 +194,5 @@ pub length-file : (is : List Item) → length (dviFile is) ≡ 36 + length (item
 unfolding dviFile
 length-file is = rw (length-append, length-postamble, length-pages is) (omega arith)
 
-pub file-fits : (is : List Item) → length is ≤ maxItems → length (dviFile is) ≤ maxDvi
+pub file-fits : (is : List Item) → length is ≤ maxItems → length (dviFile is) ≤ maxFile
 file-fits is h = rw length-file (omega (arith, itemsBytes-most firstPress is, usedFonts-most 120 (charactersOf is)))

@@ -2,7 +2,6 @@
 mod tally;
 
 use dvi_galley::item;
-use dvi_page::page;
 use dvi_step::State;
 use dvi_step::Stepped;
 use measure::ruler;
@@ -17,12 +16,12 @@ ghost use lib.ListN.{length};
 ghost use Rattle.octets.specs.Answer.{outcomeOf, Gives};
 ghost use Rattle.octets.specs.Pass.{Roomy, Passed};
 ghost use Rattle.dvi.specs.File.{readPlaced};
-ghost use Rattle.dvi.specs.Sheet.{maxDvi};
+ghost use Rattle.sheet.specs.Readable.{maxFile};
 ghost use Rattle.dvi_galley.specs.Back.{shownGalley, backResult};
 
 // One pass over a file within the limit. It writes the galley, if writing.
 fn pass(dvi: &[u8], widths: &[i32], out: &mut [u8], writing: bool) -> Reading
-    requires { ⌜ length (now dvi) ≤ maxDvi ⌝ }
+    requires { ⌜ length (now dvi) ≤ maxFile ⌝ }
     requires { ⌜ (writing ≡ true → Roomy (shownGalley (readPlaced (now widths) (now dvi))) (length (now out))) ⌝ }
     ensures { λ r. ⌜ Passed (shownGalley (readPlaced (now (widths .entry)) (now (dvi .entry)))) writing (now (out .entry)) r (now (out .exit)) ⌝ }
 {
@@ -60,10 +59,10 @@ fn pass(dvi: &[u8], widths: &[i32], out: &mut [u8], writing: bool) -> Reading
 pub fn dvi_to_galley(dvi: &[u8], widths: &[i32], galley: &mut [u8]) -> Answer
     ensures { λ r. ⌜ Gives (outcomeOf r) (backResult (now (dvi .entry)) (now (widths .entry))) (now (galley .entry)) (now (galley .exit)) ⌝ }
 {
-    if dvi_step::MAX_DVI < dvi.len() {
+    if sheet::MAX_FILE < dvi.len() {
         return Answer::Refused(answer::DVI_TOO_LONG, 0);
     }
-    if widths.len() % page::FONT_CHARS != 0 {
+    if widths.len() % sheet::FONT_CHARS != 0 {
         return Answer::Refused(answer::WIDTHS_NOT_WHOLE, 0);
     }
     let found = pass(dvi, widths, galley, false);

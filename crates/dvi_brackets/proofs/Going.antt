@@ -16,7 +16,7 @@ use Rattle.sheet.specs.Sheet.{Mark, markFields}
 use Rattle.sheet.specs.SheetLaws.{fields-most, markFields-append}
 use Rattle.dvi.specs.Command.{POP}
 use Rattle.dvi.specs.Page as S
-use Rattle.dvi.specs.Sheet.{maxDvi}
+use Rattle.sheet.specs.Readable.{maxFile}
 use Rattle.dvi_page.specs.Page.{pageOf}
 use Rattle.dvi_page.specs.declared.page.Page.{Page}
 use Rattle.dvi_brackets.specs.Brackets.{badItem, pastItem, pageEnd, badRun, toPop, toEop, first, run, itemHere}
@@ -109,7 +109,7 @@ module _ (ws : List ℤ) (d at : ℕ) (p : S.Page) (s : List ℕ) (w : Bool) (be
       }
 
   module _ {q : S.Page} {i : ℕ} {ms : List Mark} {out : List ℕ} {t c : ℕ} (g : Going q i ms out t c) where
-    pub going-within : Within at to count → at + length s ≤ maxDvi → Within (at + i) t c
+    pub going-within : Within at to count → at + length s ≤ maxFile → Within (at + i) t c
     going-within h l =
         let k = fields-most ms in
         record {

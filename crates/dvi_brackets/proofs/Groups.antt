@@ -13,7 +13,7 @@ use Rattle.octets.specs.Answer.{stackFull, entriesLeft}
 use Rattle.octets.specs.Write.{put-still}
 use Rattle.dvi.specs.Command.{PUSH, decode}
 use Rattle.dvi.specs.Page as S
-use Rattle.dvi.specs.Sheet.{maxDvi}
+use Rattle.sheet.specs.Readable.{maxFile}
 use Rattle.dvi_page.specs.Page.{pageOf}
 use Rattle.dvi_page.specs.declared.page.Page.{Page}
 use Rattle.dvi_brackets.specs.Brackets as B
@@ -59,7 +59,7 @@ leave-room at p (toEop ms n) h = absurd (h .accepted)
 
 module _ {y : B.Run} {w : Bool} {before : List ℕ} {to count : ℕ} {later : List ℕ} where
   -- its POP lies in a file within the limit
-  pub leaves-at : (at k : ℕ) (r : Run) → RunDone y w before to count r later → SoundRun 0 k y → at + 1 + k ≤ maxDvi → LeavesAt at r
+  pub leaves-at : (at k : ℕ) (r : Run) → RunDone y w before to count r later → SoundRun 0 k y → at + 1 + k ≤ maxFile → LeavesAt at r
   leaves-at at k (R.Fault j i) f h l = tt
   leaves-at at k (R.Pop o n t c) f h l = let z = subst (SoundRun 0 k) (sym (f .found)) h in omega (arith, z .0, l)
   leaves-at at k (R.Eop n t c) f h l = let z = subst (SoundRun 0 k) (sym (f .found)) h in omega (arith, z .0, l)

@@ -19,9 +19,10 @@ use Rattle.integers.specs.Parts.{eqZ}
 use Rattle.octets.specs.Octets.{fits32, signedAt}
 use Rattle.octets.specs.OctetsLaws.{by-cond}
 use Rattle.octets.specs.Answer.{stackFull, stackEmpty, entriesLeft, cannotSet, outOf32Bits}
+use Rattle.sheet.specs.Readable.{fontChars}
 use Rattle.dvi.specs.Command.{BOP, PST, PUSH, POP, FONTNUM, Command, NoBracket, setChar, nop, eop, push, pop, vertRule, horzRule, horzChar, setFont, moveW, moveW0, moveX, moveX0, moveY, moveY0, moveZ, moveZ0, Form, barred, bare, takes, takesTwo, forms, formOf, Decoded, noCommand, cutShort, command, withParameters, decode}
 use Rattle.sheet.specs.Sheet.{Mark}
-use Rattle.dvi.specs.Page.{maxStack, fontChars, Numbers, Page, newPage, Effect, fault, moved, marked, ended, withNumbers, withFont, ifFits, goTo, showAndGoTo, charHere, ruleHere, widthIn, setMoving, setInFont, setStill, pushed, popped, endPage, effect}
+use Rattle.dvi.specs.Page.{maxStack, Numbers, Page, newPage, Effect, fault, moved, marked, ended, withNumbers, withFont, ifFits, goTo, showAndGoTo, charHere, ruleHere, widthIn, setMoving, setInFont, setStill, pushed, popped, endPage, effect}
 use Rattle.dvi.specs.Postamble.{postamble}
 use Rattle.dvi.specs.File as F
 use Rattle.sheet.specs.Shown.{Shown, refusedAt, showsFirst}

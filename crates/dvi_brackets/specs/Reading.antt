@@ -7,7 +7,7 @@ use lib.ListN.{length}
 use Rattle.octets.specs.Answer.{entriesLeft}
 use Rattle.dvi.specs.Page as S
 use Rattle.sheet.specs.Sheet.{Mark, markFields}
-use Rattle.dvi.specs.Sheet.{maxDvi}
+use Rattle.sheet.specs.Readable.{maxFile}
 use Rattle.dvi_page.specs.Stack.{numbersOf}
 use Rattle.dvi_page.specs.Page.{pageOf}
 use Rattle.dvi_page.specs.declared.page.Page.{Page}
@@ -21,7 +21,7 @@ use Rattle.dvi_brackets.specs.declared.Run.the-variants as R
 
 -- the place in the sheet and the count of marks are within those of a file read up to `at`
 pub record Within (at to count : ℕ) : Type 0 where
-  pub low : at ≤ maxDvi
+  pub low : at ≤ maxFile
   pub near : to ≤ 20 * at
   pub few : count ≤ at
 
@@ -105,8 +105,8 @@ pub record RunDone (x : B.Run) (w : Bool) (before : List ℕ) (to count : ℕ) (
 -- the run of the group whose PUSH stands at `at` lies in a file within the limit
 abbrev pub LeavesAt : ℕ → Run → Type 0
 LeavesAt at (R.Fault k i) = Unit {0}
-LeavesAt at (R.Pop p n t c) = at + 1 + n < maxDvi
-LeavesAt at (R.Eop n t c) = at + 1 + n < maxDvi
+LeavesAt at (R.Pop p n t c) = at + 1 + n < maxFile
+LeavesAt at (R.Eop n t c) = at + 1 + n < maxFile
 
 -- the item that a group is which was entered on the page p
 abbrev pub LeftBy : ℕ → Page → Run → Item → Type 0

@@ -11,7 +11,7 @@ ghost use mathlib.Core.List.{[]};
 ghost use Prim.Native.Nat.{_+_, _≤_, _<_};
 ghost use lib.ListN.{length, getD, drop};
 ghost use Rattle.dvi.specs.Command.{PUSH as Push, POP as Pop, decode as decodeOf};
-ghost use Rattle.dvi.specs.Sheet.{maxDvi};
+ghost use Rattle.sheet.specs.Readable.{maxFile};
 ghost use Rattle.dvi_page.specs.Page.{pageOf, effectOf};
 ghost use Rattle.dvi_brackets.specs.Brackets.{effectItem, commandItem, run, itemHere};
 ghost use Rattle.dvi_brackets.specs.Reading.{Within, RoomyItem, ItemDone, RoomyRun, RunDone, LeavesAt, LeftBy};
@@ -115,7 +115,7 @@ fn read_item(
     count: u32,
     writing: bool,
 ) -> Item
-    requires { ⌜ (0 < length (now s)) × ((getD (now s) 0 0 ≡ Pop → ⊥) × ((at + length (now s) ≤ maxDvi) × Within at to count)) ⌝ }
+    requires { ⌜ (0 < length (now s)) × ((getD (now s) 0 0 ≡ Pop → ⊥) × ((at + length (now s) ≤ maxFile) × Within at to count)) ⌝ }
     requires { ⌜ (writing ≡ true → RoomyItem (itemHere (now widths) depth at (pageOf p []) (now s)) to (length (now out))) ⌝ }
     ensures { λ r. ⌜ ItemDone (itemHere (now (widths .entry)) depth at (pageOf p []) (now (s .entry))) writing (now (out .entry)) to count r (now (out .exit)) ⌝ }
 {
@@ -142,7 +142,7 @@ pub fn read_run(
     count: u32,
     writing: bool,
 ) -> Run
-    requires { ⌜ (at + length (now s) ≤ maxDvi) × Within at to count ⌝ }
+    requires { ⌜ (at + length (now s) ≤ maxFile) × Within at to count ⌝ }
     requires { ⌜ (writing ≡ true → RoomyRun (run (now widths) depth at (pageOf p []) 0 (now s)) to (length (now out))) ⌝ }
     ensures { λ r. ⌜ RunDone (run (now (widths .entry)) depth at (pageOf p []) 0 (now (s .entry))) writing (now (out .entry)) to count r (now (out .exit)) ⌝ }
 {

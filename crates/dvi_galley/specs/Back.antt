@@ -32,7 +32,8 @@ use Rattle.galley_file.specs.Galley.{maxItems, AllValid, galley}
 use Rattle.sheet.specs.Sheet.{Mark, pageMark, charMark, ruleMark}
 use Rattle.sheet.specs.Shown.{ShownAs, refusedAt, shows}
 use Rattle.dvi.specs.File.{PlacedMark, markIn, readPlaced}
-use Rattle.dvi.specs.Sheet.{ifReadable}
+use Rattle.sheet.specs.Readable.{ifReadable}
+use Rattle.dvi.specs.Sheet.{wholeFonts}
 use Rattle.dvi.specs.Demand3.{marksOf}
 use Rattle.dvi_galley.specs.Target.{xAt, heightAt}
 
@@ -104,7 +105,7 @@ shownGalley (shows ps) = madeResult (makes nothing ps)
 
 -- 20, 31, what the reader refuses the file for, 45, 12
 unfoldable pub backResult : List ℕ → List ℤ → ℕ → Result
-backResult dvi widths room = ifReadable dvi widths (ifRoom noGalleyRoom room (shownGalley (readPlaced widths dvi)))
+backResult dvi widths room = ifReadable dvi (wholeFonts widths) (ifRoom noGalleyRoom room (shownGalley (readPlaced widths dvi)))
 
 -- ---- what it is to be
 

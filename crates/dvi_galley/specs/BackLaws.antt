@@ -34,11 +34,10 @@ use Rattle.galley_file.specs.GalleyLaws.{accepted-is}
 use Rattle.galley_check.specs.Low.{lowOutcome, lowResult}
 use Rattle.galley_check.specs.LowLaws.{raised, low-checked, low-made}
 use Rattle.sheet.specs.Sheet.{Mark, pageMark, charMark, ruleMark}
-use Rattle.dvi.specs.Page.{fontChars}
+use Rattle.sheet.specs.Readable.{maxFile, fontChars}
 use Rattle.sheet.specs.Shown.{ShownAs, refusedAt, shows}
 use Rattle.dvi.specs.File.{readDvi, PlacedMark, markIn, placedAt, readPlaced, unplaced}
 use Rattle.dvi.specs.FileLaws.{unplaced-read}
-use Rattle.dvi.specs.Sheet.{maxDvi}
 use Rattle.dvi.specs.SheetLaws.{readable}
 use Rattle.dvi.specs.Writer.{dviFile}
 use Rattle.dvi.specs.WriterLaws.{file-fits}
@@ -231,7 +230,7 @@ only-galley ms is js g h =
 
 -- ---- files
 
-module _ (dvi : List ℕ) (widths : List ℤ) (l : length dvi ≤ maxDvi) (w : length widths % fontChars ≡ 0) where
+module _ (dvi : List ℕ) (widths : List ℤ) (l : length dvi ≤ maxFile) (w : length widths % fontChars ≡ 0) where
   shown-marks : {ms : List Mark} → readDvi widths dvi ≡ shows ms → (ps : List PlacedMark) × ((readPlaced widths dvi ≡ shows ps) × (map markIn ps ≡ ms))
   shown-marks {ms} e = go (readPlaced widths dvi) refl (unplaced-read widths dvi ∙ e)
     where

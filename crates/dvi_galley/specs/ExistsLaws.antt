@@ -35,11 +35,11 @@ use Rattle.galley_file.specs.GalleyLaws.{accepts-check}
 use Rattle.galley_file.specs.Outcome.{checkOutcome}
 use Rattle.dvi.specs.Command.{BOP, PST}
 use Rattle.sheet.specs.Sheet.{Mark, pageMark, charMark, ruleMark}
-use Rattle.dvi.specs.Page.{fontChars, newPage}
+use Rattle.dvi.specs.Page.{newPage}
 use Rattle.sheet.specs.Shown.{ShownAs, Shown, refusedAt, shows, showsFirst}
 use Rattle.dvi.specs.File.{State, between, inside, Step, refuse, beginPage, endFile, step, follow, run, runAs, readAs, readDvi, marksAlone, PlacedMark, markIn, readPlaced, unplaced}
 use Rattle.dvi.specs.FileLaws.{unplaced-read}
-use Rattle.dvi.specs.Sheet.{maxDvi}
+use Rattle.sheet.specs.Readable.{maxFile, fontChars}
 use Rattle.dvi.specs.SheetLaws.{readable}
 use Rattle.dvi.specs.Demand3.{markOf, marksOf}
 use Rattle.dvi_galley.specs.Back.{itemOf, Made, nothing, made, broken, pagesOf, withItem, withMark, makes, madeResult, shownGalley, backResult, GalleyOf, pageNumbers, charactersShown, AtTarget, SoundMark, AllSound, sound-none, sound-more, Conditions, FirstBreak}
@@ -308,7 +308,7 @@ first-break ps place e =
 pub galley-checked : {ms : List Mark} {is : List Item} → GalleyOf ms is → checkOutcome New (galley New is) ≡ accepted (length (charactersOf is))
 galley-checked {ms} {is} g = accepts-check New is (g .all-valid) (g .few)
 
-module _ (dvi : List ℕ) (widths : List ℤ) (room : ℕ) (ps : List PlacedMark) (l : length dvi ≤ maxDvi) (w : length widths % fontChars ≡ 0) (e : readPlaced widths dvi ≡ shows ps) where
+module _ (dvi : List ℕ) (widths : List ℤ) (room : ℕ) (ps : List PlacedMark) (l : length dvi ≤ maxFile) (w : length widths % fontChars ≡ 0) (e : readPlaced widths dvi ≡ shows ps) where
   by-marks : backResult dvi widths room ≡ ifRoom noGalleyRoom room (madeResult (makes nothing ps))
   unfolding backResult shownGalley
   by-marks = readable dvi widths (ifRoom noGalleyRoom room (shownGalley (readPlaced widths dvi))) l w ∙ ap (λ (x : ShownAs PlacedMark). ifRoom noGalleyRoom room (shownGalley x)) e

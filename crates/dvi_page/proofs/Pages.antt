@@ -15,7 +15,8 @@ use mir.Val.{SFits}
 use Rattle.octets.specs.Octets.{fits32}
 use Rattle.octets.specs.OctetsLaws.{true-fits32}
 use Rattle.octets.specs.Answer.{stackFull, cannotSet, outOf32Bits}
-use Rattle.dvi.specs.Page.{maxStack, fontChars, Numbers, Page, Effect, fault, moved, marked, withNumbers, rightBy, downBy, ifFits, widthIn, charHere, setStill, pushed, popped}
+use Rattle.sheet.specs.Readable.{fontChars}
+use Rattle.dvi.specs.Page.{maxStack, Numbers, Page, Effect, fault, moved, marked, withNumbers, rightBy, downBy, ifFits, widthIn, charHere, setStill, pushed, popped}
 
 -- ---- moves that stay in signed 32 bits, and moves that leave them
 

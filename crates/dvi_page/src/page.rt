@@ -18,9 +18,6 @@ ghost use Rattle.dvi_page.specs.Stack.{stackSize, numbersOf, stackOf};
 ghost use Rattle.sheet.specs.Mark.{markOf};
 ghost use Rattle.dvi_page.specs.Page.{pageOf, effectOf, widthOf};
 
-// The characters of a font.
-pub const FONT_CHARS: usize = 128;
-
 const LAST_CHAR: u32 = 127;
 
 // The stack's entries lie in an array beside the page. The font counts where has_font says so; the two stand apart, as side by side
@@ -129,7 +126,7 @@ fn width_of(widths: &[i32], f: i32, c: u8) -> Width
     if f < 0 {
         return Width::Missing;
     }
-    let i = FONT_CHARS * (f as usize) + (c as usize);
+    let i = sheet::FONT_CHARS * (f as usize) + (c as usize);
     if widths.len() <= i {
         return Width::Missing;
     }

@@ -15,15 +15,16 @@ ghost use lib.ListN.{length};
 ghost use Rattle.octets.specs.Answer.{outcomeOf, Gives};
 ghost use Rattle.octets.specs.Pass.{Roomy, Passed};
 ghost use Rattle.sheet.specs.Shown.{shownResult};
+ghost use Rattle.sheet.specs.Readable.{maxFile};
 ghost use Rattle.dvi.specs.File.{readDvi};
-ghost use Rattle.dvi.specs.Sheet.{maxDvi, sheetResult};
+ghost use Rattle.dvi.specs.Sheet.{sheetResult};
 
 // The bytes of BOP; the run of its page comes after them.
 const BOP_BYTES: usize = 9;
 
 // One pass over a file within the limit. It writes the sheet, if writing.
 fn pass(dvi: &[u8], widths: &[i32], out: &mut [u8], writing: bool) -> Reading
-    requires { ⌜ length (now dvi) ≤ maxDvi ⌝ }
+    requires { ⌜ length (now dvi) ≤ maxFile ⌝ }
     requires { ⌜ (writing ≡ true → Roomy (shownResult (readDvi (now widths) (now dvi))) (length (now out))) ⌝ }
     ensures { λ r. ⌜ Passed (shownResult (readDvi (now (widths .entry)) (now (dvi .entry)))) writing (now (out .entry)) r (now (out .exit)) ⌝ }
 {
@@ -85,10 +86,10 @@ fn pass(dvi: &[u8], widths: &[i32], out: &mut [u8], writing: bool) -> Reading
 pub fn read_dvi_plain(dvi: &[u8], widths: &[i32], sheet: &mut [u8]) -> Answer
     ensures { λ r. ⌜ Gives (outcomeOf r) (sheetResult (now (dvi .entry)) (now (widths .entry))) (now (sheet .entry)) (now (sheet .exit)) ⌝ }
 {
-    if dvi_step::MAX_DVI < dvi.len() {
+    if sheet::MAX_FILE < dvi.len() {
         return Answer::Refused(answer::DVI_TOO_LONG, 0);
     }
-    if widths.len() % page::FONT_CHARS != 0 {
+    if widths.len() % sheet::FONT_CHARS != 0 {
         return Answer::Refused(answer::WIDTHS_NOT_WHOLE, 0);
     }
     let found = pass(dvi, widths, sheet, false);

@@ -1,5 +1,4 @@
 // DVI files of 1980 (002), read into sheets with a lent table of widths.
-use dvi_page::page;
 use dvi_step::State;
 use dvi_step::Stepped;
 use octets::answer;
@@ -13,12 +12,13 @@ ghost use lib.ListN.{length};
 ghost use Rattle.octets.specs.Answer.{outcomeOf, Gives};
 ghost use Rattle.octets.specs.Pass.{Roomy, Passed};
 ghost use Rattle.sheet.specs.Shown.{shownResult};
+ghost use Rattle.sheet.specs.Readable.{maxFile};
 ghost use Rattle.dvi.specs.File.{readDvi};
-ghost use Rattle.dvi.specs.Sheet.{maxDvi, sheetResult};
+ghost use Rattle.dvi.specs.Sheet.{sheetResult};
 
 // One pass over a file within the limit. It writes the sheet, if writing.
 fn pass(dvi: &[u8], widths: &[i32], out: &mut [u8], writing: bool) -> Reading
-    requires { ⌜ length (now dvi) ≤ maxDvi ⌝ }
+    requires { ⌜ length (now dvi) ≤ maxFile ⌝ }
     requires { ⌜ (writing ≡ true → Roomy (shownResult (readDvi (now widths) (now dvi))) (length (now out))) ⌝ }
     ensures { λ r. ⌜ Passed (shownResult (readDvi (now (widths .entry)) (now (dvi .entry)))) writing (now (out .entry)) r (now (out .exit)) ⌝ }
 {
@@ -57,10 +57,10 @@ fn pass(dvi: &[u8], widths: &[i32], out: &mut [u8], writing: bool) -> Reading
 pub fn read_dvi(dvi: &[u8], widths: &[i32], sheet: &mut [u8]) -> Answer
     ensures { λ r. ⌜ Gives (outcomeOf r) (sheetResult (now (dvi .entry)) (now (widths .entry))) (now (sheet .entry)) (now (sheet .exit)) ⌝ }
 {
-    if dvi_step::MAX_DVI < dvi.len() {
+    if sheet::MAX_FILE < dvi.len() {
         return Answer::Refused(answer::DVI_TOO_LONG, 0);
     }
-    if widths.len() % page::FONT_CHARS != 0 {
+    if widths.len() % sheet::FONT_CHARS != 0 {
         return Answer::Refused(answer::WIDTHS_NOT_WHOLE, 0);
     }
     let found = pass(dvi, widths, sheet, false);

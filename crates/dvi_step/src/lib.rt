@@ -20,9 +20,6 @@ ghost use Rattle.dvi_page.specs.Stack.{stackSize};
 ghost use Rattle.dvi_page.specs.Page.{pageOf, effectOf};
 ghost use Rattle.dvi_step.specs.Step.{stateOf, depthOf, stepOf};
 
-// The longest DVI file.
-pub const MAX_DVI: usize = 33_554_432;
-
 const BOP: u8 = 129;
 
 const PST: u8 = 131;

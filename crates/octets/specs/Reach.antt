@@ -1,4 +1,4 @@
--- The code's sums.
+-- The code's sums and differences.
 use mathlib.Core.Bool.{Bool, true, false}
 use lib.IntN.{ℤ}
 use Rattle.octets.specs.Octets.{fits32}

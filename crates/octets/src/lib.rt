@@ -1,4 +1,4 @@
-// Numbers in bytes, fields, sums in 32 bits, and what an operation answers.
+// Numbers in bytes, fields, sums and differences in 32 bits, and what an operation answers.
 pub mod answer;
 pub mod field;
 pub mod number;

@@ -17,7 +17,7 @@ use Rattle.galley_file.specs.Galley.{maxItems, Reading, readGalley, itemsIn, it
 use Rattle.galley_file.specs.GalleyLaws.{checked, reading-length, length-fields}
 use Rattle.galley_check.specs.Low.{lowOutcome}
 use Rattle.galley_check.specs.LowLaws.{low-checked}
-use Rattle.dvi.specs.Page.{fontChars}
+use Rattle.sheet.specs.Readable.{fontChars}
 use Rattle.dvi.specs.Sheet.{sheetResult}
 use Rattle.dvi.specs.Writer.{dviFile}
 use Rattle.dvi_writer.specs.Result.{dviResult}

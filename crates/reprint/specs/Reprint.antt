@@ -13,7 +13,6 @@ use mathlib.Core.Bool.{cond}
 use mathlib.Core.List.{List, _∷_, _++_}
 use mathlib.Core.Logic.{_↔_}
 use mathlib.Core.Path.{_≡_}
-use lib.Dec.{eqb}
 use lib.IntN.{ℤ, pos}
 use lib.ListN.{length, drop}
 use Rattle.octets.specs.Answer.{Outcome, accepted, refused, Result, refusal, written, ifRoom, widthsNotWhole, noDviRoom}
@@ -25,10 +24,10 @@ use Rattle.galley_file.specs.Galley.{AllValid, galley, whole, readGalley}
 use Rattle.galley_check.specs.Low.{lowResult}
 use Rattle.galley_file.specs.Outcome.{checkOutcome}
 use Rattle.sheet.specs.Sheet.{Mark, pageMark, sheet}
-use Rattle.dvi.specs.Page.{fontChars}
+use Rattle.sheet.specs.Readable.{fontChars}
 use Rattle.sheet.specs.Shown.{shows}
 use Rattle.dvi.specs.File.{readDvi}
-use Rattle.dvi.specs.Sheet.{sheetResult}
+use Rattle.dvi.specs.Sheet.{wholeFonts, sheetResult}
 use Rattle.dvi.specs.Writer.{dviFile}
 use Rattle.dvi.specs.Edition.{Faithful, Compared}
 use Rattle.dvi.specs.Demand3.{dvi1980}
@@ -52,7 +51,7 @@ fileOf widths room (written file) = sheetOf file (sheetResult file widths room)
 abbrev pub reprintMade : List ℤ → ℕ → ℕ → Result → Reprint
 reprintMade widths dviRoom sheetRoom (refusal number place) = stopped number place
 reprintMade widths dviRoom sheetRoom (written file) =
-    cond (eqb (length widths % fontChars) 0) (fileOf widths sheetRoom (ifRoom noDviRoom dviRoom (written file))) (stopped widthsNotWhole 0)
+    cond (wholeFonts widths) (fileOf widths sheetRoom (ifRoom noDviRoom dviRoom (written file))) (stopped widthsNotWhole 0)
 
 -- 40, 41 and 43 first
 unfoldable pub reprintResult : List ℕ → List ℤ → ℕ → ℕ → Reprint

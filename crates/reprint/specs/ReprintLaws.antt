@@ -18,7 +18,7 @@ use Rattle.galley_file.specs.GalleyLaws.{Accepted, accepted-is}
 use Rattle.galley_check.specs.Low.{lowOutcome, lowResult}
 use Rattle.galley_check.specs.LowLaws.{low-checked, low-made, low-refused, low-accepts}
 use Rattle.sheet.specs.Sheet.{pageMark}
-use Rattle.dvi.specs.Page.{fontChars}
+use Rattle.sheet.specs.Readable.{fontChars}
 use Rattle.sheet.specs.Sheet.{sheet}
 use Rattle.dvi.specs.Sheet.{sheetResult}
 use Rattle.dvi.specs.Writer.{dviFile}

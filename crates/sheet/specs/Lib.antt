@@ -1,7 +1,9 @@
--- The sheet, and what a file shows; the code's marks, and the sheet that a pass has made so far.
+-- The sheet, what a file shows, and what a reader is lent; the code's marks, and the sheet that a pass has made so far.
 pub mod Sheet
 pub mod SheetLaws
 pub mod Shown
 pub mod ShownLaws
+pub mod Readable
+pub mod ReadableLaws
 pub mod Mark
 pub mod Filled

@@ -1,6 +1,7 @@
 -- The code's marks as those of the sheet.
-use Prim.Native.Nat.{ℕ}
+use Prim.Native.Nat.{ℕ, _*_}
 use Rattle.sheet.specs.Sheet as S
+use Rattle.sheet.specs.Readable.{maxFile}
 use Rattle.sheet.specs.declared.Mark.{Mark}
 use Rattle.sheet.specs.declared.Mark.the-variants.{Start, Char, Rule}
 
@@ -9,6 +10,6 @@ markOf (Start n) = S.pageMark n
 markOf (Char c x y f) = S.charMark x y f c
 markOf (Rule k x y h w) = S.ruleMark k x y h w
 
--- a place in a sheet: a file of at most 33,554,432 bytes is read into one, and each byte makes at most one field of 20 bytes
+-- a place in a sheet: each byte of a file makes at most one field of 20 bytes
 abbrev pub lastPlace : ℕ
-lastPlace = 671088640
+lastPlace = 20 * maxFile

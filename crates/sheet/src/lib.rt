@@ -1,4 +1,4 @@
-// The sheet: what is shown, and its fields.
+// The sheet: what is shown, and its fields; the limits of what a reader is lent.
 use octets::field;
 use octets::number;
 ghost use mathlib.Core.Path.{_≡_};
@@ -11,6 +11,12 @@ ghost use Rattle.octets.specs.Write.{Wrote, Put};
 ghost use Rattle.sheet.specs.Sheet.{pageMark, charMark, ruleMark, markField};
 ghost use Rattle.sheet.specs.SheetLaws.{fieldSize};
 ghost use Rattle.sheet.specs.Mark.{markOf, lastPlace};
+
+// The longest file.
+pub const MAX_FILE: usize = 33_554_432;
+
+// The characters of a font.
+pub const FONT_CHARS: usize = 128;
 
 // What is shown: the start of a page, a character, a rule.
 pub enum Mark {
@@ -98,7 +104,7 @@ fn put_rule(out: &mut [u8], at: usize, kind: u8, x: i32, y: i32, h: i32, w: i32)
 }
 
 // The same three, if writing; without writing, only the place after the field.
-fn show_page(out: &mut [u8], to: usize, n: i32, writing: bool) -> usize
+pub fn show_page(out: &mut [u8], to: usize, n: i32, writing: bool) -> usize
     requires { ⌜ (to ≤ lastPlace) × (writing ≡ true → to + 7 ≤ length (now out)) ⌝ }
     ensures { λ r. ⌜ Put writing (now (out .entry)) to (markField (pageMark n)) (now (out .exit)) r ⌝ }
 {
@@ -108,7 +114,15 @@ fn show_page(out: &mut [u8], to: usize, n: i32, writing: bool) -> usize
     to + PAGE_FIELD
 }
 
-fn show_char(out: &mut [u8], to: usize, x: i32, y: i32, font: i32, ch: u8, writing: bool) -> usize
+pub fn show_char(
+    out: &mut [u8],
+    to: usize,
+    x: i32,
+    y: i32,
+    font: i32,
+    ch: u8,
+    writing: bool,
+) -> usize
     requires { ⌜ (to ≤ lastPlace) × (writing ≡ true → to + 16 ≤ length (now out)) ⌝ }
     ensures { λ r. ⌜ Put writing (now (out .entry)) to (markField (charMark x y font ch)) (now (out .exit)) r ⌝ }
 {

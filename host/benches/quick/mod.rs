@@ -14,6 +14,7 @@ mod report;
 mod running;
 mod tape;
 mod writer;
+mod xgp;
 
 pub use back::dvi_to_galley;
 pub use convert::{to_new, to_old};
@@ -26,6 +27,7 @@ pub use report::count_tape;
 pub use running::RunningTape;
 pub use tape::read_tape;
 pub use writer::{reprint, write_dvi};
+pub use xgp::read_xgp;
 
 /// The answer of an accepted call that wrote so many bytes.
 fn accepted(length: usize) -> [usize; 3] {

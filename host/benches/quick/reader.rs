@@ -32,8 +32,8 @@ pub trait Sink {
     fn rule(&mut self, place: usize, kind: u8, x: i32, y: i32, sides: [u8; 8]);
 }
 
-struct Room {
-    length: usize,
+pub struct Room {
+    pub length: usize,
 }
 
 impl Sink for Room {
@@ -55,10 +55,10 @@ impl Sink for Room {
     }
 }
 
-struct Fields<'a> {
-    sheet: &'a mut [u8],
-    at: usize,
-    count: u32,
+pub struct Fields<'a> {
+    pub sheet: &'a mut [u8],
+    pub at: usize,
+    pub count: u32,
 }
 
 impl Fields<'_> {
@@ -70,7 +70,7 @@ impl Fields<'_> {
     }
 
     /// Writes End; gives the length of the whole.
-    fn end(mut self) -> usize {
+    pub fn end(mut self) -> usize {
         let [a, b, c, d] = self.count.to_be_bytes();
         self.put([2, 0, 4, a, b, c, d]);
         self.at

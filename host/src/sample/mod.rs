@@ -4,9 +4,11 @@ mod book;
 mod chart;
 mod punch;
 mod random;
+mod stations;
 mod yearbook;
 
 pub use book::{book, book_widths};
 pub use chart::chart;
 pub use random::Random;
+pub use stations::{stations, stations_widths, STATIONS_SPACING};
 pub use yearbook::{pages, yearbook};

@@ -190,6 +190,16 @@ impl Comparison {
         self.fills("read_dvi", dvi, expected, room, call);
     }
 
+    pub fn read_xgp(&mut self, file: &[u8], spacing: u16, widths: &[i32]) {
+        let result = plain::read_xgp(file, spacing, widths);
+        let room = self.room(file, &result);
+        let expected = plain::with_room(result, room, 30);
+        let call = |them: &Implementation, file: &[u8], sheet: &mut [u8]| {
+            (them.read_xgp)(file, spacing, widths, sheet)
+        };
+        self.fills("read_xgp", file, expected, room, call);
+    }
+
     pub fn reprint(&mut self, galley: &[u8]) {
         let widths = vec![1; self.random.pick(&[0, 0, 0, 128, 256, 127, 1])];
         let whole = plain::reprint(galley, &widths, usize::MAX, usize::MAX);

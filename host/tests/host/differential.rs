@@ -38,6 +38,7 @@ fn compare(implementation: Implementation) {
     long_punches(&mut comparison);
     conversions(&mut comparison);
     each_dvi_file(|dvi, widths| comparison.dvi(dvi, widths));
+    xgp_files(&mut comparison);
     shown_galleys(&mut comparison);
     second_edition(&mut comparison);
     reports(&mut comparison);
@@ -334,6 +335,34 @@ fn each_dvi_file(mut take: impl FnMut(&[u8], &[i32])) {
     }
 }
 
+/// Files of any kind; some ended anywhere and changed anywhere; each byte after the beginnings of codes.
+fn xgp_files(comparison: &mut Comparison) {
+    let mut random = Random::new(SEED + 8);
+    for _ in 0..150_000 {
+        let file = cases::xgp_file(&mut random);
+        comparison.read_xgp(&file.bytes, file.spacing, &file.widths);
+    }
+    for _ in 0..40 {
+        let file = cases::valid_xgp_file(&mut random);
+        for length in 0..file.bytes.len() {
+            comparison.read_xgp(&file.bytes[..length], file.spacing, &file.widths);
+        }
+        each_byte_changed(&file.bytes, &mut random, |bytes| {
+            comparison.read_xgp(bytes, file.spacing, &file.widths);
+        });
+    }
+    let widths: Vec<i32> = (0..512).collect();
+    let beginnings: [&[u8]; 7] =
+        [&[], &[0o177], &[0o177, 1], &[0o177, 1, 0o40], &[0o177, 1, 0o40, 5], &[0o177, 1, 0o43], &[0o177, 2]];
+    for beginning in beginnings {
+        for byte in 0..=255 {
+            for end in [&[][..], &[0o101], &[0, 0o102], &[0o177, 2, 0o101]] {
+                comparison.read_xgp(&[&[0o101], beginning, &[byte], end].concat(), 40, &widths);
+            }
+        }
+    }
+}
+
 /// Files that show a galley in other ways than our writer, or nearly show one; each ended anywhere and changed
 /// anywhere.
 fn shown_galleys(comparison: &mut Comparison) {
@@ -411,6 +440,7 @@ fn every_number_is_met(comparison: &Comparison) {
         ("item_at", &[0, 41]),
         ("write_dvi", &[0, 41, 43, 42]),
         ("read_dvi", &[0, 31, 21, 22, 23, 24, 25, 26, 27, 28, 29, 30]),
+        ("read_xgp", &[0, 31, 63, 60, 61, 62, 28, 30]),
         ("dvi_to_galley", &[0, 31, 21, 22, 23, 24, 25, 26, 27, 28, 29, 45, 12]),
         ("reprint", &[0, 41, 43, 31, 42, 30]),
         ("write_dvi2", &[0, 41, 42]),

@@ -219,6 +219,39 @@ static void plain(void)
     expect("null DVI file, the plain way", SP_DVI_ENDS, 0, 0);
 }
 
+static void refuse_xgp(const char *what, const uint8_t *bytes, size_t length, size_t number, size_t place)
+{
+    static const int32_t widths[SP_XGP_WIDTHS];
+    sp_read_xgp(bytes, length, 40, widths, SP_XGP_WIDTHS, room, sizeof room, answer);
+    expect(what, number, place, 0);
+}
+
+static void xgp_files(void)
+{
+    static const uint8_t shown[] = {5, 0, 4, 0, 0, 0, 1, 3, 0, 13, 0, 0, 0, 0, 0, 0, 0, 40, 0, 0, 0, 0, 65,
+                                    3, 0, 13, 0, 0, 0, 7, 0, 0, 0, 40, 0, 0, 0, 0, 66, 2, 0, 4, 0, 0, 0, 3};
+    int32_t widths[SP_XGP_WIDTHS] = {0};
+    uint8_t made[sizeof shown];
+    widths[65] = 7;
+    widths[66] = INT32_MAX;
+    sp_read_xgp(BYTES(65, 66), 40, widths, SP_XGP_WIDTHS, room, sizeof room, answer);
+    expect("x leaves 32 bits", SP_OVERFLOW, 1, 0);
+    widths[66] = 9;
+    sp_read_xgp(BYTES(65, 66), 40, widths, SP_XGP_WIDTHS, made, sizeof made, answer);
+    expect("XGP to sheet", SP_ACCEPTED, 0, sizeof shown);
+    expect_true("the sheet of an XGP file", memcmp(made, shown, sizeof shown) == 0);
+    sp_read_xgp(BYTES(65, 66), 40, widths, SP_XGP_WIDTHS, made, sizeof made - 1, answer);
+    expect("room for the sheet of an XGP file", SP_SHEET_ROOM, sizeof shown, 0);
+    sp_read_xgp(BYTES(65, 66), 40, widths, SP_XGP_WIDTHS - 1, made, sizeof made, answer);
+    expect("three fonts and a part", SP_WIDTHS, 0, 0);
+    widths[511] = -1;
+    sp_read_xgp(BYTES(65, 66), 40, widths, SP_XGP_WIDTHS, made, sizeof made, answer);
+    expect("a negative width", SP_NEGATIVE_WIDTH, 0, 0);
+    refuse_xgp("backspace", BYTES(65, 8), SP_OUTSIDE_PART, 1);
+    refuse_xgp("a reserved code", BYTES(65, 0, 127, 5), SP_RESERVED_CODE, 2);
+    refuse_xgp("a column cut short", BYTES(127, 1, 32, 1), SP_CODE_CUT_SHORT, 0);
+}
+
 static void back(void)
 {
     uint8_t again[sizeof galley], other[sizeof dvi];
@@ -303,6 +336,10 @@ static void lengths(void)
     expect("the longest piece", SP_ACCEPTED, 0, 0);
     sp_feed(words, zeros, 1, room, sizeof room, answer);
     expect("a piece more", SP_TAPE_TOO_LONG, 0, 0);
+    refuse_xgp("a longer XGP file", zeros, SP_XGP_LIMIT + 1, SP_DVI_TOO_LONG, 0);
+    zeros[SP_XGP_LIMIT - 1] = 8;
+    refuse_xgp("the longest XGP file", zeros, SP_XGP_LIMIT, SP_OUTSIDE_PART, SP_XGP_LIMIT - 1);
+    zeros[SP_XGP_LIMIT - 1] = 0;
     sp_check_galley(zeros, SP_GALLEY_LIMIT, answer);
     expect("the longest galley", SP_GALLEY_MALFORMED, 0, 0);
     sp_check_galley(zeros, SP_GALLEY_LIMIT + 1, answer);
@@ -440,6 +477,8 @@ static void nulls(void)
     expect("null DVI file to a galley", SP_DVI_ENDS, 0, 0);
     sp_dvi_to_galley(dvi, sizeof dvi, NULL, 0, NULL, 0, answer);
     expect("null buffer for a galley again", SP_GALLEY_ROOM, sizeof galley, 0);
+    sp_read_xgp(NULL, 0, 0, NULL, 0, NULL, 0, answer);
+    expect("null XGP file and widths", SP_WIDTHS, 0, 0);
     sp_reprint(NULL, 0, NULL, 0, NULL, 0, NULL, 0, answer);
     expect("null galley reprinted", SP_GALLEY_MALFORMED, 0, 0);
     sp_reprint(galley, sizeof galley, NULL, 0, NULL, 0, NULL, 0, answer);
@@ -471,6 +510,7 @@ int main(void)
     reprints();
     dvi_files();
     plain();
+    xgp_files();
     back();
     second_edition();
     lengths();

@@ -92,6 +92,8 @@ fn the_header_has_the_package_s_numbers() {
         ("SP_ITEM_LIMIT", spatecanter::ITEM_LIMIT),
         ("SP_HEIGHT_LIMIT", spatecanter::HEIGHT_LIMIT as usize),
         ("SP_DVI_HEIGHT_LIMIT", spatecanter::DVI_HEIGHT_LIMIT as usize),
+        ("SP_XGP_LIMIT", spatecanter::XGP_LIMIT),
+        ("SP_XGP_WIDTHS", spatecanter::XGP_WIDTHS),
         ("SP_ITEM_CHARACTER", spatecanter::ffi::ITEM_CHARACTER as usize),
         ("SP_ITEM_CUT", spatecanter::ffi::ITEM_CUT as usize),
         ("SP_TAPE_WORDS", spatecanter::ffi::TAPE_WORDS),

@@ -12,6 +12,9 @@ type Fill = fn(&[u8], &mut [u8]) -> Answer;
 /// Fills the last slice from a DVI file, with a table of widths.
 type ReadFile = fn(&[u8], &[i32], &mut [u8]) -> Answer;
 
+/// Fills the last slice from an XGP file, with the spacing of its lines and a table of widths.
+type ReadXgp = fn(&[u8], u16, &[i32], &mut [u8]) -> Answer;
+
 /// Fills the last two slices, a DVI file and its sheet.
 type FillBoth = fn(&[u8], &[i32], &mut [u8], &mut [u8]) -> Answer;
 
@@ -26,6 +29,7 @@ pub struct Implementation {
     pub write_dvi: Fill,
     pub read_dvi: ReadFile,
     pub dvi_to_galley: ReadFile,
+    pub read_xgp: ReadXgp,
     pub reprint: FillBoth,
     pub write_dvi2: Fill,
     pub read_dvi2: Fill,
@@ -77,6 +81,7 @@ pub const PLAIN: Implementation = Implementation {
     write_dvi: |galley, dvi| filled(plain::write_dvi(galley), dvi, 42),
     read_dvi: |dvi, widths, sheet| filled(plain::read_dvi(dvi, widths), sheet, 30),
     dvi_to_galley: |dvi, widths, galley| filled(plain::dvi_to_galley(dvi, widths), galley, 12),
+    read_xgp: |file, spacing, widths, sheet| filled(plain::read_xgp(file, spacing, widths), sheet, 30),
     reprint: |galley, widths, dvi, sheet| match plain::reprint(galley, widths, dvi.len(), sheet.len()) {
         Ok((dvi_bytes, sheet_bytes)) => {
             dvi[..dvi_bytes.len()].copy_from_slice(&dvi_bytes);
@@ -134,6 +139,7 @@ pub const QUICK: Implementation = Implementation {
     write_dvi: quick::write_dvi,
     read_dvi: quick::read_dvi,
     dvi_to_galley: quick::dvi_to_galley,
+    read_xgp: quick::read_xgp,
     reprint: quick::reprint,
     write_dvi2: quick::write_dvi2,
     read_dvi2: quick::read_dvi2,
@@ -220,6 +226,20 @@ pub const LIBRARY: Implementation = Implementation {
                 widths.len(),
                 galley.as_mut_ptr(),
                 galley.len(),
+                answer,
+            )
+        })
+    },
+    read_xgp: |file, spacing, widths, sheet| {
+        answered(|answer| unsafe {
+            ffi::sp_read_xgp(
+                file.as_ptr(),
+                file.len(),
+                spacing,
+                widths.as_ptr(),
+                widths.len(),
+                sheet.as_mut_ptr(),
+                sheet.len(),
                 answer,
             )
         })

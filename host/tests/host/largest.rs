@@ -4,8 +4,12 @@ use crate::cases;
 use crate::compare::Comparison;
 use crate::implementation::{Implementation, BRACKETS, LIBRARY, QUICK};
 use crate::plain;
-use spatecanter::sample::{book, book_widths, chart, yearbook, Random};
-use spatecanter::{Machine, DVI2_LIMIT, DVI_LIMIT, GALLEY_LIMIT, OLD_GALLEY_LIMIT, TAPE_LIMIT};
+use spatecanter::sample::{
+    book, book_widths, chart, stations, stations_widths, yearbook, Random, STATIONS_SPACING,
+};
+use spatecanter::{
+    Machine, DVI2_LIMIT, DVI_LIMIT, GALLEY_LIMIT, OLD_GALLEY_LIMIT, SHEET_LIMIT, TAPE_LIMIT, XGP_LIMIT,
+};
 
 /// Characters and cuts in a galley, together.
 const ITEMS: usize = 1_048_576;
@@ -43,11 +47,13 @@ fn on_a_small_stack(implementation: Implementation) {
         punches(&mut comparison);
         conversions(&mut comparison);
         each_dvi_file(|dvi, widths| comparison.dvi(dvi, widths));
+        xgp_files(&mut comparison);
         back_to_galleys(&mut comparison);
         second_edition(&mut comparison);
         reports(&mut comparison);
         comparison.print();
         needs_the_largest_sheet(implementation);
+        needs_the_largest_xgp_sheet(implementation);
     });
 }
 
@@ -234,6 +240,22 @@ fn each_dvi_file(mut take: impl FnMut(&[u8], &[i32])) {
     take(&long_name(), &[]);
 }
 
+/// Lists of stations to the limit, and one byte more; pages of one character, pages of none, and lines that go too
+/// far down.
+fn xgp_files(comparison: &mut Comparison) {
+    let widths = stations_widths();
+    let mut file = stations(13, XGP_LIMIT);
+    comparison.read_xgp(&file, STATIONS_SPACING, &widths);
+    file[XGP_LIMIT - 1] = 0o177;
+    comparison.read_xgp(&file, STATIONS_SPACING, &widths);
+    file.push(0o101);
+    comparison.read_xgp(&file, STATIONS_SPACING, &widths);
+    comparison.read_xgp(&[0o14, 0o101].repeat(XGP_LIMIT / 2), 40, &[0; 512]);
+    comparison.read_xgp(&vec![0o14; XGP_LIMIT], 40, &widths);
+    comparison.read_xgp(&vec![0o12; XGP_LIMIT], 63, &widths);
+    comparison.read_xgp(&vec![0o12; XGP_LIMIT], 64, &widths);
+}
+
 /// The files of full galleys, and one character or one page more.
 fn back_to_galleys(comparison: &mut Comparison) {
     for n in [1, 10, ITEMS] {
@@ -356,4 +378,12 @@ fn needs_the_largest_sheet(implementation: Implementation) {
     let dvi = ended(dvi, 0);
     let needed = 7 + 16 * (DVI_LIMIT - 27 - 11) + 7;
     assert_eq!((implementation.read_dvi)(&dvi, &[0; 128], &mut []), [30, needed, 0]);
+}
+
+/// The largest sheet of an XGP file: a character of 16 bytes for each byte, a page and End.
+fn needs_the_largest_xgp_sheet(implementation: Implementation) {
+    let answer = (implementation.read_xgp)(&vec![0o101; XGP_LIMIT], 40, &[63; 512], &mut []);
+    assert_eq!(answer, [30, SHEET_LIMIT, 0]);
+    let answer = (implementation.read_xgp)(&vec![0o101; XGP_LIMIT], 40, &[64; 512], &mut []);
+    assert_eq!(answer, [28, XGP_LIMIT - 1, 0]);
 }

@@ -1,7 +1,7 @@
 //! The files in samples/ are what their README says.
 
 use spatecanter::galley::characters;
-use spatecanter::sample::{chart, pages, yearbook};
+use spatecanter::sample::{chart, pages, stations, stations_widths, yearbook, STATIONS_SPACING};
 use spatecanter::sheet::{fields, Field};
 use spatecanter::{Machine, Refusal};
 use std::fs;
@@ -93,6 +93,24 @@ fn the_shelf_is_converted() {
     assert_eq!((shelf.len(), galley.len()), (5_665, 6_921));
     assert!(spatecanter::galley_to_new(&shelf).unwrap() == galley);
     assert!(spatecanter::galley_to_old(&galley).unwrap() == shelf);
+}
+
+/// Two pages of XGP character mode, with their widths.
+#[test]
+fn the_stations_are_made_by_the_generator() {
+    let file = sample("stations.xgp");
+    assert!(file == stations(1980, 5_000));
+    let widths = stations_widths();
+    let bytes: Vec<u8> = widths.iter().flat_map(|width| width.to_be_bytes()).collect();
+    assert!(bytes == sample("stations.widths"));
+    let sheet = spatecanter::read_xgp(&file, STATIONS_SPACING, &widths).unwrap();
+    assert_eq!((sheet.len(), fields(&sheet).count()), (34_005, 2_126));
+    let starts: Vec<Field> = fields(&sheet).filter(|field| matches!(field, Field::Page(_))).collect();
+    assert_eq!(starts, [Field::Page(1), Field::Page(2)]);
+    for short in [&widths[..511], &[]] {
+        let refused = spatecanter::read_xgp(&file, STATIONS_SPACING, short);
+        assert_eq!(refused, Err(Refusal { number: 31, place: 0 }));
+    }
 }
 
 #[test]

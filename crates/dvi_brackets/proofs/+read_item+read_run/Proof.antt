@@ -14,7 +14,7 @@ use Rattle.octets.specs.Write.{Put, put-still}
 use Rattle.dvi.specs.Command.{POP}
 use Rattle.dvi.specs.Page as S
 use Rattle.sheet.specs.Sheet.{Mark, markFields}
-use Rattle.dvi.specs.Sheet.{maxDvi}
+use Rattle.sheet.specs.Readable.{maxFile}
 use Rattle.dvi_page.specs.Page.{pageOf}
 use Rattle.dvi_brackets.specs.Brackets as B
 use Rattle.dvi_brackets.specs.Brackets.{pastItem, pageEnd, run, itemHere}
@@ -194,7 +194,7 @@ module _ (t : ℕ) where
     roomy : start .args .writing ≡ true → RoomyRun whole (start .args .to) (length (start .args .out .now))
     roomy w = start .pre .1 .1 w
 
-    within : (start .args .at + length (start .args .s .now) ≤ maxDvi) × Within (start .args .at) (start .args .to) (start .args .count)
+    within : (start .args .at + length (start .args .s .now) ≤ maxFile) × Within (start .args .at) (start .args .to) (start .args .count)
     within = start .pre .1 .0
 
     abbrev going : Going (start .args .widths .now) (start .args .depth) (start .args .at) (pageOf (start .args .p) []) (start .args .s .now) (start .args .writing) (start .args .out .now) (start .args .to) (start .args .count) (pageOf (c .loop .q) []) (c .loop .i) (c .loop .inv .0) (c .loop .out) (c .loop .t) (c .loop .c)
@@ -251,7 +251,7 @@ module _ (t : ℕ) where
 
     abbrev Asks : List ℕ → Type 0
     Asks l =
-        ((0 < length l) × ((getD l 0 0 ≡ POP → ⊥) × ((before-run .args .at + index + length l ≤ maxDvi) × Within (before-run .args .at + index) (loop .loop .t) (loop .loop .c))))
+        ((0 < length l) × ((getD l 0 0 ≡ POP → ⊥) × ((before-run .args .at + index + length l ≤ maxFile) × Within (before-run .args .at + index) (loop .loop .t) (loop .loop .c))))
         × (before-run .args .writing ≡ true → RoomyItem (itemIn l) (loop .loop .t) (length (loop .loop .out)))
 
     asks : Asks (drop index slice)

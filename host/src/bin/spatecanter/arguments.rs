@@ -25,6 +25,10 @@ pub struct Arguments {
     pub from: Option<OsString>,
     /// --to
     pub to: Option<OsString>,
+    /// --dots
+    pub dots: Option<OsString>,
+    /// --spacing
+    pub spacing: Option<OsString>,
     /// --pieces
     pub pieces: Option<OsString>,
     /// --list
@@ -143,6 +147,8 @@ impl Arguments {
             "--fonts" => Some(&mut self.fonts),
             "--from" => Some(&mut self.from),
             "--to" => Some(&mut self.to),
+            "--dots" => Some(&mut self.dots),
+            "--spacing" => Some(&mut self.spacing),
             "--pieces" => Some(&mut self.pieces),
             "--list" => Some(&mut self.list),
             "--format" => Some(&mut self.format),

@@ -8,14 +8,14 @@ use crate::failure::{say, Failure};
 use crate::fonts::Fonts;
 use crate::input::{self, shown};
 use crate::output::{self, named_after, Draft, Place};
-use crate::plot::{self, Picture};
+use crate::plot::{Picture, Source};
 use crate::report::Counted;
 use crate::summary::Summary;
 use crate::text::{self, counted};
-use crate::{explain2, help, options, pieces, progress, tapes};
+use crate::{explain2, help, marks, options, pieces, progress, sheets, tapes, xgp};
 use spatecanter::galley::characters;
 use spatecanter::{
-    sheet, Extents, Machine, Refusal, RunningTape, DVI2_LIMIT, DVI_LIMIT, GALLEY_LIMIT, OLD_GALLEY_LIMIT,
+    Extents, Machine, Refusal, RunningTape, DVI2_LIMIT, DVI_LIMIT, GALLEY_LIMIT, OLD_GALLEY_LIMIT,
     SHEET_LIMIT, TAPE_LIMIT,
 };
 use std::ffi::OsStr;
@@ -30,7 +30,7 @@ pub struct Command {
     pub run: fn(&Arguments) -> Result<(), Failure>,
 }
 
-pub const COMMANDS: [Command; 13] = [
+pub const COMMANDS: [Command; 14] = [
     Command {
         name: "read",
         usage: "read TAPE [--machine 4|8] [--pieces N] [-o GALLEY] [--force]",
@@ -80,6 +80,14 @@ pub const COMMANDS: [Command; 13] = [
         run: back,
     },
     Command {
+        name: "xgp",
+        usage: XGP_USAGE,
+        inputs: Inputs::One,
+        options: &["--spacing", "--widths", "-o", "--force"],
+        help: help::XGP,
+        run: xgp::run,
+    },
+    Command {
         name: "sheet",
         usage: "sheet SHEET",
         inputs: Inputs::One,
@@ -99,7 +107,7 @@ pub const COMMANDS: [Command; 13] = [
         name: "plot",
         usage: PLOT_USAGE,
         inputs: Inputs::One,
-        options: &["--machine", "--fonts", "--page", "--from", "--to", "-o", "--force"],
+        options: &["--machine", "--dots", "--fonts", "--page", "--from", "--to", "-o", "--force"],
         help: help::PLOT,
         run: draw,
     },
@@ -142,8 +150,10 @@ pub const REPRINT_USAGE: &str =
 pub const CONVERT_USAGE: &str = "convert --to new|old GALLEY [-o GALLEY] [--force]";
 const COMPARE_USAGE: &str = "compare TAPE|GALLEY TAPE|GALLEY [--machine 4|8] [--order any]";
 const REPORT_USAGE: &str = "report PATH... [--machine 4|8] [--list FILE] [--format csv|json] [--tapes]";
-const PLOT_USAGE: &str = "plot TAPE|GALLEY [--machine 4|8] [--fonts NAMES] [--page N] [--from HEIGHT] \
-                          [--to HEIGHT] [-o SVG] [--force]";
+const PLOT_USAGE: &str = "plot TAPE|GALLEY|SHEET [--machine 4|8] [--dots N] [--fonts NAMES] [--page N] \
+                          [--from HEIGHT] [--to HEIGHT] [-o SVG] [--force]";
+
+pub const XGP_USAGE: &str = "xgp FILE --spacing N --widths FILE [-o SHEET] [--force]";
 
 /// The longest table of widths that is read, in bytes: 65,536 fonts.
 const WIDTHS_LIMIT: usize = 33_554_432;
@@ -267,7 +277,7 @@ fn dvi_file(
 }
 
 /// A file of 32-bit numbers, high byte first.
-fn widths(name: &OsStr) -> Result<Vec<i32>, Failure> {
+pub fn widths(name: &OsStr) -> Result<Vec<i32>, Failure> {
     let bytes = input::read(name, WIDTHS_LIMIT)?;
     let (numbers, rest) = bytes.as_chunks();
     let fault = match rest {
@@ -279,16 +289,8 @@ fn widths(name: &OsStr) -> Result<Vec<i32>, Failure> {
 }
 
 fn list_sheet(arguments: &Arguments) -> Result<(), Failure> {
-    let mut place = 0;
-    let bytes = input::read_while(&arguments.input, SHEET_LIMIT, |bytes| {
-        place = sheet::end_of_fields(bytes, place);
-        bytes.len() - place < sheet::LONGEST_FIELD
-    })?;
-    let refused = |why: String| Failure::Refused(format!("{}: {why}", shown(&arguments.input)));
-    if bytes.len() > SHEET_LIMIT {
-        return Err(refused(format!("no sheet: longer than {}", counted(SHEET_LIMIT, "byte"))));
-    }
-    sheet::check(&bytes).map_err(|fault| refused(fault.to_string()))?;
+    let bytes = input::read_while(&arguments.input, SHEET_LIMIT, sheets::looks_good())?;
+    sheets::check(&arguments.input, &bytes)?;
     print(|out| text::list_sheet(out, &bytes))
 }
 
@@ -325,12 +327,10 @@ fn reprint(arguments: &Arguments) -> Result<(), Failure> {
 
 fn draw(arguments: &Arguments) -> Result<(), Failure> {
     let place = place(arguments, &[&arguments.input], "svg")?;
-    let (galley, machine) = galley_or_tape(&arguments.input, options::machine(arguments)?)?;
-    let fonts = Fonts::choose(arguments.fonts.as_deref(), machine)?;
-    let pages = plot::pages(&galley);
-    let shown_pages = options::pages(arguments, pages.len())?;
-    let part = options::part(arguments, shown_pages.len(), pages[shown_pages.start].lowest())?;
-    let picture = Picture::new(shown(&arguments.input), machine, &fonts, &pages, shown_pages, part);
+    let source = drawn(arguments)?;
+    let shown_pages = options::pages(arguments, source.pages.len())?;
+    let part = options::part(arguments, shown_pages.len(), source.pages[shown_pages.start].lowest())?;
+    let picture = Picture::new(&source, shown_pages, part);
     let mut draft = Draft::start(&place)?;
     progress::during("drawing", || draft.fill(|out| picture.draw(out)))?;
     output::finish(vec![draft])?;
@@ -343,6 +343,31 @@ fn draw(arguments: &Arguments) -> Result<(), Failure> {
         ));
     }
     Ok(())
+}
+
+/// What plot draws: the pages of a sheet, a galley or a tape.
+fn drawn(arguments: &Arguments) -> Result<Source, Failure> {
+    let input = &arguments.input;
+    let (named, measure) = (options::machine(arguments)?, options::measure(arguments)?);
+    let mut looks_good = sheets::looks_good();
+    let bytes = input::read_while(input, SHEET_LIMIT, |bytes| match sheets::is_sheet(bytes) {
+        true => looks_good(bytes),
+        false => bytes.len() <= GALLEY_LIMIT,
+    })?;
+    if sheets::is_sheet(&bytes) {
+        sheets::check(input, &bytes)?;
+        return sheets::source(input, &bytes, measure, named, arguments.fonts.as_deref());
+    }
+    if arguments.dots.is_some() {
+        return Err(Failure::Usage(format!("--dots is for sheets, and {} is none", shown(input))));
+    }
+    let (galley, machine) = galley_in(input, bytes, named)?;
+    let origin = match machine {
+        Some(machine) => format!("{}-font machine", machine.fonts()),
+        None => "Machine not recorded".into(),
+    };
+    let fonts = Fonts::choose(arguments.fonts.as_deref(), machine)?;
+    Ok(Source { name: shown(input), origin, fonts, pages: marks::of_galley(&galley) })
 }
 
 fn compare(arguments: &Arguments) -> Result<(), Failure> {
@@ -375,7 +400,14 @@ fn report(arguments: &Arguments) -> Result<(), Failure> {
 
 /// The galley of an input that is a galley or a tape, and its machine: a galley's is the one named, if any.
 fn galley_or_tape(name: &OsStr, named: Option<Machine>) -> Result<(Vec<u8>, Option<Machine>), Failure> {
-    let bytes = input::read(name, GALLEY_LIMIT)?;
+    galley_in(name, input::read(name, GALLEY_LIMIT)?, named)
+}
+
+fn galley_in(
+    name: &OsStr,
+    bytes: Vec<u8>,
+    named: Option<Machine>,
+) -> Result<(Vec<u8>, Option<Machine>), Failure> {
     match bytes.first() {
         Some(1 | 2 | 6 | 7) => {
             spatecanter::check_galley(&bytes).map_err(|refusal| explain::galley(name, &bytes, refusal))?;

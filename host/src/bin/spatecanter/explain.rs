@@ -126,7 +126,7 @@ pub fn offset(place: usize) -> String {
 }
 
 /// The first bytes of a rest in hexadecimal.
-fn bytes_in_words(rest: &[u8], most: usize) -> String {
+pub fn bytes_in_words(rest: &[u8], most: usize) -> String {
     if rest.is_empty() {
         return "the end of the file".into();
     }

@@ -13,9 +13,10 @@ Usage: spatecanter COMMAND ...
   set GALLEY [--edition 2] [-o DVI]     a galley to a DVI file
   show DVI [--widths FILE] [-o SHEET]   a DVI file to a sheet
   back DVI [--widths FILE] [-o GALLEY]  a DVI file back to its galley
+  xgp FILE --spacing N --widths FILE    a file of XGP character mode to a sheet
   sheet SHEET                           a sheet as text
   reprint TAPE -d FOLDER                a tape to galley, DVI file and sheet, with a summary
-  plot TAPE|GALLEY [--page N] [-o SVG]  a picture of the pages
+  plot TAPE|GALLEY|SHEET [-o SVG]       a picture of the pages
   punch GALLEY [-o TAPE]                a galley to a tape of the 8-font machine
   convert --to new|old GALLEY           an old galley to a new one, or back
   compare TAPE|GALLEY TAPE|GALLEY       do two set the same pages, and where do they differ?
@@ -186,6 +187,46 @@ Without -o the galley of page.dvi is page.dvi.galley. --force writes over a file
 already.
 ";
 
+pub const XGP: &str = "\
+Reads a file of the Xerox Graphics Printer's character mode and writes what it shows, as a
+sheet in dots and scan lines.
+
+Usage: spatecanter xgp FILE --spacing N --widths FILE [-o SHEET] [--force]
+
+The file does not say its line spacing: N scan lines, 0 to 65,535. The widths are 32-bit
+numbers, high byte first, in dots, none below 0: 128 for each of the fonts 0 to 3.
+
+The codes that are read, in octal:
+  0                       null, nothing
+  1-7, 13, 16-176         the character; the next one stands its width to the right
+  177, then 0, 11, 12,    the same of the second byte
+    14, 15, 40-177
+  12, 14, 15              LF, FF (the first line of the next page), CR (x = 0)
+  177 1 0 to 177 1 3      font select, without a base-line adjustment
+  177 1 40 H L            column select: x = 128 H + L
+  177 1 43 N              base-line adjust: raised by N, in two's complement of seven bits
+  177 2 N                 column increment, N the same
+LF and FF leave x as it is. At the start the font is 0, x is 0, and the first line of a page
+is one line spacing down. A page without characters is not shown, but counted.
+
+Numbers, at the first byte of the code unless another is said:
+  20  the file is longer than 33,554,432 bytes; at 0
+  31  the widths are not those of four fonts; at 0
+  63  a width is negative; at 0
+  60  a code that is not read here: backspace (10), TAB (11), the scan line to start on (177
+      3), a vector (177 4), underscore, line space, page number, heading, underlines and
+      spacing (177 1, then 41, 42 or 44 to 50); or a byte above 127 (177 octal)
+  61  a reserved code (177, then 5 to 10, 13 or 16 to 37; 177 1, then 4 to 37), or one that is
+      not listed (177 1, then 51 to 177)
+  62  the file ends inside a code
+  28  x, the baseline or a character's y leaves 32 bits
+
+sheet lists the sheet, and plot --dots draws it. Without -o the sheet of page.xgp is
+page.xgp.sheet; where it goes to a file, standard error tells how many characters there are,
+on how many pages, how far they reach, and their fonts. --force writes over a file that is
+there already.
+";
+
 pub const SHEET: &str = "\
 Lists a sheet as text, a line for each field.
 
@@ -196,7 +237,8 @@ The lines are
   char X Y FONT CHAR
   rule vertical|horizontal X Y HEIGHT WIDTH
   end FIELDS
-with places and sides in rsu, 1/65536 of a point of 1/72 inch, X to the right and Y down.
+with places and sides in rsu, 1/65536 of a point of 1/72 inch, X to the right and Y down; of
+an XGP file in dots and scan lines.
 The text goes to standard output.
 ";
 
@@ -228,9 +270,9 @@ cannot hold, is refused too: 43, at a place in the galley that read makes of it.
 
 pub const PLOT: &str = "\
 Draws the pages below one another as an SVG picture: a small mark for each character at its
-place, without letter shapes.
+place, without letter shapes, and the rules of a sheet.
 
-Usage: spatecanter plot TAPE|GALLEY [--machine 4|8] [--fonts NAMES] [--page N]
+Usage: spatecanter plot TAPE|GALLEY|SHEET [--machine 4|8] [--dots N] [--fonts NAMES] [--page N]
                         [--from HEIGHT] [--to HEIGHT] [-o SVG] [--force]
 
 Font 1 is dark blue and upright, font 2 orange and slanted, other fonts light grey; marks of
@@ -238,10 +280,16 @@ double sizes are larger, and characters that stand on another are framed. The le
 how many there are, and of which machine the tape is. --fonts is that of reprint: it says
 which fonts are told apart, and what they mean.
 
-A file that begins with byte 02, 06 or 07 is read as a galley, any other as a tape; no tape
-and no galley is taken for the other. Byte 01 begins an old galley, which is refused: convert
-it first. --machine is that of read; a galley has its fonts already, and does not record its
-machine: with --machine the legend names it. Refusals are those of read and check.
+A file that begins with byte 05 is read as a sheet, one with 02, 06 or 07 as a galley, any
+other as a tape; none is taken for another. Byte 01 begins an old galley, which is refused:
+convert it first. --machine is that of read; a galley or a sheet has its fonts already, and
+does not record its machine: with --machine the legend names it. Refusals are those of read,
+check and sheet.
+
+A sheet does not say its measure. Without --dots its places are in rsu, as of a DVI file, and
+its fonts 0 to 119 are those of a galley. With --dots N they are dots and scan lines, N to an
+inch, as of an XGP file: fonts 0 and 1 are told apart, and blanks (40 octal) have small marks.
+A page bears its number.
 
 The picture has the size of the pages, with rulers in inches, but is scaled where it would be
 higher than 32,767 pixels of 1/96 inch (341 inches), which many programs do not show. With

@@ -6,6 +6,7 @@ use crate::differences::Order;
 use crate::edition::Edition;
 use crate::explain::Form;
 use crate::failure::Failure;
+use crate::marks::Measure;
 use crate::report::Format;
 use crate::text::grouped;
 use spatecanter::{Machine, HEIGHT_LIMIT, TAPE_LIMIT};
@@ -41,6 +42,23 @@ pub fn pieces(arguments: &Arguments) -> Result<Option<usize>, Failure> {
             "--pieces {} is no length of a piece: it is a number of bytes, 1 to {}",
             word.to_string_lossy(),
             grouped(TAPE_LIMIT)
+        ))),
+    }
+}
+
+/// The measure of a sheet: as many dots to an inch as --dots says, without it rsu.
+pub fn measure(arguments: &Arguments) -> Result<Measure, Failure> {
+    let Some(word) = &arguments.dots else {
+        return Ok(Measure::Rsu);
+    };
+    if arguments.machine.is_some() {
+        return Err(Failure::Usage("--dots is for sheets of XGP files, which have no --machine".into()));
+    }
+    match word.to_str().and_then(|text| text.parse().ok()) {
+        Some(dots) if (1..=10_000).contains(&dots) => Ok(Measure::Dots(dots)),
+        _ => Err(Failure::Usage(format!(
+            "--dots {} is no measure: it is the number of dots to an inch, 1 to 10,000",
+            word.to_string_lossy()
         ))),
     }
 }

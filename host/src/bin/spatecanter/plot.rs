@@ -1,142 +1,164 @@
-//! A picture of the pages, one below the other: a mark for each character at its place.
+//! A picture of the pages, one below the other: a mark for each character at its place, and the rules.
 
 use crate::fonts::Fonts;
+use crate::marks::{Mark, Page, Rule, Size, INCH, QUANTUM};
 use crate::text::{counted, grouped};
-use spatecanter::galley::{self, Character};
-use spatecanter::{Machine, HEIGHT_LIMIT};
 use std::io::{self, Write};
 use std::ops::{Range, RangeInclusive};
 
-/// Units of 1/432 inch in half an inch and an inch, across the page, and in a quantum.
-const HALF_INCH: i32 = 216;
-const INCH: i32 = 432;
-const PAGE_WIDTH: i32 = 3_240;
-const QUANTUM: i32 = 3;
+const HALF_INCH: i64 = INCH / 2;
+/// The width of a page, if nothing stands farther out.
+const PAGE_WIDTH: i64 = 3_240;
 /// Room for the legend above all pages; and around each page, for its rulers and its number.
-const LEGEND: i32 = 500;
-const LEFT: i32 = 240;
-const TOP: i32 = 200;
-const RIGHT: i32 = 160;
-const BOTTOM: i32 = 120;
-const WIDTH: i32 = LEFT + PAGE_WIDTH + RIGHT;
-/// The greatest height of a picture, in inches of 96 pixels: many programs show 32,767 pixels and no more.
+const LEGEND: i64 = 500;
+const LEFT: i64 = 240;
+const TOP: i64 = 200;
+const RIGHT: i64 = 160;
+const BOTTOM: i64 = 120;
+/// The greatest height and width of a picture, in inches of 96 pixels: many programs show 32,767 pixels and no
+/// more.
 const MOST_INCHES: f64 = 341.0;
+/// The most ticks of a ruler.
+const MOST_TICKS: i64 = 10_000;
 /// A path is ended when it has this many bytes: many programs read no attribute of a megabyte.
 const LONG_PATH: usize = 60_000;
 /// A character whose mark starts less than this after another's, on the same line, is overstruck.
-const REACH: i32 = 8;
+const REACH: i64 = 8;
 
 /// How the marks of a kind look: they differ by colour, in grey too, and by shape.
 struct Style {
     colour: &'static str,
     /// How far the head of a mark stands to the right of its foot, in sixteenths of the mark's width; it is
     /// so much narrower.
-    lean: i32,
+    lean: i64,
 }
 
-/// The marks of the fonts that are told apart, and of all others.
+/// The marks of the fonts that are told apart, and of all others; and rules.
 const FONT_STYLES: [Style; 2] = [Style { colour: "#003a70", lean: 0 }, Style { colour: "#d55e00", lean: 6 }];
 const OTHER_STYLE: Style = Style { colour: "#bcbcbc", lean: 0 };
+const RULE_LOOK: &str = "fill=\"black\"";
 
 /// A mark of this style as a piece of a path: from the foot's left end, on the baseline.
-fn mark(style: &Style, x: i32, y: i32, height: i32) -> String {
+fn mark(style: &Style, x: i64, y: i64, height: i64) -> String {
     let lean = style.lean * height / 32;
     let foot = height / 2 - lean;
     format!("M{x} {y}h{foot}l{lean}-{height}h-{foot}z")
 }
 
 /// The height of a mark; it is half as wide.
-fn mark_height(is_double: bool) -> i32 {
-    if is_double {
-        64
-    } else {
-        32
+fn mark_height(size: Size) -> i64 {
+    match size {
+        Size::Blank => 8,
+        Size::Single => 32,
+        Size::Double => 64,
     }
 }
 
-/// A page's characters.
-pub struct Page(Vec<Character>);
-
-/// The pages of a galley that the check accepts.
-pub fn pages(galley: &[u8]) -> Vec<Page> {
-    galley::pages(galley).into_iter().map(Page).collect()
+/// A rule as a piece of a path.
+fn rule(rule: &Rule) -> String {
+    let Rule { left, right, top, bottom } = rule;
+    format!("M{left} {bottom}H{right}V{top}H{left}z")
 }
 
-impl Page {
-    /// The height of the lowest character.
-    pub fn lowest(&self) -> i32 {
-        self.0.iter().map(|character| character.height).max().unwrap_or(0)
-    }
+/// The pages that can be drawn, and what the legend says of them.
+pub struct Source {
+    pub name: String,
+    /// What they come from, in words.
+    pub origin: String,
+    pub fonts: Fonts,
+    pub pages: Vec<Page>,
 }
 
 /// Some pages, or a part of one, with a legend.
 pub struct Picture<'a> {
-    name: String,
-    machine: Option<Machine>,
-    fonts: &'a Fonts,
-    /// How many pages there are, and the number of the first that is shown.
-    all: usize,
+    source: &'a Source,
+    /// The first page that is shown, counted from 1.
     first: usize,
     views: Vec<View<'a>>,
     part: Option<RangeInclusive<i32>>,
+    /// The left and the right edge of all pages.
+    sides: Range<i64>,
 }
 
-/// A page as it is shown: the characters of some heights, those on another, and its edges, in units.
+/// A page as it is shown: what stands at some heights, the marks on another, and its upper and lower edge.
 struct View<'a> {
     page: &'a Page,
-    heights: RangeInclusive<i32>,
-    overstruck: Vec<Character>,
-    top: i32,
-    bottom: i32,
+    heights: RangeInclusive<i64>,
+    overstruck: Vec<Mark>,
+    top: i64,
+    bottom: i64,
 }
 
 impl View<'_> {
-    /// A part of a page, or all of it: to whole half inches, and at least one below the lowest baseline.
+    /// A part of a page, given in quanta, or all of it: to whole half inches, and at least one below the lowest
+    /// baseline.
     fn new<'a>(page: &'a Page, part: Option<&RangeInclusive<i32>>) -> View<'a> {
-        let (heights, bottom) = match part {
-            Some(heights) => (heights.clone(), QUANTUM * heights.end() + HALF_INCH),
-            None => (0..=HEIGHT_LIMIT, (QUANTUM * page.lowest() / HALF_INCH + 2) * HALF_INCH),
+        let heights = match part {
+            Some(part) => QUANTUM * i64::from(*part.start())..=QUANTUM * i64::from(*part.end()),
+            None => i64::MIN..=i64::MAX,
         };
-        let top = QUANTUM * heights.start();
-        let mut view = View { page, heights, overstruck: vec![], top, bottom };
-        view.overstruck = overstruck(view.characters().copied().collect());
+        let mut view = View { page, heights, overstruck: vec![], top: 0, bottom: 0 };
+        (view.top, view.bottom) = match part {
+            Some(_) => (*view.heights.start(), view.heights.end() + HALF_INCH),
+            None => view.edges(),
+        };
+        view.overstruck = overstruck(view.marks().copied().collect());
         view
     }
 
-    fn characters(&self) -> impl Iterator<Item = &Character> {
-        self.page.0.iter().filter(|character| self.heights.contains(&character.height))
+    fn marks(&self) -> impl Iterator<Item = &Mark> {
+        self.page.marks.iter().filter(|mark| self.heights.contains(&mark.y))
+    }
+
+    fn rules(&self) -> impl Iterator<Item = &Rule> {
+        let is_shown = |rule: &&Rule| rule.bottom >= *self.heights.start() && rule.top <= *self.heights.end();
+        self.page.rules.iter().filter(is_shown)
+    }
+
+    /// The upper and the lower edge of a whole page.
+    fn edges(&self) -> (i64, i64) {
+        let highest = self.marks().map(|mark| mark.y).chain(self.rules().map(|rule| rule.top)).min();
+        let lowest = self.marks().map(|mark| mark.y).chain(self.rules().map(|rule| rule.bottom)).max();
+        let top = highest.unwrap_or(0).min(0).div_euclid(HALF_INCH) * HALF_INCH;
+        (top, (lowest.unwrap_or(0).max(0) / HALF_INCH + 2) * HALF_INCH)
     }
 
     /// With the room around it.
-    fn height(&self) -> i32 {
+    fn height(&self) -> i64 {
         TOP + self.bottom - self.top + BOTTOM
     }
 }
 
-/// The characters of a page that stand on another.
-fn overstruck(mut characters: Vec<Character>) -> Vec<Character> {
-    characters.sort_by_key(|character| (character.height, character.x));
-    let is_struck = |pair: &&[Character]| pair[0].height == pair[1].height && pair[1].x - pair[0].x < REACH;
-    characters.windows(2).filter(is_struck).map(|pair| pair[1]).collect()
+/// The marks of a page that stand on another.
+fn overstruck(mut marks: Vec<Mark>) -> Vec<Mark> {
+    marks.sort_by_key(|mark| (mark.y, mark.x));
+    let is_struck = |pair: &&[Mark]| pair[0].y == pair[1].y && pair[1].x - pair[0].x < REACH;
+    marks.windows(2).filter(is_struck).map(|pair| pair[1]).collect()
+}
+
+/// The left and the right edge of pages that are shown: to whole half inches, where something stands beyond the
+/// width of a page, or more than half an inch before it.
+fn sides(views: &[View]) -> Range<i64> {
+    let lefts = |view: &View| view.marks().map(|mark| mark.x).chain(view.rules().map(|rule| rule.left)).min();
+    let rights =
+        |view: &View| view.marks().map(|mark| mark.x).chain(view.rules().map(|rule| rule.right)).max();
+    let left = views.iter().filter_map(lefts).min().filter(|left| *left < -HALF_INCH).unwrap_or(0);
+    let right = views.iter().filter_map(rights).max().unwrap_or(0).max(0);
+    left.div_euclid(HALF_INCH) * HALF_INCH..PAGE_WIDTH.max((right / HALF_INCH + 1) * HALF_INCH)
 }
 
 impl Picture<'_> {
-    pub fn new<'a>(
-        name: String,
-        machine: Option<Machine>,
-        fonts: &'a Fonts,
-        pages: &'a [Page],
-        shown: Range<usize>,
-        part: Option<RangeInclusive<i32>>,
-    ) -> Picture<'a> {
+    pub fn new(source: &Source, shown: Range<usize>, part: Option<RangeInclusive<i32>>) -> Picture<'_> {
         let first = shown.start + 1;
-        let views = pages[shown].iter().map(|page| View::new(page, part.as_ref())).collect();
-        Picture { name, machine, fonts, all: pages.len(), first, views, part }
+        let views: Vec<View> =
+            source.pages[shown].iter().map(|page| View::new(page, part.as_ref())).collect();
+        let sides = sides(&views);
+        Picture { source, first, views, part, sides }
     }
 
     /// The number of characters drawn.
     pub fn count(&self) -> usize {
-        self.characters().count()
+        self.marks().count()
     }
 
     /// The percentage of its full size, if it is drawn smaller.
@@ -149,36 +171,41 @@ impl Picture<'_> {
         self.open(out)?;
         self.draw_legend(out)?;
         let mut top = 0;
-        for (number, view) in (self.first..).zip(&self.views) {
-            self.draw_page(out, view, number, top)?;
-            top += i64::from(view.height());
+        for (position, view) in (self.first..).zip(&self.views) {
+            self.draw_page(out, view, position, top)?;
+            top += view.height();
         }
         writeln!(out, "</svg>")
     }
 
-    fn characters(&self) -> impl Iterator<Item = &Character> {
-        self.views.iter().flat_map(View::characters)
+    fn marks(&self) -> impl Iterator<Item = &Mark> {
+        self.views.iter().flat_map(View::marks)
     }
 
     /// In units, with the legend.
     fn height(&self) -> i64 {
-        i64::from(LEGEND) + self.views.iter().map(|view| i64::from(view.height())).sum::<i64>()
+        LEGEND + self.views.iter().map(View::height).sum::<i64>()
+    }
+
+    /// In units, with the room on both sides.
+    fn width(&self) -> i64 {
+        LEFT + self.sides.end - self.sides.start + RIGHT
     }
 
     fn scale(&self) -> f64 {
-        (MOST_INCHES * f64::from(INCH) / self.height() as f64).min(1.0)
+        (MOST_INCHES * INCH as f64 / self.height().max(self.width()) as f64).min(1.0)
     }
 
     /// The start of the picture: its size and a white ground. The first page starts at 0, below the legend.
     fn open(&self, out: &mut dyn Write) -> io::Result<()> {
-        let height = self.height();
-        let inches = |units: i64| self.scale() * units as f64 / f64::from(INCH);
+        let (width, height) = (self.width(), self.height());
+        let inches = |units: i64| (self.scale() * units as f64 / INCH as f64).max(0.01);
         write!(
             out,
             "<svg xmlns=\"http://www.w3.org/2000/svg\" width=\"{:.2}in\" height=\"{:.2}in\" \
-             viewBox=\"0 -{LEGEND} {WIDTH} {height}\" font-family=\"sans-serif\" font-size=\"72\">\n\
-             <rect y=\"-{LEGEND}\" width=\"{WIDTH}\" height=\"{height}\" fill=\"#ffffff\"/>\n",
-            inches(WIDTH.into()),
+             viewBox=\"0 -{LEGEND} {width} {height}\" font-family=\"sans-serif\" font-size=\"72\">\n\
+             <rect y=\"-{LEGEND}\" width=\"{width}\" height=\"{height}\" fill=\"#ffffff\"/>\n",
+            inches(width),
             inches(height),
         )
     }
@@ -191,8 +218,8 @@ impl Picture<'_> {
         let title = escaped(&title);
         writeln!(out, "<title>{title}</title>")?;
         writeln!(out, "<text x=\"{LEFT}\" y=\"-360\" font-size=\"{size}\">{title}</text>")?;
-        for (kind, x) in (0..=self.fonts.iter().count()).zip((LEFT..).step_by(1_180)) {
-            let count = self.characters().filter(|character| self.kind_of(character) == kind).count();
+        for (kind, x) in (0..=self.others()).zip((LEFT..).step_by(1_180)) {
+            let count = self.marks().filter(|mark| self.kind_of(mark) == kind).count();
             writeln!(
                 out,
                 "<path fill=\"{}\" d=\"{}\"/>\n<text x=\"{}\" y=\"-206\">{}: {}</text>",
@@ -203,27 +230,33 @@ impl Picture<'_> {
                 grouped(count),
             )?;
         }
-        let double = self.characters().filter(|character| character.is_double()).count();
+        let notes = self.notes();
+        writeln!(out, "<text x=\"{LEFT}\" y=\"-80\" fill=\"#606060\" font-size=\"66\">{notes}</text>")
+    }
+
+    /// What the pages come from, and how many marks and rules look otherwise.
+    fn notes(&self) -> String {
+        let of_size = |size| self.marks().filter(|mark| mark.size == size).count();
+        let rows = [
+            ("Double sizes, with larger marks", of_size(Size::Double)),
+            ("Blanks, with smaller marks", of_size(Size::Blank)),
+            ("Rules", self.views.iter().map(|view| view.rules().count()).sum()),
+        ];
+        let mut notes = format!("{}. ", self.source.origin);
+        for (what, count) in rows.into_iter().filter(|(_, count)| *count > 0) {
+            notes += &format!("{what}: {}. ", grouped(count));
+        }
         let overstruck: usize = self.views.iter().map(|view| view.overstruck.len()).sum();
-        let machine = match self.machine {
-            Some(machine) => format!("{}-font machine", machine.fonts()),
-            None => "Machine not recorded".into(),
-        };
-        writeln!(
-            out,
-            "<text x=\"{LEFT}\" y=\"-80\" fill=\"#606060\" font-size=\"66\">{machine}. Double sizes, with larger \
-             marks: {}. Overstruck, framed: {}. Rulers in inches.</text>",
-            grouped(double),
-            grouped(overstruck),
-        )
+        notes + &format!("Overstruck, framed: {}. Rulers in inches.", grouped(overstruck))
     }
 
     fn title(&self) -> String {
-        let mut title = format!("{}: {}", self.name, counted(self.count(), "character"));
+        let mut title = format!("{}: {}", self.source.name, counted(self.count(), "character"));
+        let all = self.source.pages.len();
         if self.views.len() > 1 {
             title += &format!(", {}", counted(self.views.len(), "page"));
-        } else if self.all > 1 {
-            title += &format!(", page {} of {}", grouped(self.first), grouped(self.all));
+        } else if all > 1 {
+            title += &format!(", page {} of {}", grouped(self.first), grouped(all));
         }
         if let Some(heights) = &self.part {
             let [from, to] = [heights.start(), heights.end()].map(|height| grouped(*height as usize));
@@ -233,59 +266,75 @@ impl Picture<'_> {
     }
 
     /// A kind of marks: which of the fonts told apart, or one more for all others.
-    fn kind_of(&self, character: &Character) -> usize {
-        self.fonts.position(character.font()).unwrap_or(self.fonts.iter().count())
+    fn kind_of(&self, mark: &Mark) -> usize {
+        mark.font.and_then(|font| self.source.fonts.position(font)).unwrap_or(self.others())
+    }
+
+    fn others(&self) -> usize {
+        self.source.fonts.iter().count()
     }
 
     fn label(&self, kind: usize) -> String {
-        self.fonts.iter().nth(kind).map_or("other fonts".into(), |font| font.label())
+        self.source.fonts.iter().nth(kind).map_or("other fonts".into(), |font| font.label())
     }
 
     fn style(&self, kind: usize) -> &'static Style {
-        if kind < self.fonts.iter().count() {
-            &FONT_STYLES[kind]
-        } else {
-            &OTHER_STYLE
-        }
+        FONT_STYLES[..self.others()].get(kind).unwrap_or(&OTHER_STYLE)
     }
 
     /// A page's edges, rulers, marks and number, as a picture of its own that starts at `top`.
-    fn draw_page(&self, out: &mut dyn Write, view: &View, number: usize, top: i64) -> io::Result<()> {
-        let (height, depth) = (view.height(), view.bottom - view.top);
+    fn draw_page(&self, out: &mut dyn Write, view: &View, position: usize, top: i64) -> io::Result<()> {
+        let (width, height, depth) = (self.width(), view.height(), view.bottom - view.top);
+        let Range { start: left, end: right } = self.sides;
         write!(
             out,
-            "<svg y=\"{top}\" width=\"{WIDTH}\" height=\"{height}\" viewBox=\"-{LEFT} {} {WIDTH} {height}\">\n\
-             <rect y=\"{}\" width=\"{PAGE_WIDTH}\" height=\"{}\" fill=\"none\" stroke=\"#c8c8c8\" \
+            "<svg y=\"{top}\" width=\"{width}\" height=\"{height}\" viewBox=\"{} {} {width} {height}\">\n\
+             <rect x=\"{left}\" y=\"{}\" width=\"{}\" height=\"{}\" fill=\"none\" stroke=\"#c8c8c8\" \
              stroke-width=\"4\"/>\n",
+            left - LEFT,
             view.top - TOP,
             view.top - 80,
+            right - left,
             depth + 80,
         )?;
-        draw_rulers(out, view)?;
+        draw_rulers(out, view, &self.sides)?;
         writeln!(
             out,
-            "<text x=\"{PAGE_WIDTH}\" y=\"{}\" fill=\"#606060\" text-anchor=\"end\" font-size=\"60\">page \
-             {number}</text>",
+            "<text x=\"{right}\" y=\"{}\" fill=\"#606060\" text-anchor=\"end\" font-size=\"60\">{}</text>",
             view.bottom + 80,
+            page_label(view.page, position),
         )?;
-        // The others first, and slanted marks over upright ones, so that both are seen.
-        let others = self.fonts.iter().count();
-        for kind in std::iter::once(others).chain(0..others) {
+        self.draw_marks(out, view)?;
+        writeln!(out, "</svg>")
+    }
+
+    /// Rules, and marks over them: the others first, and slanted marks over upright ones, so that both are seen.
+    fn draw_marks(&self, out: &mut dyn Write, view: &View) -> io::Result<()> {
+        draw_paths(out, RULE_LOOK, view.rules().map(rule))?;
+        for kind in std::iter::once(self.others()).chain(0..self.others()) {
             let style = self.style(kind);
-            let marks = view.characters().filter(|character| self.kind_of(character) == kind);
-            let pieces = marks.map(|it| mark(style, it.x, QUANTUM * it.height, mark_height(it.is_double())));
+            let marks = view.marks().filter(|mark| self.kind_of(mark) == kind);
+            let pieces = marks.map(|it| mark(style, it.x, it.y, mark_height(it.size)));
             draw_paths(out, &format!("fill=\"{}\"", style.colour), pieces)?;
         }
         let frames = view.overstruck.iter().map(frame);
-        draw_paths(out, "fill=\"none\" stroke=\"#000000\" stroke-width=\"5\"", frames)?;
-        writeln!(out, "</svg>")
+        draw_paths(out, "fill=\"none\" stroke=\"#000000\" stroke-width=\"5\"", frames)
+    }
+}
+
+/// A page by its position, counted from 1, and by its number where that is another.
+fn page_label(page: &Page, position: usize) -> String {
+    if page.number == position as i64 {
+        format!("page {position}")
+    } else {
+        format!("page {position}, numbered {}", page.number)
     }
 }
 
 /// A frame around a mark as a piece of a path.
-fn frame(character: &Character) -> String {
-    let height = mark_height(character.is_double());
-    let (x, y) = (character.x - 5, QUANTUM * character.height + 5);
+fn frame(mark: &Mark) -> String {
+    let height = mark_height(mark.size);
+    let (x, y) = (mark.x - 5, mark.y + 5);
     let (across, up) = (height / 2 + 10, height + 10);
     format!("M{x} {y}h{across}v-{up}h-{across}z")
 }
@@ -305,22 +354,32 @@ fn draw_paths(out: &mut dyn Write, look: &str, pieces: impl Iterator<Item = Stri
 }
 
 /// Inches along the top of a page and down its left side.
-fn draw_rulers(out: &mut dyn Write, view: &View) -> io::Result<()> {
+fn draw_rulers(out: &mut dyn Write, view: &View, sides: &Range<i64>) -> io::Result<()> {
     writeln!(out, "<g fill=\"#606060\" text-anchor=\"middle\" font-size=\"60\">")?;
     let tick = |out: &mut dyn Write, x, y, way| {
         write!(out, "<path stroke=\"#c8c8c8\" stroke-width=\"4\" d=\"M{x} {y}{way}\"/>")
     };
-    for inch in 0..=PAGE_WIDTH / INCH {
+    for inch in inches(sides.start, sides.end) {
         let x = inch * INCH;
         tick(out, x, view.top - 80, "v-32")?;
         writeln!(out, "<text x=\"{x}\" y=\"{}\">{inch}</text>", view.top - 130)?;
     }
-    for inch in (view.top + INCH - 1) / INCH..=view.bottom / INCH {
+    for inch in inches(view.top, view.bottom) {
         let y = inch * INCH;
-        tick(out, 0, y, "h-32")?;
-        writeln!(out, "<text x=\"-110\" y=\"{}\">{inch}</text>", y + 20)?;
+        tick(out, sides.start, y, "h-32")?;
+        writeln!(out, "<text x=\"{}\" y=\"{}\">{inch}</text>", sides.start - 110, y + 20)?;
     }
     writeln!(out, "</g>")
+}
+
+/// The whole inches from one place to another; of very many only each tenth, hundredth and so on.
+fn inches(from: i64, to: i64) -> impl Iterator<Item = i64> {
+    let (first, last) = ((from + INCH - 1).div_euclid(INCH), to.div_euclid(INCH));
+    let mut step = 1;
+    while (last - first) / step > MOST_TICKS {
+        step *= 10;
+    }
+    ((first + step - 1).div_euclid(step) * step..=last).step_by(step as usize)
 }
 
 /// Text with what XML reserves written out, and without control characters.

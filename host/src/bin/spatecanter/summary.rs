@@ -29,15 +29,10 @@ impl Summary<'_> {
     fn in_font(&self, font: i32) -> usize {
         self.by_font
             .iter()
-            .filter(|(number, _)| of_number(**number).font() == font)
+            .filter(|(number, _)| Character::of_font(**number).font() == font)
             .map(|(_, count)| count)
             .sum()
     }
-}
-
-/// Some character of a font number.
-fn of_number(font_number: i32) -> Character {
-    Character { x: 0, height: 0, font_number, code: 1 }
 }
 
 impl fmt::Display for Summary<'_> {
@@ -57,7 +52,7 @@ impl fmt::Display for Summary<'_> {
         }
         row(f, "fonts, by size", self.by_font.len())?;
         for (&number, &count) in &self.by_font {
-            let (font, points) = (of_number(number).font(), of_number(number).points());
+            let (font, points) = (Character::of_font(number).font(), Character::of_font(number).points());
             row(f, &format!("  {}: font {font}, {points} points", font_name(number)), count)?;
         }
         Ok(())

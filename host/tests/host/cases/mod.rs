@@ -5,6 +5,7 @@ mod dvi;
 mod edition2;
 mod galley;
 mod tape;
+mod xgp;
 
 pub use back::shown_galley;
 pub use dvi::{dvi_file, valid_dvi_file};
@@ -13,6 +14,7 @@ pub use galley::{
     galley, galley_of, tall_galley, valid_galley, valid_galley_with_cuts, valid_old_galley, Form,
 };
 pub use tape::{tape, valid_tape};
+pub use xgp::{valid_xgp_file, xgp_file};
 
 use spatecanter::sample::Random;
 

@@ -7,8 +7,10 @@ mod pictures;
 mod pieces;
 mod refusals;
 mod reports;
+mod sheets;
 mod usage;
 mod ways;
+mod xgp;
 
 use crate::hex;
 use std::fs;

@@ -12,6 +12,7 @@ mod report;
 mod running;
 mod tape;
 mod writer;
+mod xgp;
 
 pub use back::dvi_to_galley;
 pub use convert::{to_new, to_old};
@@ -23,6 +24,7 @@ pub use report::count_tape;
 pub use running::RunningTape;
 pub use tape::read_tape;
 pub use writer::write_dvi;
+pub use xgp::read_xgp;
 
 pub type Refused = (usize, usize);
 

@@ -53,6 +53,11 @@ impl Call {
                 let (dvi, widths) = (inputs.take("dvi", bytes)?, inputs.take("widths", numbers)?);
                 Call::of(&["galley"], move |them, lent| (them.dvi_to_galley)(&dvi, &widths, lent[0]))
             }
+            "read_xgp" => {
+                let (file, spacing) = (inputs.take("file", bytes)?, inputs.take("spacing", number)?);
+                let widths = inputs.take("widths", numbers)?;
+                Call::of(&["sheet"], move |them, lent| (them.read_xgp)(&file, spacing, &widths, lent[0]))
+            }
             "reprint" => {
                 let (galley, widths) = (inputs.take("galley", bytes)?, inputs.take("widths", numbers)?);
                 Call::of(&["dvi", "sheet"], move |them, lent| {

@@ -9,7 +9,7 @@ use lib.IntN.{ℤ, pos, natAbs}
 use lib.ListN.{getD}
 use lib.Signed.{ltZ}
 use Rattle.integers.specs.Parts.{integers, plain, bounds, abs-parts, nonNeg-by}
-use Rattle.dvi.specs.Page.{fontChars}
+use Rattle.sheet.specs.Readable.{fontChars}
 use Rattle.dvi_page.proofs.Pages.{width-negative, width-missing, width-there}
 use Rattle.dvi_page.proofs.page.width_of.Statement.{statement}
 use Rattle.dvi_page.proofs.page.width_of.Tie as tie

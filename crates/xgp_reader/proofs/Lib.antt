@@ -1,0 +1,4 @@
+mod Puts
+mod Passes
+mod Widths
+mod Stretches
