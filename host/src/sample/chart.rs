@@ -1,5 +1,6 @@
 //! A strip chart on tape: one column without a cut, with a mark for each reading.
 
+use super::codes::READING;
 use super::punch::Punch;
 use super::Random;
 use crate::Machine;
@@ -10,9 +11,8 @@ const STEP: i32 = 310;
 const LEFT: i64 = 300;
 const RIGHT: i64 = 2_900;
 const DRIFT: i64 = 60;
-/// The size code of the marks, 8 points, and their character.
+/// The size code of the marks, 8 points.
 const SIZE: u8 = 0x51;
-const MARK: u8 = 31;
 
 /// A tape for the 8-font machine: readings from height 0 on, and a last one at exactly `quanta`. Readings are
 /// in font 1, or for a while in font 2.
@@ -28,7 +28,7 @@ pub fn chart(seed: u64, quanta: i32) -> Vec<u8> {
         }
         punch.font(font);
         punch.go(x as i32);
-        punch.set(MARK);
+        punch.set(READING);
         if punch.height == quanta {
             break;
         }

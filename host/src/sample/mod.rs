@@ -2,6 +2,7 @@
 
 mod book;
 mod chart;
+mod codes;
 mod punch;
 mod random;
 mod stations;
@@ -9,6 +10,7 @@ mod yearbook;
 
 pub use book::{book, book_widths};
 pub use chart::chart;
+pub use codes::codes;
 pub use random::Random;
 pub use stations::{stations, stations_widths, STATIONS_SPACING};
-pub use yearbook::{pages, yearbook};
+pub use yearbook::{pages, yearbook, yearbook_figures, Figure};

@@ -1,5 +1,6 @@
 //! A yearbook on tape: tables of figures, in font 1 or font 2 by column, with words in font 3.
 
+use super::codes::{FIGURE_0, LETTERS};
 use super::punch::Punch;
 use super::Random;
 use crate::{Machine, DVI_HEIGHT_LIMIT};
@@ -21,21 +22,40 @@ const SIZE_16: (u8, i32) = (0x59, 48);
 /// A tape for a machine, of exactly `length` bytes, at least 100: as many whole lines as fit, stop, and 00 to
 /// the end. When the greatest height that DVI holds is near, the tape goes back to the top.
 pub fn yearbook(machine: Machine, seed: u64, length: usize) -> Vec<u8> {
+    made(machine, seed, length).0
+}
+
+/// The rows of figures of that tape, each from left to right: a year, and a figure of each column.
+pub fn yearbook_figures(machine: Machine, seed: u64, length: usize) -> Vec<Vec<Figure>> {
+    made(machine, seed, length).1
+}
+
+/// A figure of a table.
+#[derive(Clone, Copy, Debug, PartialEq, Eq)]
+pub struct Figure {
+    /// 3 of a year, 1 of a measured value, 2 of an estimate.
+    pub font: u8,
+    pub value: u32,
+}
+
+fn made(machine: Machine, seed: u64, length: usize) -> (Vec<u8>, Vec<Vec<Figure>>) {
     let mut random = Random::new(seed);
     let mut punch = Punch::new(machine);
     let mut table = Table::new(&mut random);
+    let mut rows = Vec::new();
     loop {
         let before = punch.tape.len();
-        table.line(&mut punch, &mut random);
+        let row = table.line(&mut punch, &mut random);
         punch.next_line();
         if punch.tape.len() >= length {
             punch.tape.truncate(before);
             break;
         }
+        rows.extend(row);
     }
     punch.tape.push(0x49);
     punch.tape.resize(length, 0);
-    punch.tape
+    (punch.tape, rows)
 }
 
 /// A tape of three pages for the 8-font machine: so many lines of a table, nothing, and so many lines of
@@ -68,27 +88,30 @@ impl Table {
         Table { row: 0, year: random.between(1890, 1950) as u32, estimated_from }
     }
 
-    /// The next line: a title, the heads of the columns, rows of figures, a note, and a new table.
-    fn line(&mut self, punch: &mut Punch, random: &mut Random) {
+    /// The next line: a title, the heads of the columns, rows of figures, a note, and a new table. Gives the
+    /// figures of a row.
+    fn line(&mut self, punch: &mut Punch, random: &mut Random) -> Option<Vec<Figure>> {
         let line = self.row;
         self.row += 1;
         match line {
             0 => punch.words(random, SIZE_16, 3, 3),
             1 => punch.heads(random),
             2 => {}
-            _ if line < ROWS + 3 => self.figures(line - 3, punch, random),
+            _ if line < ROWS + 3 => return Some(self.figures(line - 3, punch, random)),
             _ if line == ROWS + 3 => punch.words(random, SIZE_6, 4, 9),
             _ => *self = Table::new(random),
         }
+        None
     }
 
     /// A year and its figures; every other row is set from right to left.
-    fn figures(&self, row: usize, punch: &mut Punch, random: &mut Random) {
+    fn figures(&self, row: usize, punch: &mut Punch, random: &mut Random) -> Vec<Figure> {
         let mut cells =
             vec![Cell { font: 3, edge: 4 * SIZE_9.1, value: self.year + row as u32, size: SIZE_9 }];
         for column in 0..COLUMNS {
             cells.push(self.cell(row, column, random));
         }
+        let figures = cells.iter().map(|cell| Figure { font: cell.font, value: cell.value }).collect();
         let backward = row % 2 == 1;
         if backward {
             cells.reverse();
@@ -96,6 +119,7 @@ impl Table {
         for cell in cells {
             punch.figure(&cell, backward);
         }
+        figures
     }
 
     fn cell(&self, row: usize, column: usize, random: &mut Random) -> Cell {
@@ -140,7 +164,7 @@ impl Punch {
         let letters = random.between(3, 9) as i32;
         for letter in 0..letters {
             self.go(x + letter * width);
-            self.set(random.between(1, 52) as u8);
+            self.set(random.between(1, LETTERS.into()) as u8);
         }
         x + letters * width
     }
@@ -164,7 +188,7 @@ impl Punch {
         for turn in 0..count {
             let index = if backward { count - 1 - turn } else { turn };
             self.go(cell.edge - (count - index) as i32 * width);
-            self.set(72 + digits[index] - b'0');
+            self.set(FIGURE_0 + digits[index] - b'0');
         }
     }
 

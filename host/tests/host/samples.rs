@@ -1,7 +1,7 @@
 //! The files in samples/ are what their README says.
 
 use spatecanter::galley::characters;
-use spatecanter::sample::{chart, pages, stations, stations_widths, yearbook, STATIONS_SPACING};
+use spatecanter::sample::{chart, codes, pages, stations, stations_widths, yearbook, STATIONS_SPACING};
 use spatecanter::sheet::{fields, Field};
 use spatecanter::{Machine, Refusal};
 use std::fs;
@@ -129,6 +129,11 @@ fn p3_gives_two_characters() {
     assert_eq!(spatecanter::write_dvi(&galley).unwrap().len(), 59);
 }
 
+#[test]
+fn the_code_table_is_made_by_the_generator() {
+    assert!(sample("yearbook.codes") == codes().into_bytes());
+}
+
 /// The blocks of the README: each a list of commands with what they write.
 fn transcripts(readme: &str) -> Vec<Vec<(String, String)>> {
     let blocks = readme.split("\n```\n").skip(1).step_by(2);
@@ -157,7 +162,7 @@ fn root_for_readers() -> std::path::PathBuf {
 fn the_picture_is_that_of_the_yearbook() {
     let host = Path::new(env!("CARGO_MANIFEST_DIR"));
     let output = Command::new(env!("CARGO_BIN_EXE_spatecanter"))
-        .args(["plot", "samples/yearbook.tape", "-o", "-"])
+        .args(["plot", "samples/yearbook.tape", "--codes", "samples/yearbook.codes", "-o", "-"])
         .current_dir(host.join(".."))
         .output()
         .unwrap();

@@ -37,6 +37,10 @@ pub struct Arguments {
     pub format: Option<OsString>,
     /// --order
     pub order: Option<OsString>,
+    /// --codes
+    pub codes: Option<OsString>,
+    /// --mark
+    pub mark: Option<OsString>,
     /// --edition
     pub edition: Option<OsString>,
     /// --force
@@ -47,6 +51,8 @@ pub struct Arguments {
     pub check: bool,
     /// --tapes
     pub tapes: bool,
+    /// --split
+    pub split: bool,
 }
 
 /// Whether --help or -h is among the options.
@@ -101,6 +107,11 @@ impl Inputs {
 }
 
 impl Arguments {
+    /// The files of the first input and of --codes, which no output may take the place of.
+    pub fn read_files(&self) -> Vec<&OsStr> {
+        std::iter::once(self.input.as_os_str()).chain(self.codes.as_deref()).collect()
+    }
+
     /// Takes an option, with the next word for its value unless one is joined to it.
     fn take_option(
         &mut self,
@@ -132,11 +143,12 @@ impl Arguments {
             "--plain" => &mut self.plain,
             "--check" => &mut self.check,
             "--tapes" => &mut self.tapes,
+            "--split" => &mut self.split,
             _ => &mut self.force,
         }
     }
 
-    /// Where an option's value goes; --force, --plain, --check and --tapes have none.
+    /// Where an option's value goes; --force, --plain, --check, --tapes and --split have none.
     fn slot(&mut self, name: &str) -> Option<&mut Option<OsString>> {
         match name {
             "-o" => Some(&mut self.output),
@@ -153,6 +165,8 @@ impl Arguments {
             "--list" => Some(&mut self.list),
             "--format" => Some(&mut self.format),
             "--order" => Some(&mut self.order),
+            "--codes" => Some(&mut self.codes),
+            "--mark" => Some(&mut self.mark),
             "--edition" => Some(&mut self.edition),
             _ => None,
         }

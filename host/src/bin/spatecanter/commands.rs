@@ -5,14 +5,17 @@ use crate::differences::{Differences, Named};
 use crate::edition::{Edition, Reprinted};
 use crate::explain::{self, Form};
 use crate::failure::{say, Failure};
+use crate::font_marks::FontMarks;
 use crate::fonts::Fonts;
+use crate::grid::Grid;
 use crate::input::{self, shown};
+use crate::listing::Listing;
 use crate::output::{self, named_after, Draft, Place};
 use crate::plot::{Picture, Source};
 use crate::report::Counted;
 use crate::summary::Summary;
 use crate::text::{self, counted};
-use crate::{explain2, help, marks, options, pieces, progress, sheets, tapes, xgp};
+use crate::{explain2, help, index, marks, options, pieces, progress, sheets, split, tapes, xgp};
 use spatecanter::galley::characters;
 use spatecanter::{
     Extents, Machine, Refusal, RunningTape, DVI2_LIMIT, DVI_LIMIT, GALLEY_LIMIT, OLD_GALLEY_LIMIT,
@@ -30,7 +33,7 @@ pub struct Command {
     pub run: fn(&Arguments) -> Result<(), Failure>,
 }
 
-pub const COMMANDS: [Command; 14] = [
+pub const COMMANDS: [Command; 16] = [
     Command {
         name: "read",
         usage: "read TAPE [--machine 4|8] [--pieces N] [-o GALLEY] [--force]",
@@ -49,11 +52,19 @@ pub const COMMANDS: [Command; 14] = [
     },
     Command {
         name: "list",
-        usage: "list GALLEY",
+        usage: LIST_USAGE,
         inputs: Inputs::One,
-        options: &[],
+        options: &["--machine", "--codes", "--format", "-o", "--force"],
         help: help::LIST,
         run: list,
+    },
+    Command {
+        name: "text",
+        usage: TEXT_USAGE,
+        inputs: Inputs::One,
+        options: &["--machine", "--codes", "--mark", "--page", "-o", "--force"],
+        help: help::TEXT,
+        run: set_as_text,
     },
     Command {
         name: "set",
@@ -107,9 +118,28 @@ pub const COMMANDS: [Command; 14] = [
         name: "plot",
         usage: PLOT_USAGE,
         inputs: Inputs::One,
-        options: &["--machine", "--dots", "--fonts", "--page", "--from", "--to", "-o", "--force"],
+        options: &[
+            "--machine",
+            "--dots",
+            "--fonts",
+            "--codes",
+            "--page",
+            "--from",
+            "--to",
+            "--split",
+            "-o",
+            "--force",
+        ],
         help: help::PLOT,
         run: draw,
+    },
+    Command {
+        name: "index",
+        usage: INDEX_USAGE,
+        inputs: Inputs::Some,
+        options: &["--machine", "--list", "--fonts", "--codes", "-d", "--force"],
+        help: help::INDEX,
+        run: index::write,
     },
     Command {
         name: "punch",
@@ -145,13 +175,20 @@ pub const COMMANDS: [Command; 14] = [
     },
 ];
 
+const LIST_USAGE: &str =
+    "list TAPE|GALLEY [--machine 4|8] [--codes FILE] [--format text|csv|json] [-o FILE] [--force]";
+const TEXT_USAGE: &str =
+    "text TAPE|GALLEY --codes FILE [--mark MARKS] [--machine 4|8] [--page N] [-o FILE] [--force]";
 pub const REPRINT_USAGE: &str =
     "reprint TAPE [--machine 4|8] [--fonts NAMES] [--edition 1980|2] -d FOLDER [--force]";
 pub const CONVERT_USAGE: &str = "convert --to new|old GALLEY [-o GALLEY] [--force]";
 const COMPARE_USAGE: &str = "compare TAPE|GALLEY TAPE|GALLEY [--machine 4|8] [--order any]";
-const REPORT_USAGE: &str = "report PATH... [--machine 4|8] [--list FILE] [--format csv|json] [--tapes]";
-const PLOT_USAGE: &str = "plot TAPE|GALLEY|SHEET [--machine 4|8] [--dots N] [--fonts NAMES] [--page N] \
-                          [--from HEIGHT] [--to HEIGHT] [-o SVG] [--force]";
+const REPORT_USAGE: &str = "report PATH... [--machine 4|8] [--list FILE] [--format text|csv|json] [--tapes]";
+const PLOT_USAGE: &str = "plot TAPE|GALLEY|SHEET [--machine 4|8] [--dots N] [--fonts NAMES] [--codes FILE] \
+                          [--page N] [--from HEIGHT] [--to HEIGHT] [--split] [-o SVG] [--force]";
+
+pub const INDEX_USAGE: &str =
+    "index PATH... [--machine 4|8] [--list FILE] [--fonts NAMES] [--codes FILE] -d FOLDER [--force]";
 
 pub const XGP_USAGE: &str = "xgp FILE --spacing N --widths FILE [-o SHEET] [--force]";
 
@@ -183,8 +220,31 @@ fn check(arguments: &Arguments) -> Result<(), Failure> {
 }
 
 fn list(arguments: &Arguments) -> Result<(), Failure> {
-    let (galley, _) = checked_galley(&arguments.input)?;
-    print(|out| text::list_galley(out, &galley))
+    let format = options::format(arguments)?;
+    let place = text_place(arguments)?;
+    let codes = options::codes(arguments)?;
+    let (galley, _) = galley_or_tape(&arguments.input, options::machine(arguments)?)?;
+    if arguments.format.is_none() && codes.is_none() {
+        return fill(&place, |out| text::list_galley(out, &galley));
+    }
+    let listing = Listing { galley: &galley, codes: codes.as_ref() };
+    fill(&place, |out| listing.write(format, out))
+}
+
+fn set_as_text(arguments: &Arguments) -> Result<(), Failure> {
+    let place = text_place(arguments)?;
+    let codes = options::codes(arguments)?.ok_or_else(|| {
+        Failure::Usage(format!("text needs a code table, --codes FILE\nUsage: spatecanter {TEXT_USAGE}"))
+    })?;
+    let marks = FontMarks::choose(arguments.mark.as_deref(), &codes)?;
+    let (galley, _) = galley_or_tape(&arguments.input, options::machine(arguments)?)?;
+    let grid = progress::during("setting the pages", || Grid::new(&galley, &codes, &marks));
+    let shown_pages = options::pages(arguments, grid.pages())?;
+    fill(&place, |out| grid.write(shown_pages.clone(), out))?;
+    for remark in grid.remarks(shown_pages) {
+        say(&format!("spatecanter: {}: {remark}", shown(&arguments.input)));
+    }
+    Ok(())
 }
 
 fn set(arguments: &Arguments) -> Result<(), Failure> {
@@ -326,11 +386,19 @@ fn reprint(arguments: &Arguments) -> Result<(), Failure> {
 }
 
 fn draw(arguments: &Arguments) -> Result<(), Failure> {
-    let place = place(arguments, &[&arguments.input], "svg")?;
-    let source = drawn(arguments)?;
+    let codes = options::codes(arguments)?;
+    let named = options::machine(arguments)?;
+    if arguments.split {
+        let base = split::base(arguments)?;
+        let source = drawn(&arguments.input, named, arguments)?;
+        let pages = options::pages(arguments, source.pages.len())?;
+        return progress::during("drawing", || split::draw(&source, codes.as_ref(), pages, &base, arguments));
+    }
+    let place = place(arguments, &arguments.read_files(), "svg")?;
+    let source = drawn(&arguments.input, named, arguments)?;
     let shown_pages = options::pages(arguments, source.pages.len())?;
     let part = options::part(arguments, shown_pages.len(), source.pages[shown_pages.start].lowest())?;
-    let picture = Picture::new(&source, shown_pages, part);
+    let picture = Picture::new(&source, codes.as_ref(), shown_pages, part);
     let mut draft = Draft::start(&place)?;
     progress::during("drawing", || draft.fill(|out| picture.draw(out)))?;
     output::finish(vec![draft])?;
@@ -346,9 +414,8 @@ fn draw(arguments: &Arguments) -> Result<(), Failure> {
 }
 
 /// What plot draws: the pages of a sheet, a galley or a tape.
-fn drawn(arguments: &Arguments) -> Result<Source, Failure> {
-    let input = &arguments.input;
-    let (named, measure) = (options::machine(arguments)?, options::measure(arguments)?);
+pub fn drawn(input: &OsStr, named: Option<Machine>, arguments: &Arguments) -> Result<Source, Failure> {
+    let measure = options::measure(arguments)?;
     let mut looks_good = sheets::looks_good();
     let bytes = input::read_while(input, SHEET_LIMIT, |bytes| match sheets::is_sheet(bytes) {
         true => looks_good(bytes),
@@ -450,11 +517,24 @@ fn place(arguments: &Arguments, inputs: &[&OsStr], ending: &str) -> Result<Place
     Place::choose(arguments.output.as_deref(), inputs, ending, arguments.force)
 }
 
-/// Writes to standard output as it goes.
-fn print(write: impl FnOnce(&mut dyn Write) -> io::Result<()>) -> Result<(), Failure> {
-    let mut draft = Draft::start(&Place::Standard)?;
+/// Where text for people goes: to standard output, unless -o names a file.
+fn text_place(arguments: &Arguments) -> Result<Place, Failure> {
+    match &arguments.output {
+        Some(_) => place(arguments, &arguments.read_files(), "text"),
+        None => Ok(Place::Standard),
+    }
+}
+
+/// Writes an output as it goes.
+fn fill(place: &Place, write: impl FnOnce(&mut dyn Write) -> io::Result<()>) -> Result<(), Failure> {
+    let mut draft = Draft::start(place)?;
     draft.fill(write)?;
     output::finish(vec![draft])
+}
+
+/// Writes to standard output as it goes.
+fn print(write: impl FnOnce(&mut dyn Write) -> io::Result<()>) -> Result<(), Failure> {
+    fill(&Place::Standard, write)
 }
 
 /// The galley and the extents of a tape of this machine, or of the 8-font machine where none is named. Nothing

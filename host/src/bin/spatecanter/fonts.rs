@@ -5,12 +5,14 @@ use spatecanter::Machine;
 use std::ffi::OsStr;
 use std::ops::RangeInclusive;
 
-/// One or two fonts, with their names.
+/// Some fonts, with their names and colours.
 pub struct Fonts(Vec<Font>);
 
 pub struct Font {
     pub number: i32,
     name: Option<String>,
+    /// As #rrggbb, if one was chosen.
+    pub colour: Option<String>,
 }
 
 impl Font {
@@ -45,24 +47,34 @@ impl Fonts {
         Fonts::named(&words, 0..=3)
     }
 
-    /// One or two fonts of these numbers.
+    /// Fonts of these numbers, none of them twice.
     fn named(words: &str, numbers: RangeInclusive<i32>) -> Result<Fonts, Failure> {
-        let font = |word| font(word, &numbers);
-        let fonts = words.split(',').map(font).collect::<Option<Vec<Font>>>().unwrap_or_default();
-        match &fonts[..] {
-            [_] => Ok(Fonts(fonts)),
-            [one, other] if one.number != other.number => Ok(Fonts(fonts)),
-            _ => Err(Failure::Usage(format!(
-                "--fonts {words} names no fonts: it is one or two of {} to {} with their names, as in \
-                 1=measured,2=estimated, or none",
-                numbers.start(),
-                numbers.end()
-            ))),
+        let mut fonts = Fonts(vec![]);
+        for word in words.split(',') {
+            let font = font(word, &numbers).filter(|font| fonts.position(font.number).is_none());
+            let font = font.ok_or_else(|| {
+                Failure::Usage(format!(
+                    "--fonts {words} names no fonts: it is some of {} to {} with their names, as in \
+                     1=measured,2=estimated, and with their colours, as in 2=estimated:#d55e00, or none",
+                    numbers.start(),
+                    numbers.end()
+                ))
+            })?;
+            fonts.0.push(font);
         }
+        Ok(fonts)
     }
 
     pub fn iter(&self) -> impl Iterator<Item = &Font> {
         self.0.iter()
+    }
+
+    /// A font, with its name if it has one.
+    pub fn label(&self, number: i32) -> String {
+        match self.position(number) {
+            Some(position) => self.0[position].label(),
+            None => format!("font {number}"),
+        }
     }
 
     /// Which of the fonts this is.
@@ -71,12 +83,22 @@ impl Fonts {
     }
 }
 
-/// A font's number, and its name after an equals sign.
+/// A font's number, its name after an equals sign, and its colour after a colon.
 fn font(word: &str, numbers: &RangeInclusive<i32>) -> Option<Font> {
+    let (word, colour) = match word.rsplit_once(":#") {
+        Some((word, digits)) => (word, Some(colour(digits)?)),
+        None => (word, None),
+    };
     let (number, name) = match word.split_once('=') {
         Some((number, name)) => (number, Some(name.to_string())),
         None => (word, None),
     };
     let number = number.parse().ok().filter(|number| numbers.contains(number))?;
-    Some(Font { number, name: name.filter(|name| !name.is_empty()) })
+    Some(Font { number, name: name.filter(|name| !name.is_empty()), colour })
+}
+
+/// Six hexadecimal digits: red, green and blue.
+fn colour(digits: &str) -> Option<String> {
+    let is_colour = digits.len() == 6 && digits.chars().all(|digit| digit.is_ascii_hexdigit());
+    is_colour.then(|| format!("#{}", digits.to_ascii_lowercase()))
 }

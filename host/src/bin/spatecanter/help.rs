@@ -9,7 +9,8 @@ Usage: spatecanter COMMAND ...
 
   read TAPE [-o GALLEY]                 a tape to a galley
   check GALLEY                          is this a galley, and of how many characters?
-  list GALLEY                           a galley as text
+  list TAPE|GALLEY [--format csv]       a line for each character: place, font, size and code
+  text TAPE|GALLEY --codes FILE         the pages as text, each figure at its place
   set GALLEY [--edition 2] [-o DVI]     a galley to a DVI file
   show DVI [--widths FILE] [-o SHEET]   a DVI file to a sheet
   back DVI [--widths FILE] [-o GALLEY]  a DVI file back to its galley
@@ -17,6 +18,7 @@ Usage: spatecanter COMMAND ...
   sheet SHEET                           a sheet as text
   reprint TAPE -d FOLDER                a tape to galley, DVI file and sheet, with a summary
   plot TAPE|GALLEY|SHEET [-o SVG]       a picture of the pages
+  index PATH... -d FOLDER               pictures of many, and a page of HTML that shows them small
   punch GALLEY [-o TAPE]                a galley to a tape of the 8-font machine
   convert --to new|old GALLEY           an old galley to a new one, or back
   compare TAPE|GALLEY TAPE|GALLEY       do two set the same pages, and where do they differ?
@@ -102,14 +104,55 @@ Numbers:
 ";
 
 pub const LIST: &str = "\
-Lists a galley as text: a line for each character and each cut, then the number of
-characters.
+Lists the characters of a tape or of a galley, in the order in which they are set.
 
-Usage: spatecanter list GALLEY
+Usage: spatecanter list TAPE|GALLEY [--machine 4|8] [--codes FILE] [--format text|csv|json]
+                        [-o FILE] [--force]
 
-The columns are x (units of 1/432 inch), y (the height, in quanta of 1/144 inch), font (1 to
-8), size (points) and char (1 to 108); the line of a cut is just cut. The text goes to
-standard output. Refusals are those of check.
+Without --format and --codes there is a line for each character and each cut, then the number
+of characters. The columns are x (units of 1/432 inch), y (the height, in quanta of 1/144
+inch), font (1 to 8), size (points) and char (the code, 1 to 108); the line of a cut is just
+cut.
+
+--format text has the columns page (counted from 1), x and height, both in inches too, font,
+size and code, with heads, and the number of characters and pages at the end. --format csv has
+the same columns, without the end. --format json is one object: pages, characters, and each
+character in the list each.
+
+--codes adds the character itself, from a code table as text has it; a character that the
+table lacks is empty, in JSON null.
+
+Tape and galley are told apart, and --machine is taken, as in plot. The list goes to standard
+output, or to the file that -o names. Refusals are those of read and check.
+";
+
+pub const TEXT: &str = "\
+Sets the pages of a tape or of a galley as text: each word and each figure at its place, on a
+grid of columns and lines.
+
+Usage: spatecanter text TAPE|GALLEY --codes FILE [--mark MARKS] [--machine 4|8] [--page N]
+                        [-o FILE] [--force]
+
+No tape says which character a code is. The code table does: a file of UTF-8 with a line for
+each, which has the font (1 to 8), the code (1 to 108) and the character, as in
+  1 72 0
+  1 73 1
+Blank lines and lines that start with # count for nothing, nor does what follows # after the
+character. A table with another line, or with a code of a font twice, is not taken; standard
+error tells the line.
+
+--mark 2=~ puts ~ before each value in font 2, so that estimates are seen; --mark 2=~,4=* has
+two. A mark is no letter, no figure and no character of the table.
+
+A column of the grid is as wide as most characters are from one to the next, and figures stand
+below one another by their last. Characters less than three quarters of an em apart are one
+word. Lines that are farther apart than most have blank lines between them, at most 8. A
+character on another is set in a line of its own below it, and one that the table lacks is
+shown as \u{fffd}; standard error tells how many there are. A form feed stands between two
+pages. With --page only that page is set, counted from 1.
+
+Tape and galley are told apart, and --machine is taken, as in plot. The text goes to standard
+output, or to the file that -o names. Refusals are those of read and check.
 ";
 
 pub const SET: &str = "\
@@ -254,8 +297,8 @@ values differ in nothing else. These two differ by tilt on the 8-font machine, b
 4-font machine.
 
 The yearbooks of the 8-font machine set measured values in font 1 and estimates in font 2,
-and the summary says so. For other books --fonts names one or two fonts that are told apart,
-as in --fonts 3=measured,4=estimated; with --fonts none they are fonts 1 and 2, without names.
+and the summary says so. For other books --fonts names the fonts that are told apart, as in
+--fonts 3=measured,4=estimated; with --fonts none they are fonts 1 and 2, without names.
 
 With --edition 2 the DVI file is of the second edition, as of set, and is read back: it has to
 give the galley. There is no sheet then.
@@ -272,13 +315,18 @@ pub const PLOT: &str = "\
 Draws the pages below one another as an SVG picture: a small mark for each character at its
 place, without letter shapes, and the rules of a sheet.
 
-Usage: spatecanter plot TAPE|GALLEY|SHEET [--machine 4|8] [--dots N] [--fonts NAMES] [--page N]
-                        [--from HEIGHT] [--to HEIGHT] [-o SVG] [--force]
+Usage: spatecanter plot TAPE|GALLEY|SHEET [--machine 4|8] [--dots N] [--fonts NAMES]
+                        [--codes FILE] [--page N] [--from HEIGHT] [--to HEIGHT] [--split]
+                        [-o SVG] [--force]
 
 Font 1 is dark blue and upright, font 2 orange and slanted, other fonts light grey; marks of
 double sizes are larger, and characters that stand on another are framed. The legend tells
 how many there are, and of which machine the tape is. --fonts is that of reprint: it says
-which fonts are told apart, and what they mean.
+which fonts are told apart, and what they mean. A colour may follow a name or a number, as in
+--fonts 1=measured,2=estimated:#b00020,3=heads.
+
+In a browser the pointer on a mark shows the figure or word that it belongs to: its font, its
+size, its codes and its place, and with --codes, a code table as text has it, its characters.
 
 A file that begins with byte 05 is read as a sheet, one with 02, 06 or 07 as a galley, any
 other as a tape; none is taken for another. Byte 01 begins an old galley, which is refused:
@@ -297,7 +345,27 @@ higher than 32,767 pixels of 1/96 inch (341 inches), which many programs do not 
 heights in quanta of 1/144 inch, as list has them, or in inches, as in --from 12.5in.
 
 Without -o the picture of page.tape is page.tape.svg. --force writes over a file that is there
-already.
+already. --split draws each page into a file of its own: page.tape-1.svg, page.tape-2.svg, and
+with zeros before the number where there are ten pages or more. In the name that -o gives, %d
+is the number; without it the number comes before the ending.
+";
+
+pub const INDEX: &str = "\
+Draws many tapes, galleys and sheets, and writes a page of HTML that shows their pictures
+small, each with a link to the whole.
+
+Usage: spatecanter index PATH... [--machine 4|8] [--list FILE] [--fonts NAMES] [--codes FILE]
+                         -d FOLDER [--force]
+
+A path is a file, or a folder: all files in it and in the folders below are taken, but for
+names that start with a dot. The pictures are those of plot, with the same options. That of
+shelf/a.tape is FOLDER/a.tape.svg, and the small one, of its first page that shows something,
+FOLDER/a.tape.small.svg; files in folders below stand in such folders again. The page is
+FOLDER/index.html. It needs no script and no network, and the folder can be moved. --list is
+that of report: tapes, each with its machine, which come first, under their paths in the list.
+
+A file that is refused has its refusal in the place of a picture; the exit status is 0, as in
+report. All files are written or none. --force writes over files that are there already.
 ";
 
 pub const PUNCH: &str = "\
@@ -361,7 +429,8 @@ pub const REPORT: &str = "\
 Reads many tapes and tells in numbers what they hold. Nothing is written but the report, to
 standard output.
 
-Usage: spatecanter report PATH... [--machine 4|8] [--list FILE] [--format csv|json] [--tapes]
+Usage: spatecanter report PATH... [--machine 4|8] [--list FILE] [--format text|csv|json]
+                          [--tapes]
 
 A path is a tape, or a folder: all files in it and in the folders below are tapes, but for
 names that start with a dot. The machine of all is that of --machine, without it 8. A list has a line for each tape, with its path and
@@ -375,7 +444,7 @@ their forward and backward lead, in quanta of 1/144 inch. Forward less backward 
 sum of the heights at which their pages ended. The order of the tapes makes no difference.
 
 --tapes adds a line for each tape: its characters and pages, or its refusal with number and
-place. --format csv has the columns count, of and value, with a line for each number and each
+place. --format text is the table for people that comes without it. --format csv has the columns count, of and value, with a line for each number and each
 font number, 0 to 119; with --tapes it has instead a line for each tape, with the columns
 path, machine, number, place, characters and pages. --format json is one object, with the
 tapes in the list each if --tapes is given.

@@ -1,15 +1,20 @@
 //! The command `spatecanter`: `spatecanter --help` says what it does.
 
 mod arguments;
+mod codes;
 mod commands;
 mod differences;
 mod edition;
 mod explain;
 mod explain2;
 mod failure;
+mod font_marks;
 mod fonts;
+mod grid;
 mod help;
+mod index;
 mod input;
+mod listing;
 mod marks;
 mod options;
 mod output;
@@ -19,10 +24,12 @@ mod progress;
 mod report;
 mod sheets;
 mod signals;
+mod split;
 mod summary;
 mod tapes;
 mod targets;
 mod text;
+mod words;
 mod xgp;
 mod xgp_refusals;
 

@@ -21,6 +21,9 @@ pub struct Mark {
     pub y: i64,
     /// Its font, if it is one of those that can be told apart: 1 to 8 of a C/A/T, 0 to 3 of an XGP.
     pub font: Option<i32>,
+    /// Its size in points, if it is known, and its number in the font.
+    pub points: Option<i32>,
+    pub code: i32,
     pub size: Size,
 }
 
@@ -69,6 +72,13 @@ impl Measure {
         }
     }
 
+    fn points(self, number: i32) -> Option<i32> {
+        match self {
+            Measure::Rsu => (0..120).contains(&number).then(|| Character::of_font(number).points()),
+            Measure::Dots(_) => None,
+        }
+    }
+
     fn size(self, font: i32, code: u8) -> Size {
         match self {
             Measure::Rsu if (0..120).contains(&font) && Character::of_font(font).is_double() => Size::Double,
@@ -94,8 +104,14 @@ pub fn of_sheet(sheet: &[u8], measure: Measure) -> Vec<Page> {
                 pages.push(Page { number: number.into(), marks: vec![], rules: vec![] });
             }
             (Field::Character { x, y, font, code }, Some(page)) => {
-                let [x, y] = [x, y].map(|place| measure.units(place.into()));
-                page.marks.push(Mark { x, y, font: measure.font(font), size: measure.size(font, code) });
+                page.marks.push(Mark {
+                    x: measure.units(x.into()),
+                    y: measure.units(y.into()),
+                    font: measure.font(font),
+                    points: measure.points(font),
+                    code: code.into(),
+                    size: measure.size(font, code),
+                });
             }
             // A rule with a side of 0 or less leaves no ink.
             (Field::Rule { x, y, height, width, .. }, Some(page)) if height > 0 && width > 0 => {
@@ -110,8 +126,14 @@ pub fn of_sheet(sheet: &[u8], measure: Measure) -> Vec<Page> {
 impl Mark {
     fn of(character: Character) -> Mark {
         let size = if character.is_double() { Size::Double } else { Size::Single };
-        let (x, y) = (character.x.into(), QUANTUM * i64::from(character.height));
-        Mark { x, y, font: Some(character.font()), size }
+        Mark {
+            x: character.x.into(),
+            y: QUANTUM * i64::from(character.height),
+            font: Some(character.font()),
+            points: Some(character.points()),
+            code: character.code,
+            size,
+        }
     }
 }
 

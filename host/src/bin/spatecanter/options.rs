@@ -1,6 +1,7 @@
 //! What the values of options say.
 
 use crate::arguments::Arguments;
+use crate::codes::Codes;
 use crate::commands::{CONVERT_USAGE, REPRINT_USAGE};
 use crate::differences::Order;
 use crate::edition::Edition;
@@ -93,13 +94,25 @@ pub fn format(arguments: &Arguments) -> Result<Format, Failure> {
         return Ok(Format::Table);
     };
     match word.to_str() {
+        Some("text") => Ok(Format::Table),
         Some("csv") => Ok(Format::Csv),
         Some("json") => Ok(Format::Json),
         _ => Err(Failure::Usage(format!(
-            "--format {} is no format: it is csv or json, and a table for people without it",
+            "--format {} is no format: it is text, csv or json",
             word.to_string_lossy()
         ))),
     }
+}
+
+/// The table that --codes names.
+pub fn codes(arguments: &Arguments) -> Result<Option<Codes>, Failure> {
+    if arguments.codes.as_deref() == Some("-".as_ref()) && arguments.input == "-" {
+        return Err(Failure::Usage("the input and the codes cannot both be standard input".into()));
+    }
+    if arguments.codes.is_some() && arguments.dots.is_some() {
+        return Err(Failure::Usage("--codes is for the fonts of a C/A/T, and --dots for XGP files".into()));
+    }
+    arguments.codes.as_deref().map(Codes::read).transpose()
 }
 
 /// The order that --order names.

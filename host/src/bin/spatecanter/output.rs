@@ -4,6 +4,7 @@
 
 use crate::failure::{say, Failure};
 use crate::progress;
+use std::collections::BTreeSet;
 use std::ffi::OsStr;
 use std::fs::{self, File, OpenOptions};
 use std::io::{self, stdout, BufWriter, IsTerminal, Stdout, Write};
@@ -133,6 +134,8 @@ pub struct Draft<'a> {
 enum Out {
     Standard(BufWriter<Stdout>),
     File(BufWriter<File>),
+    /// A file that is written whole.
+    Closed,
 }
 
 impl Draft<'_> {
@@ -155,6 +158,7 @@ impl Draft<'_> {
         let result = match &mut self.out {
             Out::Standard(out) => write(out),
             Out::File(out) => write(out),
+            Out::Closed => unreachable!("nothing is written after the end"),
         };
         result.map_err(|error| self.place.failed(error))
     }
@@ -167,8 +171,16 @@ impl Draft<'_> {
                 Some(_) => out.get_ref().sync_all(),
                 None => Ok(()),
             }),
+            Out::Closed => Ok(()),
         };
         result.map_err(|error| self.place.failed(error))
+    }
+
+    /// Ends the output, so that its file is not open while many others are written.
+    pub fn close(&mut self) -> Result<(), Failure> {
+        self.settle()?;
+        self.out = Out::Closed;
+        Ok(())
     }
 }
 
@@ -188,7 +200,7 @@ pub fn finish(mut drafts: Vec<Draft>) -> Result<(), Failure> {
     for (place, beside) in drafts.iter().filter_map(|draft| Some((draft.place, draft.beside.as_ref()?))) {
         match beside.put() {
             Ok(replaced) => {
-                unfinished.files.retain(|file| *file != beside.file);
+                unfinished.files.remove(&beside.file);
                 put.push((beside, replaced));
             }
             Err(error) => {
@@ -220,7 +232,7 @@ impl Beside {
         unfinished.make_folders(folder_of(&path))?;
         let (opened, file) =
             under_new_name(folder_of(&path), create).inspect_err(|_| unfinished.remove_folders())?;
-        unfinished.files.push(file.clone());
+        unfinished.files.insert(file.clone());
         Ok((opened, Beside { file, path, force }))
     }
 
@@ -275,8 +287,8 @@ fn copy(from: &Path, to: &Path) -> io::Result<()> {
 impl Drop for Beside {
     fn drop(&mut self) {
         let mut unfinished = unfinished();
-        if let Some(index) = unfinished.files.iter().position(|file| *file == self.file) {
-            let _ = fs::remove_file(unfinished.files.swap_remove(index));
+        if unfinished.files.remove(&self.file) {
+            let _ = fs::remove_file(&self.file);
             unfinished.remove_folders();
         }
     }
@@ -329,11 +341,11 @@ fn create(path: &Path) -> io::Result<File> {
 
 /// What a run that ends early removes: files that are not in their places, and folders made for them.
 struct Unfinished {
-    files: Vec<PathBuf>,
+    files: BTreeSet<PathBuf>,
     folders: Vec<PathBuf>,
 }
 
-static UNFINISHED: Mutex<Unfinished> = Mutex::new(Unfinished { files: vec![], folders: vec![] });
+static UNFINISHED: Mutex<Unfinished> = Mutex::new(Unfinished { files: BTreeSet::new(), folders: vec![] });
 
 /// Whoever makes files or brings them to their places holds it, so that a signal finds nothing half done.
 fn unfinished() -> MutexGuard<'static, Unfinished> {

@@ -1,16 +1,24 @@
 //! A picture of the pages, one below the other: a mark for each character at its place, and the rules.
 
+mod hover;
+mod small;
+
+use crate::codes::Codes;
 use crate::fonts::Fonts;
 use crate::marks::{Mark, Page, Rule, Size, INCH, QUANTUM};
-use crate::text::{counted, grouped};
+use crate::text::{counted, grouped, inches_of_quanta};
+use crate::words::REACH;
 use std::io::{self, Write};
 use std::ops::{Range, RangeInclusive};
 
 const HALF_INCH: i64 = INCH / 2;
 /// The width of a page, if nothing stands farther out.
 const PAGE_WIDTH: i64 = 3_240;
-/// Room for the legend above all pages; and around each page, for its rulers and its number.
+/// Room for a legend with one row of kinds above all pages, for each row more, and the kinds in a row; and room
+/// around each page, for its rulers and its number.
 const LEGEND: i64 = 500;
+const LEGEND_ROW: i64 = 110;
+const KINDS_IN_ROW: usize = 3;
 const LEFT: i64 = 240;
 const TOP: i64 = 200;
 const RIGHT: i64 = 160;
@@ -22,19 +30,26 @@ const MOST_INCHES: f64 = 341.0;
 const MOST_TICKS: i64 = 10_000;
 /// A path is ended when it has this many bytes: many programs read no attribute of a megabyte.
 const LONG_PATH: usize = 60_000;
-/// A character whose mark starts less than this after another's, on the same line, is overstruck.
-const REACH: i64 = 8;
 
 /// How the marks of a kind look: they differ by colour, in grey too, and by shape.
-struct Style {
-    colour: &'static str,
+struct Style<'a> {
+    colour: &'a str,
     /// How far the head of a mark stands to the right of its foot, in sixteenths of the mark's width; it is
     /// so much narrower.
     lean: i64,
 }
 
 /// The marks of the fonts that are told apart, and of all others; and rules.
-const FONT_STYLES: [Style; 2] = [Style { colour: "#003a70", lean: 0 }, Style { colour: "#d55e00", lean: 6 }];
+const FONT_STYLES: [Style; 8] = [
+    Style { colour: "#003a70", lean: 0 },
+    Style { colour: "#d55e00", lean: 6 },
+    Style { colour: "#009e73", lean: 0 },
+    Style { colour: "#cc79a7", lean: 6 },
+    Style { colour: "#56b4e9", lean: 0 },
+    Style { colour: "#b58900", lean: 6 },
+    Style { colour: "#6a3d9a", lean: 0 },
+    Style { colour: "#7f3f00", lean: 6 },
+];
 const OTHER_STYLE: Style = Style { colour: "#bcbcbc", lean: 0 };
 const RULE_LOOK: &str = "fill=\"black\"";
 
@@ -72,6 +87,8 @@ pub struct Source {
 /// Some pages, or a part of one, with a legend.
 pub struct Picture<'a> {
     source: &'a Source,
+    /// Which characters the codes are, if that is known.
+    codes: Option<&'a Codes>,
     /// The first page that is shown, counted from 1.
     first: usize,
     views: Vec<View<'a>>,
@@ -148,12 +165,17 @@ fn sides(views: &[View]) -> Range<i64> {
 }
 
 impl Picture<'_> {
-    pub fn new(source: &Source, shown: Range<usize>, part: Option<RangeInclusive<i32>>) -> Picture<'_> {
+    pub fn new<'a>(
+        source: &'a Source,
+        codes: Option<&'a Codes>,
+        shown: Range<usize>,
+        part: Option<RangeInclusive<i32>>,
+    ) -> Picture<'a> {
         let first = shown.start + 1;
         let views: Vec<View> =
             source.pages[shown].iter().map(|page| View::new(page, part.as_ref())).collect();
         let sides = sides(&views);
-        Picture { source, first, views, part, sides }
+        Picture { source, codes, first, views, part, sides }
     }
 
     /// The number of characters drawn.
@@ -184,7 +206,12 @@ impl Picture<'_> {
 
     /// In units, with the legend.
     fn height(&self) -> i64 {
-        LEGEND + self.views.iter().map(View::height).sum::<i64>()
+        self.legend() + self.views.iter().map(View::height).sum::<i64>()
+    }
+
+    /// The height of the legend.
+    fn legend(&self) -> i64 {
+        LEGEND + LEGEND_ROW * (self.others() / KINDS_IN_ROW) as i64
     }
 
     /// In units, with the room on both sides.
@@ -198,13 +225,13 @@ impl Picture<'_> {
 
     /// The start of the picture: its size and a white ground. The first page starts at 0, below the legend.
     fn open(&self, out: &mut dyn Write) -> io::Result<()> {
-        let (width, height) = (self.width(), self.height());
+        let (width, height, legend) = (self.width(), self.height(), self.legend());
         let inches = |units: i64| (self.scale() * units as f64 / INCH as f64).max(0.01);
         write!(
             out,
             "<svg xmlns=\"http://www.w3.org/2000/svg\" width=\"{:.2}in\" height=\"{:.2}in\" \
-             viewBox=\"0 -{LEGEND} {width} {height}\" font-family=\"sans-serif\" font-size=\"72\">\n\
-             <rect y=\"-{LEGEND}\" width=\"{width}\" height=\"{height}\" fill=\"#ffffff\"/>\n",
+             viewBox=\"0 -{legend} {width} {height}\" font-family=\"sans-serif\" font-size=\"72\">\n\
+             <rect y=\"-{legend}\" width=\"{width}\" height=\"{height}\" fill=\"#ffffff\"/>\n",
             inches(width),
             inches(height),
         )
@@ -217,21 +244,40 @@ impl Picture<'_> {
         let size = (96 * 60 / title.chars().count()).clamp(24, 96);
         let title = escaped(&title);
         writeln!(out, "<title>{title}</title>")?;
-        writeln!(out, "<text x=\"{LEFT}\" y=\"-360\" font-size=\"{size}\">{title}</text>")?;
-        for (kind, x) in (0..=self.others()).zip((LEFT..).step_by(1_180)) {
-            let count = self.marks().filter(|mark| self.kind_of(mark) == kind).count();
-            writeln!(
-                out,
-                "<path fill=\"{}\" d=\"{}\"/>\n<text x=\"{}\" y=\"-206\">{}: {}</text>",
-                self.style(kind).colour,
-                mark(self.style(kind), x, -200, 64),
-                x + 80,
-                escaped(&self.label(kind)),
-                grouped(count),
-            )?;
+        writeln!(
+            out,
+            "<text x=\"{LEFT}\" y=\"{}\" font-size=\"{size}\">{title}</text>",
+            140 - self.legend()
+        )?;
+        for (kind, (colour, label, count)) in self.kinds().enumerate() {
+            self.draw_kind(out, kind, &colour, &format!("{label}: {}", grouped(count)))?;
         }
         let notes = self.notes();
         writeln!(out, "<text x=\"{LEFT}\" y=\"-80\" fill=\"#606060\" font-size=\"66\">{notes}</text>")
+    }
+
+    /// Each kind of marks: its colour, its label, and how many there are.
+    pub fn kinds(&self) -> impl Iterator<Item = (String, String, usize)> + '_ {
+        let mut counts = vec![0; self.others() + 1];
+        self.marks().for_each(|mark| counts[self.kind_of(mark)] += 1);
+        let kind = |(kind, count)| (self.style(kind).colour.to_string(), self.label(kind), count);
+        counts.into_iter().enumerate().map(kind)
+    }
+
+    /// A mark of a kind with its label.
+    fn draw_kind(&self, out: &mut dyn Write, kind: usize, colour: &str, label: &str) -> io::Result<()> {
+        let (row, place) = ((kind / KINDS_IN_ROW) as i64, (kind % KINDS_IN_ROW) as i64);
+        let (x, y) = (LEFT + 1_180 * place, 300 + LEGEND_ROW * row - self.legend());
+        // Smaller where it would be too long.
+        let size = (72 * 24 / label.chars().count()).clamp(20, 72);
+        writeln!(
+            out,
+            "<path fill=\"{colour}\" d=\"{}\"/>\n<text x=\"{}\" y=\"{}\" font-size=\"{size}\">{}</text>",
+            mark(&self.style(kind), x, y, 64),
+            x + 80,
+            y - 6,
+            escaped(label),
+        )
     }
 
     /// What the pages come from, and how many marks and rules look otherwise.
@@ -260,7 +306,8 @@ impl Picture<'_> {
         }
         if let Some(heights) = &self.part {
             let [from, to] = [heights.start(), heights.end()].map(|height| grouped(*height as usize));
-            title += &format!(", heights {from} to {to}");
+            let [top, bottom] = [heights.start(), heights.end()].map(|height| inches_of_quanta(*height));
+            title += &format!(", heights {from} to {to} ({top:.2} to {bottom:.2} inches)");
         }
         title
     }
@@ -278,8 +325,14 @@ impl Picture<'_> {
         self.source.fonts.iter().nth(kind).map_or("other fonts".into(), |font| font.label())
     }
 
-    fn style(&self, kind: usize) -> &'static Style {
-        FONT_STYLES[..self.others()].get(kind).unwrap_or(&OTHER_STYLE)
+    /// How marks of a kind look: in the colour that was chosen for its font, if one was.
+    fn style(&self, kind: usize) -> Style<'_> {
+        match (FONT_STYLES.get(kind), self.source.fonts.iter().nth(kind)) {
+            (Some(usual), Some(font)) => {
+                Style { colour: font.colour.as_deref().unwrap_or(usual.colour), lean: usual.lean }
+            }
+            _ => OTHER_STYLE,
+        }
     }
 
     /// A page's edges, rulers, marks and number, as a picture of its own that starts at `top`.
@@ -313,9 +366,14 @@ impl Picture<'_> {
         draw_paths(out, RULE_LOOK, view.rules().map(rule))?;
         for kind in std::iter::once(self.others()).chain(0..self.others()) {
             let style = self.style(kind);
-            let marks = view.marks().filter(|mark| self.kind_of(mark) == kind);
-            let pieces = marks.map(|it| mark(style, it.x, it.y, mark_height(it.size)));
-            draw_paths(out, &format!("fill=\"{}\"", style.colour), pieces)?;
+            let mut marks: Vec<Mark> =
+                view.marks().filter(|mark| self.kind_of(mark) == kind).copied().collect();
+            for word in hover::words(&mut marks) {
+                let path: String =
+                    word.iter().map(|it| mark(&style, it.x, it.y, mark_height(it.size))).collect();
+                let title = hover::title(word, &self.source.fonts, self.codes);
+                writeln!(out, "<path fill=\"{}\" d=\"{path}\"><title>{title}</title></path>", style.colour)?;
+            }
         }
         let frames = view.overstruck.iter().map(frame);
         draw_paths(out, "fill=\"none\" stroke=\"#000000\" stroke-width=\"5\"", frames)
@@ -383,7 +441,7 @@ fn inches(from: i64, to: i64) -> impl Iterator<Item = i64> {
 }
 
 /// Text with what XML reserves written out, and without control characters.
-fn escaped(text: &str) -> String {
+pub fn escaped(text: &str) -> String {
     let text = text.replace('&', "&amp;").replace('<', "&lt;").replace('>', "&gt;");
     text.replace(|character: char| character.is_control(), "?")
 }

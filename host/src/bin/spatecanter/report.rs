@@ -278,7 +278,7 @@ fn in_numbers(finding: &Finding) -> [u64; 4] {
 }
 
 /// A string of JSON.
-fn quoted(text: &str) -> String {
+pub fn quoted(text: &str) -> String {
     let mut quoted = String::from("\"");
     for character in text.chars() {
         match character {

@@ -35,8 +35,30 @@ pub fn named(arguments: &Arguments) -> Result<Vec<Tape>, Failure> {
     Ok(tapes)
 }
 
+/// The files of inputs, and of folders but for those in the folder for outputs; each with its path below the
+/// folder that was named.
+pub fn below(inputs: &[OsString], outputs: &Path) -> Result<Vec<(PathBuf, PathBuf)>, Failure> {
+    let outputs = outputs.canonicalize().ok();
+    let is_output = |name: &Path| {
+        outputs.as_ref().is_some_and(|it| name.canonicalize().is_ok_and(|name| name.starts_with(it)))
+    };
+    let mut files = Vec::new();
+    for input in inputs.iter().map(Path::new) {
+        let mut names = Vec::new();
+        gather(input, &mut names)?;
+        names.retain(|name| is_output(input) || !is_output(name));
+        files.extend(names.into_iter().map(|name| {
+            let short = name.strip_prefix(input).unwrap_or(Path::new(""));
+            let is_named = short.as_os_str().is_empty();
+            let short = if is_named { name.file_name().unwrap_or_default().into() } else { short.into() };
+            (name, short)
+        }));
+    }
+    Ok(files)
+}
+
 /// The tapes of a list: a path and a machine in each line.
-fn listed(list: &OsStr) -> Result<Vec<Tape>, Failure> {
+pub fn listed(list: &OsStr) -> Result<Vec<Tape>, Failure> {
     let bytes = read_one_of_many(list, LIST_LIMIT)?;
     let wrong = |what: String| Failure::File(format!("{}: {what}", shown(list)));
     if bytes.len() > LIST_LIMIT {

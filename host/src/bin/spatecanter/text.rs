@@ -24,15 +24,25 @@ pub fn counted(number: usize, thing: &str) -> String {
     format!("{} {thing}{plural}", grouped(number))
 }
 
+/// Units of 1/432 inch as inches.
+pub fn inches_of_units(units: i32) -> f64 {
+    f64::from(units) / 432.0
+}
+
+/// Quanta of 1/144 inch as inches.
+pub fn inches_of_quanta(quanta: i32) -> f64 {
+    f64::from(quanta) / 144.0
+}
+
 /// The farthest x, in units and in inches.
 pub fn farthest_x(extents: Extents) -> String {
-    format!("{}, {:.2} inches", counted(extents.x as usize, "unit"), f64::from(extents.x) / 432.0)
+    format!("{}, {:.2} inches", counted(extents.x as usize, "unit"), inches_of_units(extents.x))
 }
 
 /// The greatest height, in quanta and in inches.
 pub fn greatest_height(extents: Extents) -> String {
     let quanta = if extents.height == 1 { "quantum" } else { "quanta" };
-    let inches = f64::from(extents.height) / 144.0;
+    let inches = inches_of_quanta(extents.height);
     format!("{} {quanta}, {inches:.2} inches", grouped(extents.height as usize))
 }
 

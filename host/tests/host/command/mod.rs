@@ -1,7 +1,10 @@
 //! The command `spatecanter`: files, exit status and texts.
 
+mod browser;
 mod comparisons;
 mod editions;
+mod figures;
+mod indexes;
 mod outputs;
 mod pictures;
 mod pieces;

@@ -284,7 +284,7 @@ fn inputs_are_read_to_their_limits() {
         (&["read", "/dev/zero", "-o", "a"], 1, "/dev/zero: refused 1 at 0"),
         (&["plot", "/dev/zero", "-o", "a"], 1, "/dev/zero: refused 1 at 0"),
         (&["reprint", "/dev/zero", "-d", "a"], 1, "/dev/zero: refused 1 at 0"),
-        (&["list", "/dev/zero"], 1, "/dev/zero: refused 40 at 0"),
+        (&["list", "/dev/zero"], 1, "/dev/zero: refused 1 at 0"),
         (&["convert", "--to", "new", "/dev/zero", "-o", "a"], 1, "/dev/zero: refused 40 at 0"),
         (&["show", "/dev/zero", "-o", "a"], 1, "/dev/zero: refused 20 at 0"),
         (&["show", "p3.tape.dvi", "--widths", "/dev/zero"], 2, "/dev/zero: the width table is longer than"),

@@ -25,7 +25,8 @@ fn marks(picture: &str) -> usize {
 /// The pieces of the paths on a picture's pages that begin so.
 fn pieces<'a>(picture: &'a str, start: &str) -> Vec<&'a str> {
     let paths = pages_of(picture).concat().into_iter().filter(|line| line.starts_with(start));
-    paths.flat_map(|line| line.split(" d=\"").nth(1).unwrap().split('M').skip(1)).collect()
+    let path = |line: &'a str| line.split(" d=\"").nth(1).unwrap().split('"').next().unwrap();
+    paths.flat_map(|line| path(line).split('M').skip(1)).collect()
 }
 
 #[test]
@@ -78,7 +79,7 @@ fn summaries_and_legends_name_the_fonts() {
     assert!(plot(&folder, &["a.galley"]).contains(">font 1: "));
     assert!(plot(&folder, &["a.galley", "--machine", "8"]).contains(">font 1 (measured): "));
     let one = plot(&folder, &["a.tape", "--fonts", "3=heads"]);
-    assert!(one.contains(">font 3 (heads): ") && !one.contains(">font 1"));
+    assert!(one.contains(">font 3 (heads): ") && !one.contains(">font 1: "));
 }
 
 #[test]

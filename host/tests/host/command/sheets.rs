@@ -137,8 +137,8 @@ fn bad_sheets_and_wrong_dots() {
         (&["a.sheet", "--dots", "0"], 2, "--dots 0 is no measure: it is the number of dots to an inch, "),
         (&["a.sheet", "--dots", "10001"], 2, "--dots 10001 is no measure"),
         (&["a.sheet", "--dots=200", "--machine=8"], 2, "--dots is for sheets of XGP files, "),
-        (&["a.sheet", "--dots=200", "--fonts=4"], 2, "--fonts 4 names no fonts: it is one or two of 0 to 3 "),
-        (&["a.sheet", "--fonts=0"], 2, "--fonts 0 names no fonts: it is one or two of 1 to 8 "),
+        (&["a.sheet", "--dots=200", "--fonts=4"], 2, "--fonts 4 names no fonts: it is some of 0 to 3 "),
+        (&["a.sheet", "--fonts=0"], 2, "--fonts 0 names no fonts: it is some of 1 to 8 "),
     ];
     for (words, status, what) in rows {
         let run = run(&folder, &[&["plot"], words].concat());

@@ -8,8 +8,8 @@ fn help_for_the_whole_and_for_each_command() {
     let whole = run(&folder, &["--help"]);
     assert_eq!((whole.status, whole.err.as_str()), (0, ""));
     for name in [
-        "read", "check", "list", "set", "show", "back", "sheet", "reprint", "plot", "punch", "convert",
-        "compare", "report", "xgp",
+        "read", "check", "list", "text", "index", "set", "show", "back", "sheet", "reprint", "plot", "punch",
+        "convert", "compare", "report", "xgp",
     ] {
         assert!(whole.text().contains(&format!("\n  {name} ")), "{name} in the whole help");
         let usage = format!("Usage: spatecanter {name} ");
@@ -25,7 +25,7 @@ fn help_for_the_whole_and_for_each_command() {
 fn wrong_usage_is_2() {
     let folder = folder("usage");
     fs::write(folder.join("p3.tape"), hex(P3_TAPE)).unwrap();
-    let calls: [&[&str]; 54] = [
+    let calls: [&[&str]; 74] = [
         &[],
         &["reed", "p3.tape"],
         &["read"],
@@ -54,11 +54,31 @@ fn wrong_usage_is_2() {
         &["check", "p3.tape", "--force"],
         &["reprint", "p3.tape", "-d", "out", "--fonts", "9=measured"],
         &["reprint", "p3.tape", "-d", "out", "--fonts", "1=measured,1=estimated"],
-        &["plot", "p3.tape", "--fonts", "1,2,3"],
+        &["plot", "p3.tape", "--fonts", "1,2,1"],
+        &["plot", "p3.tape", "--fonts", "1=measured:#12345"],
+        &["plot", "p3.tape", "--fonts", "1:#12345g"],
+        &["plot", "p3.tape", "--fonts", ""],
+        &["plot", "p3.tape", "--codes", "p3.tape"],
+        &["plot", "p3.tape", "--split", "-o", "-"],
+        &["plot", "-", "--split"],
+        &["plot", "p3.tape", "--split", "--to", "5in"],
+        &["plot", "p3.tape", "--split=2"],
+        &["index", "p3.tape"],
+        &["index", "-d", "out"],
+        &["index", "missing.tape", "-d", "out"],
+        &["index", "--list", "p3.tape", "-d", "out"],
+        &["index", "p3.tape", "p3.tape", "-d", "out"],
+        &["index", "p3.tape", "-d", "out", "--page", "1"],
         &["plot", "p3.tape", "--from", "5", "--to", "4"],
         &["plot", "p3.tape", "--from", "-1"],
         &["plot", "p3.tape", "--to", "1000001"],
         &["plot", "p3.tape", "--to", "xin"],
+        &["text", "p3.tape"],
+        &["text", "p3.tape", "--codes", "missing.codes"],
+        &["text", "p3.tape", "--codes", "p3.tape"],
+        &["text", "-", "--codes", "-"],
+        &["list", "p3.tape", "--format", "xml"],
+        &["list", "p3.tape", "--mark", "2=~"],
         &["convert", "p3.tape"],
         &["convert", "--to", "p3.tape"],
         &["convert", "--to", "newer", "p3.tape"],

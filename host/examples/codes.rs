@@ -1,0 +1,5 @@
+//! Writes the code table of the made tapes to standard output.
+
+fn main() {
+    print!("{}", spatecanter::sample::codes());
+}
