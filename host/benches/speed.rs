@@ -222,7 +222,7 @@ fn count_tape(tape: &[u8], machine: Machine) -> Contest<'_> {
             done(report.count(black_box(tape), machine));
         }),
         quick: Box::new(move || {
-            if other[Report::TAPES] == REPORT_LIMIT {
+            if other[0] == REPORT_LIMIT {
                 other = [0; REPORT_WORDS];
             }
             done(quick::count_tape(black_box(tape), machine.fonts(), &mut other));
@@ -312,7 +312,7 @@ fn dvi_to_galley(dvi: &[u8]) -> Contest<'_> {
 
 fn reprint(galley: &[u8]) -> Contest<'_> {
     let whole = spatecanter::reprint(galley, &[]).unwrap();
-    let (mut dvi, mut quick_dvi) = (whole.dvi.clone(), whole.dvi.clone());
+    let (mut dvi, mut quick_dvi) = (whole.dvi.to_vec(), whole.dvi.to_vec());
     contest_of_one(
         whole.sheet.len(),
         move |sheet| spatecanter::reprint_into(galley, &[], &mut dvi, sheet).unwrap(),

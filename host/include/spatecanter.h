@@ -2,11 +2,12 @@
  * spatecanter.h: C/A/T phototypesetter tapes, whole or in pieces, to galleys, galleys to DVI files of 1980 and of
  * the second edition, and DVI files to sheets and back to galleys; galleys back to tapes, and old galleys to new
  * ones and back; and reports over many tapes. Link with libspatecanter.a, which the script `library` at the root of
- * the repository proves and builds in target/staticlib.
+ * the repository proves and builds in target/staticlib, or with what the script `install` installs: pkg-config
+ * --cflags --libs spatecanter.
  *
  * Files of XGP character mode become sheets too.
  *
- * ANSWERS. Every function but sp_new_tape and sp_extents fills `answer` with three numbers:
+ * ANSWERS. Every function but sp_version, sp_new_tape and sp_extents fills `answer` with three numbers:
  *
  *     answer[0]  number  0 if accepted, else the refusal's number (enum sp_number)
  *     answer[1]  place   0 if accepted, else where the input was refused
@@ -61,6 +62,9 @@
 #ifdef __cplusplus
 extern "C" {
 #endif
+
+/* The version: 10,000 times the major number, 100 times the minor one, and the patch. */
+#define SP_VERSION          100
 
 /* The longest inputs that are taken, in bytes. */
 #define SP_TAPE_LIMIT       1048576
@@ -170,6 +174,9 @@ enum sp_number {
     SP_CODE_CUT_SHORT    = 62, /* the file ends inside a code; its offset */
     SP_NEGATIVE_WIDTH    = 63  /* a negative width; 0 */
 };
+
+/* The version of the library that is linked: SP_VERSION of the header that it came with. */
+uint32_t sp_version(void);
 
 /*
  * Reads a tape and writes its galley. `machine` is 4 or 8, the number of fonts of the machine that the tape

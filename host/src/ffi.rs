@@ -11,6 +11,8 @@ pub const ITEM_CHARACTER: i32 = 1;
 pub const ITEM_CUT: i32 = 2;
 
 extern "C" {
+    pub fn sp_version() -> u32;
+
     pub fn sp_read_tape(
         tape: *const u8,
         tape_len: usize,

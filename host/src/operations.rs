@@ -1,38 +1,120 @@
 //! The library's operations on slices. Each `…_into` fills a lent buffer; its namesake makes a vector.
 
+use crate::dvi::DviFile;
+use crate::extents::Extents;
 use crate::ffi;
-use crate::galley::{Character, Item};
+use crate::galley::{Character, Galley, Item};
 use crate::machine::Machine;
-use crate::refusal::{number, Outcome, Refusal};
+use crate::refusal::{Outcome, Refusal};
+use crate::running::RunningTape;
+use crate::sheet::Sheet;
 
-/// The longest tape, galley, galley of the old form, and DVI file of 1980 that are taken, in bytes.
+/// The longest tape that is taken, in bytes.
+///
+/// ```
+/// use spatecanter::{read_tape, Machine, Refusal, TAPE_LIMIT};
+///
+/// assert_eq!(read_tape(&vec![0; TAPE_LIMIT + 1], Machine::Eight), Err(Refusal::TapeTooLong));
+/// ```
 pub const TAPE_LIMIT: usize = 1_048_576;
+
+/// The longest galley that is taken, in bytes.
+///
+/// ```
+/// use spatecanter::{check_galley, Refusal, GALLEY_LIMIT};
+///
+/// assert_eq!(check_galley(&vec![0; GALLEY_LIMIT + 1]), Err(Refusal::GalleyTooLong));
+/// ```
 pub const GALLEY_LIMIT: usize = 11_534_343;
+
+/// The longest galley of the old form that is taken, in bytes.
+///
+/// ```
+/// use spatecanter::{galley_to_new, Refusal, OLD_GALLEY_LIMIT};
+///
+/// assert_eq!(galley_to_new(&vec![0; OLD_GALLEY_LIMIT + 1]), Err(Refusal::GalleyTooLong));
+/// ```
 pub const OLD_GALLEY_LIMIT: usize = 9_437_191;
+
+/// The longest DVI file of 1980 that is taken, in bytes.
+///
+/// ```
+/// use spatecanter::{read_dvi, Refusal, DVI_LIMIT};
+///
+/// assert_eq!(read_dvi(&vec![0; DVI_LIMIT + 1], &[]), Err(Refusal::DviTooLong));
+/// ```
 pub const DVI_LIMIT: usize = 33_554_432;
 
 /// No sheet is longer, in bytes: the shortest command or code that shows something is one byte, and what it shows
 /// 16; an XGP file has no byte for its first page and for End, of 7 each.
+///
+/// ```
+/// assert_eq!(spatecanter::SHEET_LIMIT, 16 * spatecanter::DVI_LIMIT + 14);
+/// ```
 pub const SHEET_LIMIT: usize = 16 * DVI_LIMIT + 14;
 
 /// The most characters and cuts, together, that a galley holds.
+///
+/// ```
+/// use spatecanter::{check_galley, Refusal, ITEM_LIMIT};
+///
+/// let cuts = [6, 0, 0].repeat(ITEM_LIMIT + 1);
+/// assert_eq!(check_galley(&cuts), Err(Refusal::GalleyMalformed { place: 3 * ITEM_LIMIT }));
+/// ```
 pub const ITEM_LIMIT: usize = 1_048_576;
 
-/// The greatest height of a character, and the greatest that DVI and the old form hold.
+/// The greatest height of a character.
+///
+/// ```
+/// assert_eq!(spatecanter::HEIGHT_LIMIT, 1_000_000);
+/// ```
 pub const HEIGHT_LIMIT: i32 = 1_000_000;
+
+/// The greatest height that a DVI file of 1980 and the old form hold.
+///
+/// ```
+/// assert_eq!(spatecanter::DVI_HEIGHT_LIMIT, 65_535);
+/// ```
 pub const DVI_HEIGHT_LIMIT: i32 = 65_535;
 
 /// Widths in each font of a width table.
+///
+/// ```
+/// use spatecanter::{read_dvi, Refusal, WIDTHS_PER_FONT};
+///
+/// assert_eq!(read_dvi(&[], &[0; WIDTHS_PER_FONT]), Err(Refusal::DviEnds { place: 0 }));
+/// assert_eq!(read_dvi(&[], &[0; WIDTHS_PER_FONT - 1]), Err(Refusal::Widths));
+/// ```
 pub const WIDTHS_PER_FONT: usize = 128;
 
 /// The DVI file and the sheet of one galley.
+///
+/// ```
+/// use spatecanter::{read_tape, reprint, Machine, Reprint};
+///
+/// let galley = read_tape(&[0x40, 0x49], Machine::Eight)?;
+/// let Reprint { dvi, sheet } = reprint(&galley, &[])?;
+/// assert_eq!((dvi.len(), sheet.len()), (36, 14));
+/// # Ok::<(), spatecanter::Refusal>(())
+/// ```
 #[derive(Clone, Debug, PartialEq, Eq)]
 pub struct Reprint {
-    pub dvi: Vec<u8>,
-    pub sheet: Vec<u8>,
+    /// The DVI file.
+    pub dvi: DviFile,
+    /// What it shows.
+    pub sheet: Sheet,
 }
 
 /// Reads a tape of this machine, or of the machine with so many fonts, into a galley; the length is the galley's.
+///
+/// ```
+/// use spatecanter::{read_tape_into, Machine, Refusal};
+///
+/// let mut galley = [0; 7];
+/// assert_eq!(read_tape_into(&[0x40, 0x49], Machine::Eight, &mut galley), Ok(7));
+/// assert_eq!(galley, [2, 0, 4, 0, 0, 0, 0]);
+/// assert_eq!(read_tape_into(&[0x40, 0x49], 5_u32, &mut galley), Err(Refusal::NoMachine));
+/// ```
 pub fn read_tape_into(tape: &[u8], machine: impl Into<u32>, galley: &mut [u8]) -> Outcome {
     let mut answer = [0; 3];
     // SAFETY: every pointer comes from a live slice, with its length.
@@ -50,12 +132,45 @@ pub fn read_tape_into(tape: &[u8], machine: impl Into<u32>, galley: &mut [u8]) -
 }
 
 /// The galley of a tape of this machine.
-pub fn read_tape(tape: &[u8], machine: Machine) -> Result<Vec<u8>, Refusal> {
+///
+/// ```
+/// use spatecanter::{read_tape, Machine};
+///
+/// let galley = read_tape(&[0x40, 0xEF, 0x52, 0x4E, 0x01, 0xFC, 0x02, 0x49], Machine::Eight)?;
+/// assert_eq!(galley.characters().count(), 2);
+/// # Ok::<(), spatecanter::Refusal>(())
+/// ```
+pub fn read_tape(tape: &[u8], machine: Machine) -> Result<Galley, Refusal> {
     let enough = 11 * tape.len().min(TAPE_LIMIT) + 7;
-    filled(enough, number::GALLEY_ROOM, |galley| read_tape_into(tape, machine, galley))
+    filled(enough, |galley| read_tape_into(tape, machine, galley)).map(Galley::written)
+}
+
+/// The galley of a tape of this machine, and the extents of its characters.
+///
+/// ```
+/// use spatecanter::{read_tape_with_extents, Machine};
+///
+/// let tape = [0x40, 0xEF, 0x52, 0x4E, 0x01, 0xFC, 0x02, 0x49];
+/// let (galley, extents) = read_tape_with_extents(&tape, Machine::Eight)?;
+/// assert_eq!((galley.len(), extents.x), (29, 3));
+/// # Ok::<(), spatecanter::Refusal>(())
+/// ```
+pub fn read_tape_with_extents(tape: &[u8], machine: Machine) -> Result<(Galley, Extents), Refusal> {
+    let mut running = RunningTape::new();
+    running.start(machine);
+    let mut galley = running.feed(tape)?;
+    galley.extend(running.close()?);
+    Ok((Galley::written(galley), running.extents()))
 }
 
 /// Checks a galley; the length is its number of characters.
+///
+/// ```
+/// use spatecanter::{check_galley, Refusal};
+///
+/// assert_eq!(check_galley(&[2, 0, 4, 0, 0, 0, 0]), Ok(0));
+/// assert_eq!(check_galley(&[2, 0, 4]), Err(Refusal::GalleyMalformed { place: 0 }));
+/// ```
 pub fn check_galley(galley: &[u8]) -> Outcome {
     let mut answer = [0; 3];
     // SAFETY: the pointer comes from a live slice, with its length.
@@ -64,6 +179,15 @@ pub fn check_galley(galley: &[u8]) -> Outcome {
 }
 
 /// Character `n` of a galley, counted from 0.
+///
+/// ```
+/// use spatecanter::{read_back, read_tape, Machine, Refusal};
+///
+/// let galley = read_tape(&[0x40, 0xEF, 0x52, 0x4E, 0x01, 0xFC, 0x02, 0x49], Machine::Eight)?;
+/// assert_eq!(read_back(&galley, 1)?.x, 3);
+/// assert_eq!(read_back(&galley, 2), Err(Refusal::NoSuchCharacter));
+/// # Ok::<(), spatecanter::Refusal>(())
+/// ```
 pub fn read_back(galley: &[u8], n: usize) -> Result<Character, Refusal> {
     let mut answer = [0; 3];
     let mut character = [0; 4];
@@ -75,8 +199,18 @@ pub fn read_back(galley: &[u8], n: usize) -> Result<Character, Refusal> {
     outcome(answer).map(|_| Character { x, height, font_number, code })
 }
 
-/// The item whose whole field starts at a place of a galley, and the bytes of that field. `galley::items` goes
+/// The item whose whole field starts at a place of a galley, and the bytes of that field. [`Galley::items`] goes
 /// from each to the next.
+///
+/// ```
+/// use spatecanter::galley::Item;
+/// use spatecanter::{item_at, read_tape, Machine};
+///
+/// let galley = read_tape(&[0x40, 0x4B, 0x40, 0x49], Machine::Eight)?;
+/// assert_eq!(item_at(&galley, 0)?, (Item::Cut, 3));
+/// assert!(item_at(&galley, 3).is_err());
+/// # Ok::<(), spatecanter::Refusal>(())
+/// ```
 pub fn item_at(galley: &[u8], at: usize) -> Result<(Item, usize), Refusal> {
     let mut answer = [0; 3];
     let mut item = [0; 5];
@@ -86,7 +220,8 @@ pub fn item_at(galley: &[u8], at: usize) -> Result<(Item, usize), Refusal> {
     }
     outcome(answer).map(|length| match item {
         [ffi::ITEM_CUT, ..] => (Item::Cut, length),
-        [_, x, height, font_number, code] => {
+        [kind, x, height, font_number, code] => {
+            debug_assert_eq!(kind, ffi::ITEM_CHARACTER);
             (Item::Character(Character { x, height, font_number, code }), length)
         }
     })
@@ -94,6 +229,16 @@ pub fn item_at(galley: &[u8], at: usize) -> Result<(Item, usize), Refusal> {
 
 /// Writes a galley as a DVI file, with a new page for each cut; the length is the file's. A height above
 /// 65,535 is refused.
+///
+/// ```
+/// use spatecanter::{read_tape, write_dvi_into, Machine, Refusal};
+///
+/// let galley = read_tape(&[0x40, 0x49], Machine::Eight)?;
+/// let mut dvi = [0; 36];
+/// assert_eq!(write_dvi_into(&galley, &mut dvi), Ok(36));
+/// assert_eq!(write_dvi_into(&galley, &mut dvi[..35]), Err(Refusal::DviRoom { needed: 36 }));
+/// # Ok::<(), spatecanter::Refusal>(())
+/// ```
 pub fn write_dvi_into(galley: &[u8], dvi: &mut [u8]) -> Outcome {
     let mut answer = [0; 3];
     // SAFETY: every pointer comes from a live slice, with its length.
@@ -104,12 +249,30 @@ pub fn write_dvi_into(galley: &[u8], dvi: &mut [u8]) -> Outcome {
 }
 
 /// The DVI file of a galley whose heights are at most 65,535.
-pub fn write_dvi(galley: &[u8]) -> Result<Vec<u8>, Refusal> {
+///
+/// ```
+/// use spatecanter::{read_tape, write_dvi, Machine};
+///
+/// let galley = read_tape(&[0x40, 0x49], Machine::Eight)?;
+/// assert_eq!(write_dvi(&galley)?.len(), 36);
+/// # Ok::<(), spatecanter::Refusal>(())
+/// ```
+pub fn write_dvi(galley: &[u8]) -> Result<DviFile, Refusal> {
     let usual = 36 + galley.len().min(GALLEY_LIMIT);
-    filled(usual, number::DVI_ROOM, |dvi| write_dvi_into(galley, dvi))
+    filled(usual, |dvi| write_dvi_into(galley, dvi)).map(DviFile::written)
 }
 
 /// Reads a DVI file, with a table of widths, into a sheet; the length is the sheet's.
+///
+/// ```
+/// use spatecanter::{read_dvi_into, read_tape, write_dvi, Machine};
+///
+/// let dvi = write_dvi(&read_tape(&[0x40, 0x49], Machine::Eight)?)?;
+/// let mut sheet = [0; 14];
+/// assert_eq!(read_dvi_into(&dvi, &[], &mut sheet), Ok(14));
+/// assert_eq!(sheet, [5, 0, 4, 0, 0, 0, 1, 2, 0, 4, 0, 0, 0, 1]);
+/// # Ok::<(), spatecanter::Refusal>(())
+/// ```
 pub fn read_dvi_into(dvi: &[u8], widths: &[i32], sheet: &mut [u8]) -> Outcome {
     let mut answer = [0; 3];
     // SAFETY: every pointer comes from a live slice, with its length.
@@ -128,12 +291,28 @@ pub fn read_dvi_into(dvi: &[u8], widths: &[i32], sheet: &mut [u8]) -> Outcome {
 }
 
 /// The sheet of a DVI file, with a table of widths.
-pub fn read_dvi(dvi: &[u8], widths: &[i32]) -> Result<Vec<u8>, Refusal> {
+///
+/// ```
+/// use spatecanter::{read_dvi, read_tape, write_dvi, Machine};
+///
+/// let dvi = write_dvi(&read_tape(&[0x40, 0x49], Machine::Eight)?)?;
+/// assert_eq!(read_dvi(&dvi, &[])?.fields().count(), 1);
+/// # Ok::<(), spatecanter::Refusal>(())
+/// ```
+pub fn read_dvi(dvi: &[u8], widths: &[i32]) -> Result<Sheet, Refusal> {
     let usual = 4 * dvi.len().min(DVI_LIMIT);
-    filled(usual, number::SHEET_ROOM, |sheet| read_dvi_into(dvi, widths, sheet))
+    filled(usual, |sheet| read_dvi_into(dvi, widths, sheet)).map(Sheet::written)
 }
 
 /// Reads a DVI file as `read_dvi_into` does, by another way: PUSH and POP as brackets.
+///
+/// ```
+/// use spatecanter::{read_dvi_plain_into, read_tape, write_dvi, Machine};
+///
+/// let dvi = write_dvi(&read_tape(&[0x40, 0x49], Machine::Eight)?)?;
+/// assert_eq!(read_dvi_plain_into(&dvi, &[], &mut [0; 14]), Ok(14));
+/// # Ok::<(), spatecanter::Refusal>(())
+/// ```
 pub fn read_dvi_plain_into(dvi: &[u8], widths: &[i32], sheet: &mut [u8]) -> Outcome {
     let mut answer = [0; 3];
     // SAFETY: every pointer comes from a live slice, with its length.
@@ -152,12 +331,28 @@ pub fn read_dvi_plain_into(dvi: &[u8], widths: &[i32], sheet: &mut [u8]) -> Outc
 }
 
 /// The sheet of a DVI file, by the way of `read_dvi_plain_into`.
-pub fn read_dvi_plain(dvi: &[u8], widths: &[i32]) -> Result<Vec<u8>, Refusal> {
+///
+/// ```
+/// use spatecanter::{read_dvi, read_dvi_plain, read_tape, write_dvi, Machine};
+///
+/// let dvi = write_dvi(&read_tape(&[0x40, 0x49], Machine::Eight)?)?;
+/// assert_eq!(read_dvi_plain(&dvi, &[]), read_dvi(&dvi, &[]));
+/// # Ok::<(), spatecanter::Refusal>(())
+/// ```
+pub fn read_dvi_plain(dvi: &[u8], widths: &[i32]) -> Result<Sheet, Refusal> {
     let usual = 4 * dvi.len().min(DVI_LIMIT);
-    filled(usual, number::SHEET_ROOM, |sheet| read_dvi_plain_into(dvi, widths, sheet))
+    filled(usual, |sheet| read_dvi_plain_into(dvi, widths, sheet)).map(Sheet::written)
 }
 
 /// Makes the galley whose targets a DVI file shows, with a table of widths; the length is the galley's.
+///
+/// ```
+/// use spatecanter::{dvi_to_galley_into, read_tape, write_dvi, Machine};
+///
+/// let dvi = write_dvi(&read_tape(&[0x40, 0x49], Machine::Eight)?)?;
+/// assert_eq!(dvi_to_galley_into(&dvi, &[], &mut [0; 7]), Ok(7));
+/// # Ok::<(), spatecanter::Refusal>(())
+/// ```
 pub fn dvi_to_galley_into(dvi: &[u8], widths: &[i32], galley: &mut [u8]) -> Outcome {
     let mut answer = [0; 3];
     // SAFETY: every pointer comes from a live slice, with its length.
@@ -176,12 +371,29 @@ pub fn dvi_to_galley_into(dvi: &[u8], widths: &[i32], galley: &mut [u8]) -> Outc
 }
 
 /// The galley whose targets a DVI file shows: the file of `write_dvi` gives back its galley.
-pub fn dvi_to_galley(dvi: &[u8], widths: &[i32]) -> Result<Vec<u8>, Refusal> {
+///
+/// ```
+/// use spatecanter::{dvi_to_galley, read_tape, write_dvi, Machine};
+///
+/// let galley = read_tape(&[0x40, 0xEF, 0x52, 0x4E, 0x01, 0xFC, 0x02, 0x49], Machine::Eight)?;
+/// assert_eq!(dvi_to_galley(&write_dvi(&galley)?, &[])?, galley);
+/// # Ok::<(), spatecanter::Refusal>(())
+/// ```
+pub fn dvi_to_galley(dvi: &[u8], widths: &[i32]) -> Result<Galley, Refusal> {
     let usual = 2 * dvi.len().min(DVI_LIMIT);
-    filled(usual, number::GALLEY_ROOM, |galley| dvi_to_galley_into(dvi, widths, galley))
+    filled(usual, |galley| dvi_to_galley_into(dvi, widths, galley)).map(Galley::written)
 }
 
 /// Writes a galley as a DVI file and reads that into a sheet; the length is the sheet's.
+///
+/// ```
+/// use spatecanter::{read_tape, reprint_into, Machine};
+///
+/// let galley = read_tape(&[0x40, 0x49], Machine::Eight)?;
+/// let (mut dvi, mut sheet) = ([0; 36], [0; 14]);
+/// assert_eq!(reprint_into(&galley, &[], &mut dvi, &mut sheet), Ok(14));
+/// # Ok::<(), spatecanter::Refusal>(())
+/// ```
 pub fn reprint_into(galley: &[u8], widths: &[i32], dvi: &mut [u8], sheet: &mut [u8]) -> Outcome {
     let mut answer = [0; 3];
     // SAFETY: every pointer comes from a live slice, with its length.
@@ -202,15 +414,34 @@ pub fn reprint_into(galley: &[u8], widths: &[i32], dvi: &mut [u8], sheet: &mut [
 }
 
 /// The DVI file and the sheet of a galley.
+///
+/// ```
+/// use spatecanter::{read_dvi, read_tape, reprint, Machine};
+///
+/// let galley = read_tape(&[0x40, 0x49], Machine::Eight)?;
+/// let made = reprint(&galley, &[])?;
+/// assert_eq!(made.sheet, read_dvi(&made.dvi, &[])?);
+/// # Ok::<(), spatecanter::Refusal>(())
+/// ```
 pub fn reprint(galley: &[u8], widths: &[i32]) -> Result<Reprint, Refusal> {
     let mut dvi = vec![0; room_for_dvi(galley)?];
     // A cut's 3 bytes give 7, a character's 11 give 16, and End's 7 the first page and End, 14.
     let enough = 7 * (galley.len() / 3);
-    let sheet = filled(enough, number::SHEET_ROOM, |sheet| reprint_into(galley, widths, &mut dvi, sheet))?;
-    Ok(Reprint { dvi, sheet })
+    let sheet = filled(enough, |sheet| reprint_into(galley, widths, &mut dvi, sheet))?;
+    Ok(Reprint { dvi: DviFile::written(dvi), sheet: Sheet::written(sheet) })
 }
 
 /// Punches a tape of the 8-font machine from a galley; the length is the tape's. Reading the tape gives the galley.
+///
+/// ```
+/// use spatecanter::{punch_tape_into, read_tape, Machine};
+///
+/// let galley = read_tape(&[0x40, 0x49], Machine::Eight)?;
+/// let mut tape = [0; 3];
+/// assert_eq!(punch_tape_into(&galley, &mut tape), Ok(3));
+/// assert_eq!(tape, [0x40, 0xEF, 0x49]);
+/// # Ok::<(), spatecanter::Refusal>(())
+/// ```
 pub fn punch_tape_into(galley: &[u8], tape: &mut [u8]) -> Outcome {
     let mut answer = [0; 3];
     // SAFETY: every pointer comes from a live slice, with its length.
@@ -221,12 +452,28 @@ pub fn punch_tape_into(galley: &[u8], tape: &mut [u8]) -> Outcome {
 }
 
 /// The tape of a galley, for the 8-font machine.
+///
+/// ```
+/// use spatecanter::{punch_tape, read_tape, Machine};
+///
+/// let galley = read_tape(&[0x40, 0xEF, 0x52, 0x4E, 0x01, 0xFC, 0x02, 0x49], Machine::Eight)?;
+/// assert_eq!(read_tape(&punch_tape(&galley)?, Machine::Eight)?, galley);
+/// # Ok::<(), spatecanter::Refusal>(())
+/// ```
 pub fn punch_tape(galley: &[u8]) -> Result<Vec<u8>, Refusal> {
     let usual = galley.len().min(TAPE_LIMIT);
-    filled(usual, number::TAPE_ROOM, |tape| punch_tape_into(galley, tape))
+    filled(usual, |tape| punch_tape_into(galley, tape))
 }
 
 /// Writes a galley of the old form in the new form; the length is the new galley's.
+///
+/// ```
+/// use spatecanter::galley_to_new_into;
+///
+/// let mut new = [0; 18];
+/// let old = [1, 0, 6, 0, 0, 0, 9, 2, 1, 2, 0, 4, 0, 0, 0, 1];
+/// assert_eq!(galley_to_new_into(&old, &mut new), Ok(18));
+/// ```
 pub fn galley_to_new_into(old_galley: &[u8], new_galley: &mut [u8]) -> Outcome {
     let mut answer = [0; 3];
     // SAFETY: every pointer comes from a live slice, with its length.
@@ -243,14 +490,31 @@ pub fn galley_to_new_into(old_galley: &[u8], new_galley: &mut [u8]) -> Outcome {
 }
 
 /// A galley of the old form in the new form.
-pub fn galley_to_new(old_galley: &[u8]) -> Result<Vec<u8>, Refusal> {
+///
+/// ```
+/// use spatecanter::galley_to_new;
+///
+/// let old = [1, 0, 6, 0, 0, 0, 9, 2, 1, 2, 0, 4, 0, 0, 0, 1];
+/// let new = galley_to_new(&old)?;
+/// assert_eq!(new.characters().next().unwrap().height, 9);
+/// # Ok::<(), spatecanter::Refusal>(())
+/// ```
+pub fn galley_to_new(old_galley: &[u8]) -> Result<Galley, Refusal> {
     // A character's 9 bytes become 11.
     let length = old_galley.len().min(OLD_GALLEY_LIMIT);
     let enough = length + 2 * (length / 9);
-    filled(enough, number::CONVERTED_ROOM, |new_galley| galley_to_new_into(old_galley, new_galley))
+    filled(enough, |new_galley| galley_to_new_into(old_galley, new_galley)).map(Galley::written)
 }
 
 /// Writes a galley in the old form, for heights of at most 65,535; the length is the old galley's.
+///
+/// ```
+/// use spatecanter::{galley_to_old_into, read_tape, Machine};
+///
+/// let galley = read_tape(&[0x40, 0xEF, 0x52, 0x01, 0x49], Machine::Eight)?;
+/// assert_eq!(galley_to_old_into(&galley, &mut [0; 16]), Ok(16));
+/// # Ok::<(), spatecanter::Refusal>(())
+/// ```
 pub fn galley_to_old_into(new_galley: &[u8], old_galley: &mut [u8]) -> Outcome {
     let mut answer = [0; 3];
     // SAFETY: every pointer comes from a live slice, with its length.
@@ -267,32 +531,34 @@ pub fn galley_to_old_into(new_galley: &[u8], old_galley: &mut [u8]) -> Outcome {
 }
 
 /// A galley whose heights are at most 65,535 in the old form.
+///
+/// ```
+/// use spatecanter::{galley_to_new, galley_to_old, read_tape, Machine};
+///
+/// let galley = read_tape(&[0x40, 0xEF, 0x52, 0x01, 0x49], Machine::Eight)?;
+/// assert_eq!(galley_to_new(&galley_to_old(&galley)?)?, galley);
+/// # Ok::<(), spatecanter::Refusal>(())
+/// ```
 pub fn galley_to_old(new_galley: &[u8]) -> Result<Vec<u8>, Refusal> {
     let enough = new_galley.len().min(GALLEY_LIMIT);
-    filled(enough, number::CONVERTED_ROOM, |old_galley| galley_to_old_into(new_galley, old_galley))
+    filled(enough, |old_galley| galley_to_old_into(new_galley, old_galley))
 }
 
 /// The length of a galley's DVI file: an empty buffer is refused with the bytes needed.
 fn room_for_dvi(galley: &[u8]) -> Outcome {
     match write_dvi_into(galley, &mut []) {
-        Err(refusal) if refusal.number == number::DVI_ROOM => Ok(refusal.place),
+        Err(Refusal::DviRoom { needed }) => Ok(needed),
         other => other,
     }
 }
 
 /// A vector of what `fill` writes: `usual` bytes are offered first, then the bytes needed.
-pub(crate) fn filled(
-    usual: usize,
-    no_room: usize,
-    mut fill: impl FnMut(&mut [u8]) -> Outcome,
-) -> Result<Vec<u8>, Refusal> {
+pub(crate) fn filled(usual: usize, mut fill: impl FnMut(&mut [u8]) -> Outcome) -> Result<Vec<u8>, Refusal> {
     let mut buffer = vec![0; usual];
     let mut outcome = fill(&mut buffer);
-    if let Err(refusal) = outcome {
-        if refusal.number == no_room {
-            buffer = vec![0; refusal.place];
-            outcome = fill(&mut buffer);
-        }
+    if let Err(Some(needed)) = outcome.map_err(Refusal::needed) {
+        buffer = vec![0; needed];
+        outcome = fill(&mut buffer);
     }
     buffer.truncate(outcome?);
     Ok(buffer)
@@ -302,6 +568,6 @@ pub(crate) fn filled(
 pub(crate) fn outcome(answer: [usize; 3]) -> Outcome {
     match answer {
         [0, _, length] => Ok(length),
-        [number, place, _] => Err(Refusal { number, place }),
+        [number, place, _] => Err(Refusal::from_parts(number, place)),
     }
 }

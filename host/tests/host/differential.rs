@@ -158,7 +158,7 @@ fn any_words_are_answered() {
     let mut random = Random::new(SEED + 7);
     let mut refusals = 0;
     for _ in 0..100_000 {
-        let mut words = Words([GUARD; spatecanter::ffi::TAPE_WORDS + 2]);
+        let mut words = Words([GUARD; crate::ffi::TAPE_WORDS + 2]);
         let last = words.0.len() - 1;
         for word in &mut words.0[1..last] {
             *word = match random.below(3) {

@@ -1,6 +1,7 @@
 //! DVI files of the second edition, as DVItype of TeX Live lists them.
 
-use spatecanter::galley::{font_name, pages, Character};
+use spatecanter::galley::{font_name, Character};
+use spatecanter::Galley;
 use std::fs;
 use std::io::Write;
 use std::path::{Path, PathBuf};
@@ -29,7 +30,7 @@ fn dvitype_lists_what_the_galleys_have() {
 }
 
 /// A character of each font, with cuts between some, at the ends of x and height.
-fn every_font() -> Vec<u8> {
+fn every_font() -> Galley {
     let mut galley = Vec::new();
     for font in 0..120_u8 {
         let [farthest, nearest] = if font % 15 < 9 { [3_239_i16, 0] } else { [3_184, -55] };
@@ -41,15 +42,15 @@ fn every_font() -> Vec<u8> {
         }
     }
     galley.extend([2, 0, 4, 0, 0, 0, 120]);
-    galley
+    Galley::from_bytes(galley).unwrap()
 }
 
 /// How many characters were compared.
-fn compare(folder: &Path, name: &str, galley: &[u8]) -> usize {
+fn compare(folder: &Path, name: &str, galley: &Galley) -> usize {
     let path = folder.join(format!("{name}.dvi"));
     fs::write(&path, spatecanter::write_dvi2(galley).unwrap()).unwrap();
     let listing = listing_of(folder, &path);
-    let pages = pages(galley);
+    let pages = galley.pages();
     let expected: Vec<Listed> = pages
         .iter()
         .zip(1..)

@@ -501,6 +501,7 @@ static void nulls(void)
 
 int main(void)
 {
+    expect_true("the version", sp_version() == SP_VERSION);
     make_files();
     tapes();
     running_tapes();

@@ -1,6 +1,7 @@
 //! The C header, by programs in C that are compiled over it and linked with the library.
 
-use spatecanter::{number, Report};
+use crate::ffi;
+use spatecanter::Refusal;
 use std::collections::BTreeMap;
 use std::fs;
 use std::path::{Path, PathBuf};
@@ -81,9 +82,10 @@ fn the_header_has_the_library_s_functions() {
 #[test]
 fn the_header_has_the_package_s_numbers() {
     let mut numbers: BTreeMap<String, usize> =
-        number::ALL.iter().map(|(name, number, _)| (format!("SP_{name}"), *number)).collect();
+        Refusal::TABLE.iter().map(|(name, number, _)| (format!("SP_{name}"), *number)).collect();
     numbers.insert("SP_ACCEPTED".into(), 0);
     let limits = [
+        ("SP_VERSION", unsafe { ffi::sp_version() } as usize),
         ("SP_TAPE_LIMIT", spatecanter::TAPE_LIMIT),
         ("SP_GALLEY_LIMIT", spatecanter::GALLEY_LIMIT),
         ("SP_OLD_GALLEY_LIMIT", spatecanter::OLD_GALLEY_LIMIT),
@@ -94,20 +96,20 @@ fn the_header_has_the_package_s_numbers() {
         ("SP_DVI_HEIGHT_LIMIT", spatecanter::DVI_HEIGHT_LIMIT as usize),
         ("SP_XGP_LIMIT", spatecanter::XGP_LIMIT),
         ("SP_XGP_WIDTHS", spatecanter::XGP_WIDTHS),
-        ("SP_ITEM_CHARACTER", spatecanter::ffi::ITEM_CHARACTER as usize),
-        ("SP_ITEM_CUT", spatecanter::ffi::ITEM_CUT as usize),
-        ("SP_TAPE_WORDS", spatecanter::ffi::TAPE_WORDS),
+        ("SP_ITEM_CHARACTER", ffi::ITEM_CHARACTER as usize),
+        ("SP_ITEM_CUT", ffi::ITEM_CUT as usize),
+        ("SP_TAPE_WORDS", ffi::TAPE_WORDS),
     ];
     let report = [
         ("SP_REPORT_LIMIT", spatecanter::REPORT_LIMIT as usize),
         ("SP_REPORT_WORDS", spatecanter::REPORT_WORDS),
-        ("SP_REPORT_TAPES", Report::TAPES),
-        ("SP_REPORT_ACCEPTED", Report::ACCEPTED),
-        ("SP_REPORT_REFUSED", Report::REFUSED),
-        ("SP_REPORT_NO_MACHINE", Report::NO_MACHINE),
-        ("SP_REPORT_FONTS", Report::FONTS),
-        ("SP_REPORT_FORWARD", Report::FORWARD),
-        ("SP_REPORT_BACKWARD", Report::BACKWARD),
+        ("SP_REPORT_TAPES", 0),
+        ("SP_REPORT_ACCEPTED", 1),
+        ("SP_REPORT_REFUSED", 1),
+        ("SP_REPORT_NO_MACHINE", 12),
+        ("SP_REPORT_FONTS", 13),
+        ("SP_REPORT_FORWARD", 133),
+        ("SP_REPORT_BACKWARD", 134),
     ];
     numbers.extend(report.map(|(name, word)| (name.to_string(), word)));
     numbers.extend(limits.map(|(name, limit)| (name.to_string(), limit)));

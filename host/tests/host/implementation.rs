@@ -1,7 +1,6 @@
 //! The operations of the plain reading, of the quick version and of the library, in one shape.
 
-use crate::{plain, quick};
-use spatecanter::ffi;
+use crate::{ffi, plain, quick};
 
 /// Number, place, length.
 pub type Answer = [usize; 3];

@@ -5,9 +5,14 @@ mod command;
 mod compare;
 mod differential;
 mod dvitype;
+/// The C interface, as the package declares it for itself.
+#[path = "../../src/ffi.rs"]
+mod ffi;
 mod header;
 mod implementation;
+mod install;
 mod largest;
+mod package;
 mod plain;
 #[path = "../../benches/quick/mod.rs"]
 mod quick;

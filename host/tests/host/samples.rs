@@ -1,8 +1,7 @@
 //! The files in samples/ are what their README says.
 
-use spatecanter::galley::characters;
 use spatecanter::sample::{chart, codes, pages, stations, stations_widths, yearbook, STATIONS_SPACING};
-use spatecanter::sheet::{fields, Field};
+use spatecanter::sheet::Field;
 use spatecanter::{Machine, Refusal};
 use std::fs;
 use std::os::unix::fs::symlink;
@@ -32,7 +31,7 @@ fn the_pages_are_made_by_the_generator() {
     let reprint = spatecanter::reprint(&galley, &[]).unwrap();
     assert_eq!((galley.len(), reprint.dvi.len(), reprint.sheet.len()), (6_921, 3_940, 10_076));
     let starts: Vec<(usize, Field)> =
-        fields(&reprint.sheet).enumerate().filter(|(_, field)| matches!(field, Field::Page(_))).collect();
+        reprint.sheet.fields().enumerate().filter(|(_, field)| matches!(field, Field::Page(_))).collect();
     assert_eq!(starts, [(0, Field::Page(1)), (335, Field::Page(2)), (336, Field::Page(3))]);
 }
 
@@ -52,10 +51,10 @@ fn the_four_font_tape_is_made_by_the_generator() {
 #[test]
 fn each_tape_on_the_other_machine() {
     let galley = spatecanter::read_tape(&sample("four.tape"), Machine::Eight).unwrap();
-    let in_font = |font| characters(&galley).filter(|it| it.font() == font).count();
+    let in_font = |font| galley.characters().filter(|it| it.font() == font).count();
     assert_eq!([2, 4, 6].map(in_font), [728, 106, 148]);
     let refused = spatecanter::read_tape(&sample("yearbook.tape"), Machine::Four);
-    assert_eq!(refused, Err(Refusal { number: 2, place: 3 }));
+    assert_eq!(refused, Err(Refusal::IllegalCode { place: 3 }));
 }
 
 /// A column longer than DVI can hold: a galley, but no DVI file.
@@ -65,9 +64,9 @@ fn the_chart_is_made_by_the_generator() {
     assert!(tape == chart(1980, 70_000));
     let galley = spatecanter::read_tape(&tape, Machine::Eight).unwrap();
     assert_eq!((galley.len(), spatecanter::check_galley(&galley)), (2_504, Ok(227)));
-    assert_eq!(characters(&galley).last().unwrap().height, 70_000);
-    let first = characters(&galley).position(|it| it.height > 65_535).unwrap();
-    let refused = Refusal { number: 43, place: 11 * first };
+    assert_eq!(galley.characters().last().unwrap().height, 70_000);
+    let first = galley.characters().position(|it| it.height > 65_535).unwrap();
+    let refused = Refusal::TooHigh { place: 11 * first };
     assert_eq!(spatecanter::write_dvi(&galley), Err(refused));
     assert_eq!(spatecanter::reprint(&galley, &[]), Err(refused));
 }
@@ -88,7 +87,7 @@ fn the_dvi_files_are_of_the_second_edition() {
 #[test]
 fn the_shelf_is_converted() {
     let shelf = sample("shelf.galley");
-    assert_eq!(spatecanter::check_galley(&shelf), Err(Refusal { number: 41, place: 0 }));
+    assert_eq!(spatecanter::check_galley(&shelf), Err(Refusal::GalleyMalformed { place: 0 }));
     let galley = spatecanter::read_tape(&sample("pages.tape"), Machine::Eight).unwrap();
     assert_eq!((shelf.len(), galley.len()), (5_665, 6_921));
     assert!(spatecanter::galley_to_new(&shelf).unwrap() == galley);
@@ -104,12 +103,12 @@ fn the_stations_are_made_by_the_generator() {
     let bytes: Vec<u8> = widths.iter().flat_map(|width| width.to_be_bytes()).collect();
     assert!(bytes == sample("stations.widths"));
     let sheet = spatecanter::read_xgp(&file, STATIONS_SPACING, &widths).unwrap();
-    assert_eq!((sheet.len(), fields(&sheet).count()), (34_005, 2_126));
-    let starts: Vec<Field> = fields(&sheet).filter(|field| matches!(field, Field::Page(_))).collect();
+    assert_eq!((sheet.len(), sheet.fields().count()), (34_005, 2_126));
+    let starts: Vec<Field> = sheet.fields().filter(|field| matches!(field, Field::Page(_))).collect();
     assert_eq!(starts, [Field::Page(1), Field::Page(2)]);
     for short in [&widths[..511], &[]] {
         let refused = spatecanter::read_xgp(&file, STATIONS_SPACING, short);
-        assert_eq!(refused, Err(Refusal { number: 31, place: 0 }));
+        assert_eq!(refused, Err(Refusal::Widths));
     }
 }
 
@@ -119,7 +118,7 @@ fn the_damaged_tape_has_lost_a_bit() {
     let places: Vec<usize> = (0..tape.len()).filter(|&place| tape[place] != damaged[place]).collect();
     assert_eq!(places, [3_002]);
     assert_eq!((tape[3_002], damaged[3_002]), (0x48, 0x08));
-    assert_eq!(spatecanter::read_tape(&damaged, Machine::Eight), Err(Refusal { number: 7, place: 3_007 }));
+    assert_eq!(spatecanter::read_tape(&damaged, Machine::Eight), Err(Refusal::OutOfRange { place: 3_007 }));
 }
 
 #[test]

@@ -1,5 +1,5 @@
 //! The scripts `library` and `spatecanter` at the root, in a small repository with stand-ins for rt and
-//! cargo.
+//! cargo. Those of `install` are beside this file.
 
 use std::env;
 use std::fs;
@@ -11,6 +11,7 @@ use std::time::Duration;
 
 /// Proves everything but the crates that the file `unproved` names, and exports sp_NAME from crate NAME.
 const RT: &str = r#"#!/usr/bin/env bash
+if [ "$1" = version ]; then echo "a stand-in for rt"; exit; fi
 echo "rt $*" >>calls
 verb=$1
 shift
@@ -33,15 +34,15 @@ chmod +x host/target/release/spatecanter
 "#;
 
 /// The tools that the scripts and the stand-ins call.
-const TOOLS: [&str; 29] = [
-    "ar", "as", "awk", "bash", "cat", "cc", "chmod", "cut", "dirname", "env", "find", "flock", "grep",
-    "head", "ld", "mkdir", "mktemp", "mv", "nm", "printf", "readlink", "rm", "sleep", "sort", "tail",
-    "touch", "uniq", "wc", "sh",
+const TOOLS: [&str; 34] = [
+    "ar", "as", "awk", "bash", "cat", "cc", "chmod", "cp", "cut", "dirname", "env", "find", "flock", "grep",
+    "head", "install", "ld", "ln", "mkdir", "mktemp", "mv", "nm", "printf", "readlink", "rm", "rmdir", "sed",
+    "sleep", "sort", "tail", "touch", "uniq", "wc", "sh",
 ];
 
 /// A repository in small, outside of this one, whose crates are all that `rt` should find here.
-struct Repository {
-    root: PathBuf,
+pub struct Repository {
+    pub root: PathBuf,
 }
 
 impl Drop for Repository {
@@ -51,12 +52,12 @@ impl Drop for Repository {
 }
 
 impl Repository {
-    fn new(name: &str) -> Repository {
+    pub fn new(name: &str) -> Repository {
         let root = env::temp_dir().join(format!("spatecanter.{}.{name}", process::id()));
         let _ = fs::remove_dir_all(&root);
         let repository = Repository { root };
         let source = Path::new(env!("CARGO_MANIFEST_DIR")).join("..");
-        for script in ["library", "spatecanter"] {
+        for script in ["library", "spatecanter", "install"] {
             repository.write_script(script, &fs::read_to_string(source.join(script)).unwrap());
         }
         repository.write(
@@ -72,8 +73,8 @@ impl Repository {
         ] {
             repository.write(&format!("crates/{name}/src/lib.rt"), text);
         }
-        for file in ["host/build.rs", "host/Cargo.toml", "host/Cargo.lock", "host/src/lib.rs"] {
-            repository.write(file, "");
+        for file in ["build.rs", "build/sha256.rs", "Cargo.toml", "Cargo.lock", "src/lib.rs"] {
+            repository.write(&format!("host/{file}"), "");
         }
         repository.write_script("bin/rt", RT);
         repository.write_script("bin/cargo", CARGO);
@@ -85,13 +86,13 @@ impl Repository {
         repository
     }
 
-    fn write(&self, name: &str, text: &str) {
+    pub fn write(&self, name: &str, text: &str) {
         let path = self.root.join(name);
         fs::create_dir_all(path.parent().unwrap()).unwrap();
         fs::write(path, text).unwrap();
     }
 
-    fn write_script(&self, name: &str, text: &str) {
+    pub fn write_script(&self, name: &str, text: &str) {
         self.write(name, text);
         fs::set_permissions(self.root.join(name), fs::Permissions::from_mode(0o755)).unwrap();
     }
@@ -135,17 +136,17 @@ impl Repository {
 }
 
 /// A tool on the PATH.
-fn found(tool: &str) -> Option<PathBuf> {
+pub fn found(tool: &str) -> Option<PathBuf> {
     std::env::split_paths(&std::env::var_os("PATH").unwrap())
         .map(|folder| folder.join(tool))
         .find(|path| path.is_file())
 }
 
-fn out(output: &Output) -> String {
+pub fn out(output: &Output) -> String {
     String::from_utf8_lossy(&output.stdout).into_owned()
 }
 
-fn err(output: &Output) -> String {
+pub fn err(output: &Output) -> String {
     String::from_utf8_lossy(&output.stderr).into_owned()
 }
 
@@ -168,7 +169,9 @@ fn the_library_is_joined_of_all_export_crates() {
     assert!(fs::read(repository.archive()).unwrap() == bytes);
     assert_eq!(repository.in_target(), ["library.log", "staticlib"]);
     let left = fs::read_dir(repository.root.join("target/staticlib")).unwrap().count();
-    assert_eq!(left, 1);
+    assert_eq!(left, 2);
+    let toolchain = fs::read_to_string(repository.archive().with_extension("toolchain"));
+    assert_eq!(toolchain.unwrap(), "a stand-in for rt\n");
 }
 
 #[test]

@@ -2,7 +2,10 @@
 
 use crate::commands::Command;
 use crate::failure::Failure;
+use crate::flags::{Flag, Value, HELP};
+use crate::loudness::Loudness;
 use std::ffi::{OsStr, OsString};
+use std::os::unix::ffi::OsStrExt;
 
 #[derive(Default)]
 pub struct Arguments {
@@ -53,11 +56,16 @@ pub struct Arguments {
     pub tapes: bool,
     /// --split
     pub split: bool,
+    /// -q
+    pub quiet: bool,
+    /// -v
+    pub verbose: bool,
 }
 
 /// Whether --help or -h is among the options.
 pub fn ask_for_help(words: &[OsString]) -> bool {
-    words.iter().take_while(|word| *word != "--").any(|word| word == "--help" || word == "-h")
+    let mut options = words.iter().take_while(|word| *word != "--");
+    options.any(|word| HELP.names().any(|name| word == name))
 }
 
 /// The inputs and the options that the command has.
@@ -70,7 +78,7 @@ pub fn parse(command: &Command, words: &[OsString]) -> Result<Arguments, Failure
         if word == "--" {
             inputs.extend(words.by_ref());
         } else if is_option(word) {
-            arguments.take_option(command, word, || words.next().cloned()).map_err(wrong)?;
+            arguments.take_word(command, word, || words.next().cloned()).map_err(wrong)?;
         } else {
             inputs.push(word);
         }
@@ -112,27 +120,62 @@ impl Arguments {
         std::iter::once(self.input.as_os_str()).chain(self.codes.as_deref()).collect()
     }
 
-    /// Takes an option, with the next word for its value unless one is joined to it.
-    fn take_option(
+    /// What -q and -v say.
+    pub fn loudness(&self) -> Result<Loudness, Failure> {
+        match (self.quiet, self.verbose) {
+            (false, false) => Ok(Loudness::Usual),
+            (true, false) => Ok(Loudness::Quiet),
+            (false, true) => Ok(Loudness::Verbose),
+            (true, true) => Err(Failure::Usage("-q and -v do not go together".into())),
+        }
+    }
+
+    /// Takes a word of options, with the next word for a value unless one is joined: a long name, with a value
+    /// after an equals sign, or short names, of which the last may have its value right after it.
+    fn take_word(
         &mut self,
         command: &Command,
         word: &OsStr,
         next: impl FnOnce() -> Option<OsString>,
     ) -> Result<(), String> {
-        let (name, joined) = split(word);
-        if !command.options.contains(&name.as_str()) {
-            return Err(format!("{name} is no option of {}", command.name));
+        let named =
+            |name: &str| command.flag(name).ok_or_else(|| format!("{name} is no option of {}", command.name));
+        if word.as_bytes().starts_with(b"--") {
+            let (name, joined) = split(word);
+            return self.take(named(&name)?, &name, joined, next);
         }
-        let is_given_twice = match self.slot(&name) {
+        let letters = word.to_string_lossy();
+        for (at, letter) in letters.char_indices().skip(1) {
+            let name = format!("-{letter}");
+            let flag = named(&name)?;
+            if !matches!(flag.value, Value::None) {
+                // All letters before it are those of options, which have one byte each.
+                let after = OsStr::from_bytes(&word.as_bytes()[at + 1..]);
+                return self.take(flag, &name, (!after.is_empty()).then(|| after.into()), next);
+            }
+            self.take(flag, &name, None, || None)?;
+        }
+        Ok(())
+    }
+
+    /// Takes an option, spelled so.
+    fn take(
+        &mut self,
+        flag: &Flag,
+        spelled: &str,
+        joined: Option<OsString>,
+        next: impl FnOnce() -> Option<OsString>,
+    ) -> Result<(), String> {
+        let is_given_twice = match self.slot(flag.name) {
             Some(slot) => {
-                let value = joined.or_else(next).ok_or_else(|| format!("{name} needs a value"))?;
+                let value = joined.or_else(next).ok_or_else(|| format!("{spelled} needs a value"))?;
                 slot.replace(value).is_some()
             }
-            None if joined.is_some() => return Err(format!("{name} takes no value")),
-            None => std::mem::replace(self.flag(&name), true),
+            None if joined.is_some() => return Err(format!("{spelled} takes no value")),
+            None => std::mem::replace(self.flag(flag.name), true),
         };
         if is_given_twice {
-            return Err(format!("{name} is given twice"));
+            return Err(format!("{spelled} is given twice"));
         }
         Ok(())
     }
@@ -144,11 +187,13 @@ impl Arguments {
             "--check" => &mut self.check,
             "--tapes" => &mut self.tapes,
             "--split" => &mut self.split,
+            "-q" => &mut self.quiet,
+            "-v" => &mut self.verbose,
             _ => &mut self.force,
         }
     }
 
-    /// Where an option's value goes; --force, --plain, --check, --tapes and --split have none.
+    /// Where an option's value goes, if it has one.
     fn slot(&mut self, name: &str) -> Option<&mut Option<OsString>> {
         match name {
             "-o" => Some(&mut self.output),

@@ -3,22 +3,21 @@
 use crate::arguments::{Arguments, Inputs};
 use crate::differences::{Differences, Named};
 use crate::edition::{Edition, Reprinted};
-use crate::explain::{self, Form};
-use crate::failure::{say, Failure};
+use crate::failure::Failure;
 use crate::font_marks::FontMarks;
 use crate::fonts::Fonts;
 use crate::grid::Grid;
 use crate::input::{self, shown};
 use crate::listing::Listing;
+use crate::loudness::tell;
 use crate::output::{self, named_after, Draft, Place};
 use crate::plot::{Picture, Source};
 use crate::report::Counted;
 use crate::summary::Summary;
 use crate::text::{self, counted};
-use crate::{explain2, help, index, marks, options, pieces, progress, sheets, split, tapes, xgp};
-use spatecanter::galley::characters;
+use crate::{help, index, marks, options, pieces, progress, refused, sheets, split, tapes, xgp};
 use spatecanter::{
-    Extents, Machine, Refusal, RunningTape, DVI2_LIMIT, DVI_LIMIT, GALLEY_LIMIT, OLD_GALLEY_LIMIT,
+    Extents, Form, Galley, Machine, Refusal, Sheet, DVI2_LIMIT, DVI_LIMIT, GALLEY_LIMIT, OLD_GALLEY_LIMIT,
     SHEET_LIMIT, TAPE_LIMIT,
 };
 use std::ffi::OsStr;
@@ -204,7 +203,7 @@ fn read(arguments: &Arguments) -> Result<(), Failure> {
         let tape = input::read(name, TAPE_LIMIT)?;
         let (galley, extents) = galley_of(name, &tape, named)?;
         place.write(&galley)?;
-        place.tell(&text::reach(characters(&galley).count(), extents));
+        place.tell(&text::reach(galley.characters().count(), extents));
         return Ok(());
     }
     let machine = named.unwrap_or(Machine::Eight);
@@ -215,8 +214,8 @@ fn read(arguments: &Arguments) -> Result<(), Failure> {
 }
 
 fn check(arguments: &Arguments) -> Result<(), Failure> {
-    let (_, count) = checked_galley(&arguments.input)?;
-    output::print(&format!("accepted, {}\n", counted(count, "character")))
+    let galley = checked_galley(&arguments.input)?;
+    output::print(&format!("accepted, {}\n", counted(galley.characters().count(), "character")))
 }
 
 fn list(arguments: &Arguments) -> Result<(), Failure> {
@@ -242,7 +241,7 @@ fn set_as_text(arguments: &Arguments) -> Result<(), Failure> {
     let shown_pages = options::pages(arguments, grid.pages())?;
     fill(&place, |out| grid.write(shown_pages.clone(), out))?;
     for remark in grid.remarks(shown_pages) {
-        say(&format!("spatecanter: {}: {remark}", shown(&arguments.input)));
+        tell(&format!("spatecanter: {}: {remark}", shown(&arguments.input)));
     }
     Ok(())
 }
@@ -252,7 +251,7 @@ fn set(arguments: &Arguments) -> Result<(), Failure> {
     let place = place(arguments, &[&arguments.input], "dvi")?;
     let galley = input::read(&arguments.input, GALLEY_LIMIT)?;
     let dvi = progress::during("writing the DVI file", || edition.write(&galley))
-        .map_err(|refusal| explain::galley(&arguments.input, &galley, refusal))?;
+        .map_err(|refusal| refused::galley(&arguments.input, &galley, refusal))?;
     place.write(&dvi)?;
     place.tell(&counted(dvi.len(), "byte"));
     Ok(())
@@ -268,8 +267,9 @@ fn show(arguments: &Arguments) -> Result<(), Failure> {
     if arguments.check {
         readers_agree(&arguments.input, &dvi, &widths, &sheet)?;
     }
-    let sheet = sheet
-        .map_err(|refusal| explain::dvi(&arguments.input, arguments.widths.as_deref(), &dvi, refusal))?;
+    let sheet = sheet.map_err(|refusal| {
+        refused::dvi(&arguments.input, &dvi, arguments.widths.as_deref(), &widths, refusal)
+    })?;
     place.write(&sheet)?;
     place.tell(&counted(sheet.len(), "byte"));
     Ok(())
@@ -280,7 +280,7 @@ fn readers_agree(
     name: &OsStr,
     dvi: &[u8],
     widths: &[i32],
-    sheet: &Result<Vec<u8>, Refusal>,
+    sheet: &Result<Sheet, Refusal>,
 ) -> Result<(), Failure> {
     let plain =
         progress::during("reading the DVI file the plain way", || spatecanter::read_dvi_plain(dvi, widths));
@@ -290,7 +290,7 @@ fn readers_agree(
             shown(name)
         )));
     }
-    say(&format!("{}: both readers agree", shown(name)));
+    tell(&format!("{}: both readers agree", shown(name)));
     Ok(())
 }
 
@@ -306,13 +306,11 @@ fn back(arguments: &Arguments) -> Result<(), Failure> {
         Edition::Second => spatecanter::read_dvi2(&dvi),
     })
     .map_err(|refusal| match edition {
-        Edition::First => {
-            explain::back(&arguments.input, arguments.widths.as_deref(), &dvi, &widths, refusal)
-        }
-        Edition::Second => explain2::dvi2(&arguments.input, &dvi, refusal),
+        Edition::First => refused::dvi(&arguments.input, &dvi, arguments.widths.as_deref(), &widths, refusal),
+        Edition::Second => refused::input(&arguments.input, &refusal.in_dvi2(&dvi)),
     })?;
     place.write(&galley)?;
-    place.tell(&counted(characters(&galley).count(), "character"));
+    place.tell(&counted(galley.characters().count(), "character"));
     Ok(())
 }
 
@@ -350,8 +348,8 @@ pub fn widths(name: &OsStr) -> Result<Vec<i32>, Failure> {
 
 fn list_sheet(arguments: &Arguments) -> Result<(), Failure> {
     let bytes = input::read_while(&arguments.input, SHEET_LIMIT, sheets::looks_good())?;
-    sheets::check(&arguments.input, &bytes)?;
-    print(|out| text::list_sheet(out, &bytes))
+    let sheet = sheets::checked(&arguments.input, bytes)?;
+    print(|out| text::list_sheet(out, &sheet))
 }
 
 fn reprint(arguments: &Arguments) -> Result<(), Failure> {
@@ -367,7 +365,7 @@ fn reprint(arguments: &Arguments) -> Result<(), Failure> {
     let tape = input::read(&arguments.input, TAPE_LIMIT)?;
     let (galley, extents) = galley_of(&arguments.input, &tape, machine)?;
     let Reprinted { dvi, read } = progress::during("reprinting", || edition.reprint(&galley))
-        .map_err(|refusal| explain::galley(&arguments.input, &galley, refusal))?;
+        .map_err(|refusal| refused::galley(&arguments.input, &galley, refusal))?;
     if edition == Edition::Second && read != galley {
         let what = format!(
             "{}: reading the DVI file gives another galley, a fault of the library",
@@ -376,7 +374,7 @@ fn reprint(arguments: &Arguments) -> Result<(), Failure> {
         return Err(Failure::Refused(what));
     }
     let mut drafts = Vec::new();
-    for (place, bytes) in places.iter().zip([&galley, &dvi, &read]) {
+    for (place, bytes) in places.iter().zip([galley.as_bytes(), &dvi, &read]) {
         let mut draft = Draft::start(place)?;
         draft.fill(|out| out.write_all(bytes))?;
         drafts.push(draft);
@@ -404,7 +402,7 @@ fn draw(arguments: &Arguments) -> Result<(), Failure> {
     output::finish(vec![draft])?;
     place.tell(&counted(picture.count(), "character"));
     if let Some(percent) = picture.scaled_to() {
-        say(&format!(
+        tell(&format!(
             "{}: scaled to {percent:.1} percent, since many programs show no picture of more than 32,767 \
              pixels; --page N, or --from and --to, draw a part in full size",
             place.shown()
@@ -422,8 +420,8 @@ pub fn drawn(input: &OsStr, named: Option<Machine>, arguments: &Arguments) -> Re
         false => bytes.len() <= GALLEY_LIMIT,
     })?;
     if sheets::is_sheet(&bytes) {
-        sheets::check(input, &bytes)?;
-        return sheets::source(input, &bytes, measure, named, arguments.fonts.as_deref());
+        let sheet = sheets::checked(input, bytes)?;
+        return sheets::source(input, &sheet, measure, named, arguments.fonts.as_deref());
     }
     if arguments.dots.is_some() {
         return Err(Failure::Usage(format!("--dots is for sheets, and {} is none", shown(input))));
@@ -466,7 +464,7 @@ fn report(arguments: &Arguments) -> Result<(), Failure> {
 }
 
 /// The galley of an input that is a galley or a tape, and its machine: a galley's is the one named, if any.
-fn galley_or_tape(name: &OsStr, named: Option<Machine>) -> Result<(Vec<u8>, Option<Machine>), Failure> {
+fn galley_or_tape(name: &OsStr, named: Option<Machine>) -> Result<(Galley, Option<Machine>), Failure> {
     galley_in(name, input::read(name, GALLEY_LIMIT)?, named)
 }
 
@@ -474,12 +472,9 @@ fn galley_in(
     name: &OsStr,
     bytes: Vec<u8>,
     named: Option<Machine>,
-) -> Result<(Vec<u8>, Option<Machine>), Failure> {
+) -> Result<(Galley, Option<Machine>), Failure> {
     match bytes.first() {
-        Some(1 | 2 | 6 | 7) => {
-            spatecanter::check_galley(&bytes).map_err(|refusal| explain::galley(name, &bytes, refusal))?;
-            Ok((bytes, named))
-        }
+        Some(1 | 2 | 6 | 7) => Ok((checked(name, bytes)?, named)),
         _ => Ok((galley_of(name, &bytes, named)?.0, named.or(Some(Machine::Eight)))),
     }
 }
@@ -488,7 +483,7 @@ fn punch(arguments: &Arguments) -> Result<(), Failure> {
     let place = place(arguments, &[&arguments.input], "tape")?;
     let galley = input::read(&arguments.input, GALLEY_LIMIT)?;
     let tape = progress::during("punching the tape", || spatecanter::punch_tape(&galley))
-        .map_err(|refusal| explain::galley(&arguments.input, &galley, refusal))?;
+        .map_err(|refusal| refused::galley(&arguments.input, &galley, refusal))?;
     place.write(&tape)?;
     place.tell(&counted(tape.len(), "byte"));
     Ok(())
@@ -503,10 +498,10 @@ fn convert(arguments: &Arguments) -> Result<(), Failure> {
     let place = place(arguments, &[&arguments.input], ending)?;
     let galley = input::read(&arguments.input, limit)?;
     let converted = progress::during("converting the galley", || match to {
-        Form::New => spatecanter::galley_to_new(&galley),
+        Form::New => spatecanter::galley_to_new(&galley).map(Galley::into_bytes),
         Form::Old => spatecanter::galley_to_old(&galley),
     })
-    .map_err(|refusal| explain::galley_of_form(from, &arguments.input, &galley, refusal))?;
+    .map_err(|refusal| refused::input(&arguments.input, &refusal.in_galley(&galley, from)))?;
     place.write(&converted)?;
     place.tell(&counted(converted.len(), "byte"));
     Ok(())
@@ -539,27 +534,18 @@ fn print(write: impl FnOnce(&mut dyn Write) -> io::Result<()>) -> Result<(), Fai
 
 /// The galley and the extents of a tape of this machine, or of the 8-font machine where none is named. Nothing
 /// on a tape tells its machine but a tilt.
-fn galley_of(name: &OsStr, tape: &[u8], named: Option<Machine>) -> Result<(Vec<u8>, Extents), Failure> {
+fn galley_of(name: &OsStr, tape: &[u8], named: Option<Machine>) -> Result<(Galley, Extents), Failure> {
     let machine = named.unwrap_or(Machine::Eight);
-    let (galley, extents) = progress::during("reading the tape", || read_whole(tape, machine))
-        .map_err(|refusal| explain::tape(name, tape, machine, refusal))?;
-    hint_at_four_fonts(name, named, characters(&galley).count(), explain::has_tilt(tape));
+    let read = progress::during("reading the tape", || spatecanter::read_tape_with_extents(tape, machine));
+    let (galley, extents) = read.map_err(|refusal| refused::tape(name, tape, machine, refusal))?;
+    hint_at_four_fonts(name, named, galley.characters().count(), refused::has_tilt(tape));
     Ok((galley, extents))
-}
-
-/// Reads a tape as one piece.
-fn read_whole(tape: &[u8], machine: Machine) -> Result<(Vec<u8>, Extents), Refusal> {
-    let mut running = RunningTape::new();
-    running.start(machine);
-    let mut galley = running.feed(tape)?;
-    galley.extend(running.close()?);
-    Ok((galley, running.extents()))
 }
 
 /// A tape that the 8-font machine accepts may be one of the 4-font machine, if it flashes and never tilts.
 fn hint_at_four_fonts(name: &OsStr, named: Option<Machine>, characters: usize, has_tilt: bool) {
     if named.is_none() && characters > 0 && !has_tilt {
-        say(&format!(
+        tell(&format!(
             "spatecanter: {} has no tilt code (4E, 4F). If it was made for the 4-font machine, its fonts are\n  \
              others: use --machine 4. With --machine 8 this hint is left out.",
             shown(name)
@@ -567,10 +553,13 @@ fn hint_at_four_fonts(name: &OsStr, named: Option<Machine>, characters: usize, h
     }
 }
 
-/// A galley that the check accepts, and its number of characters.
-fn checked_galley(name: &OsStr) -> Result<(Vec<u8>, usize), Failure> {
-    let galley = input::read(name, GALLEY_LIMIT)?;
-    let count = progress::during("checking the galley", || spatecanter::check_galley(&galley))
-        .map_err(|refusal| explain::galley(name, &galley, refusal))?;
-    Ok((galley, count))
+/// A galley that the check accepts.
+fn checked_galley(name: &OsStr) -> Result<Galley, Failure> {
+    let bytes = input::read(name, GALLEY_LIMIT)?;
+    checked(name, bytes)
+}
+
+fn checked(name: &OsStr, bytes: Vec<u8>) -> Result<Galley, Failure> {
+    progress::during("checking the galley", || Galley::from_bytes(bytes))
+        .map_err(|why| Failure::Refused(format!("{}: {why}", shown(name))))
 }

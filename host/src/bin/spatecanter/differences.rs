@@ -1,7 +1,8 @@
 //! Two galleys, compared page by page.
 
 use crate::text::{counted, grouped};
-use spatecanter::galley::{pages, Character};
+use spatecanter::galley::Character;
+use spatecanter::Galley;
 use std::cmp::Ordering;
 use std::io::{self, Write};
 
@@ -15,7 +16,7 @@ pub enum Order {
 /// A galley with its name for people.
 pub struct Named<'a> {
     pub name: &'a str,
-    pub galley: &'a [u8],
+    pub galley: &'a Galley,
 }
 
 /// The pages of two galleys that differ.
@@ -42,7 +43,7 @@ struct Difference {
 
 impl<'a> Differences<'a> {
     pub fn between(one: &Named<'a>, other: &Named<'a>, order: Order) -> Differences<'a> {
-        let (ones, others) = (pages(one.galley), pages(other.galley));
+        let (ones, others) = (one.galley.pages(), other.galley.pages());
         let none = vec![];
         let mut found = Vec::new();
         for index in 0..ones.len().max(others.len()) {

@@ -1,6 +1,6 @@
 //! The two editions of DVI.
 
-use spatecanter::{Refusal, Reprint};
+use spatecanter::{DviFile, Refusal, Reprint};
 
 /// That of 1980, and the second, with identification 2.
 #[derive(Clone, Copy, PartialEq)]
@@ -21,7 +21,7 @@ impl Edition {
     /// The DVI file of a galley.
     pub fn write(self, galley: &[u8]) -> Result<Vec<u8>, Refusal> {
         match self {
-            Edition::First => spatecanter::write_dvi(galley),
+            Edition::First => spatecanter::write_dvi(galley).map(DviFile::into_bytes),
             Edition::Second => spatecanter::write_dvi2(galley),
         }
     }
@@ -39,12 +39,12 @@ impl Edition {
         match self {
             Edition::First => {
                 let Reprint { dvi, sheet } = spatecanter::reprint(galley, &[])?;
-                Ok(Reprinted { dvi, read: sheet })
+                Ok(Reprinted { dvi: dvi.into_bytes(), read: sheet.into_bytes() })
             }
             Edition::Second => {
                 let dvi = spatecanter::write_dvi2(galley)?;
                 let read = spatecanter::read_dvi2(&dvi)?;
-                Ok(Reprinted { dvi, read })
+                Ok(Reprinted { dvi, read: read.into_bytes() })
             }
         }
     }

@@ -4,7 +4,8 @@ use crate::codes::{Codes, UNKNOWN};
 use crate::font_marks::FontMarks;
 use crate::text::counted;
 use crate::words::{Line, Lines};
-use spatecanter::galley::{self, Character};
+use spatecanter::galley::Character;
+use spatecanter::Galley;
 use std::cmp::Reverse;
 use std::collections::BTreeMap;
 use std::io::{self, Write};
@@ -26,10 +27,10 @@ pub struct Grid<'a> {
 }
 
 impl Grid<'_> {
-    /// The pages of a galley that the check accepts. A column is as wide as most characters are from one to the
+    /// The pages of a galley. A column is as wide as most characters are from one to the
     /// next in a word, and a line as high as most lines are.
-    pub fn new<'a>(galley: &[u8], codes: &'a Codes, marks: &'a FontMarks) -> Grid<'a> {
-        let pages: Vec<Lines> = galley::pages(galley).into_iter().map(Lines::of).collect();
+    pub fn new<'a>(galley: &Galley, codes: &'a Codes, marks: &'a FontMarks) -> Grid<'a> {
+        let pages: Vec<Lines> = galley.pages().into_iter().map(Lines::of).collect();
         let lines = || pages.iter().flat_map(Lines::iter);
         let column = most_frequent(lines().flat_map(|line| line.words().flat_map(steps)));
         let spacing = most_frequent(pages.iter().flat_map(gaps));

@@ -1,4 +1,22 @@
-//! The texts of --help.
+//! The texts of --help, of which the manual page is made too.
+
+use crate::commands::Command;
+
+/// A command's text, with its options.
+pub fn of(command: &Command) -> String {
+    let spelled: Vec<(String, &str)> =
+        command.told_flags().map(|flag| (flag.spelled(), flag.about)).collect();
+    let width = spelled.iter().map(|(names, _)| names.len()).max().unwrap_or(0);
+    let rows = spelled.iter().map(|(names, about)| format!("  {names:<width$}  {about}\n"));
+    format!("{}\nOptions:\n{}", command.help, rows.collect::<String>())
+}
+
+/// What a command does, in a few words: the end of its line in the whole text.
+pub fn about(command: &Command) -> &'static str {
+    let mut lines = WHOLE.lines().filter_map(|line| line.strip_prefix("  ")?.split_once(' '));
+    let (_, line) = lines.find(|(name, _)| *name == command.name).expect("every command has a line");
+    line.rsplit_once("  ").expect("two spaces stand before the words").1
+}
 
 pub const WHOLE: &str = "\
 C/A/T phototypesetter tapes to galleys, galleys to DVI files of 1980 and of the second
@@ -25,7 +43,8 @@ Usage: spatecanter COMMAND ...
   report PATH... [--tapes]              many tapes in numbers
 
   COMMAND --help                        more about a command
-  --version                             the version
+  --version, -V                         the version, and the library's and toolchain's identity
+  --generate man|bash|zsh|fish          the manual page, or a shell's completions
 
 Machines. A tape does not say whether its machine had 4 or 8 fonts: commands that take tapes
 take --machine 4 or --machine 8. Without it the machine has 8, and a tape without a tilt code
@@ -42,6 +61,9 @@ name with .galley, .dvi, .sheet, .svg or .tape after it; if the input is standar
 output is standard output. Folders on the way to an output are made. An output file is
 written whole or not at all, whatever ends the run; it never takes the place of an input, and
 that of another file only with --force.
+
+Standard error. A line tells of each output file; -q leaves it out, and hints, and -v tells
+each step and its time. Refusals and failures are always told.
 
 Exit status. 0: accepted, also where whoever reads standard output leaves early. 1: refused,
 or two inputs differ; standard error says why, with the refusal's number and its place.

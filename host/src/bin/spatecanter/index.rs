@@ -2,12 +2,13 @@
 
 use crate::arguments::Arguments;
 use crate::commands::{drawn, INDEX_USAGE};
-use crate::failure::{say, Failure};
+use crate::failure::Failure;
+use crate::loudness::tell;
 use crate::output::{self, Draft, Place};
 use crate::plot::{escaped, Picture, Source};
 use crate::text::{counted, grouped};
 use crate::{options, tapes};
-use spatecanter::{number, Machine, Refusal};
+use spatecanter::{Machine, Refusal};
 use std::collections::{HashMap, HashSet};
 use std::ffi::OsStr;
 use std::io::{self, Write};
@@ -68,7 +69,7 @@ pub fn write(arguments: &Arguments) -> Result<(), Failure> {
         format!("{}: {} drawn, {refused} refused", counted(entries.len(), "file"), grouped(pictures));
     drafts.push(written(&index, |out| write_page(out, &entries, &cards, &summary))?);
     output::finish(drafts)?;
-    say(&format!("{}: {summary}", index.shown()));
+    tell(&format!("{}: {summary}", index.shown()));
     Ok(())
 }
 
@@ -79,8 +80,7 @@ fn source(file: &File, arguments: &Arguments) -> Result<Source, Failure> {
         Some(4) => Some(Machine::Four),
         Some(8) => Some(Machine::Eight),
         Some(_) => {
-            let refusal = Refusal { number: number::NO_MACHINE, place: 0 };
-            return Err(Failure::Refused(format!("{}: {refusal}", file.path.display())));
+            return Err(Failure::Refused(format!("{}: {}", file.path.display(), Refusal::NoMachine)));
         }
     };
     drawn(file.path.as_os_str(), machine, arguments)

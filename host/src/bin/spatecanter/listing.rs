@@ -3,12 +3,13 @@
 use crate::codes::Codes;
 use crate::report::{quoted, Format};
 use crate::text::{counted, inches_of_quanta, inches_of_units};
-use spatecanter::galley::{items, Character, Item};
+use spatecanter::galley::{Character, Item};
+use spatecanter::Galley;
 use std::io::{self, Write};
 
-/// A galley that the check accepts, and the table of its characters, if there is one.
+/// A galley, and the table of its characters, if there is one.
 pub struct Listing<'a> {
-    pub galley: &'a [u8],
+    pub galley: &'a Galley,
     pub codes: Option<&'a Codes>,
 }
 
@@ -24,7 +25,7 @@ impl Listing<'_> {
     /// The characters, each with the number of its page.
     fn characters(&self) -> impl Iterator<Item = (usize, Character)> + '_ {
         let mut page = 1;
-        items(self.galley).filter_map(move |item| match item {
+        self.galley.items().filter_map(move |item| match item {
             Item::Character(it) => Some((page, it)),
             Item::Cut => {
                 page += 1;
@@ -35,7 +36,7 @@ impl Listing<'_> {
 
     /// How many pages and characters there are.
     fn counts(&self) -> (usize, usize) {
-        items(self.galley).fold((1, 0), |(pages, characters), item| match item {
+        self.galley.items().fold((1, 0), |(pages, characters), item| match item {
             Item::Character(_) => (pages, characters + 1),
             Item::Cut => (pages + 1, characters),
         })

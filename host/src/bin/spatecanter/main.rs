@@ -3,11 +3,11 @@
 mod arguments;
 mod codes;
 mod commands;
+mod completions;
 mod differences;
 mod edition;
-mod explain;
-mod explain2;
 mod failure;
+mod flags;
 mod font_marks;
 mod fonts;
 mod grid;
@@ -15,23 +15,25 @@ mod help;
 mod index;
 mod input;
 mod listing;
+mod loudness;
+mod manual;
 mod marks;
 mod options;
 mod output;
 mod pieces;
 mod plot;
 mod progress;
+mod refused;
 mod report;
 mod sheets;
 mod signals;
 mod split;
 mod summary;
 mod tapes;
-mod targets;
 mod text;
+mod version;
 mod words;
 mod xgp;
-mod xgp_refusals;
 
 use commands::{Command, COMMANDS};
 use failure::Failure;
@@ -54,22 +56,36 @@ fn run(words: &[OsString]) -> Result<(), Failure> {
     match first.to_str() {
         Some("--help" | "-h") => output::print(help::WHOLE),
         Some("help") => help_on(rest),
-        Some("--version") => output::print(concat!("spatecanter ", env!("CARGO_PKG_VERSION"), "\n")),
+        Some("--version" | "-V") => output::print(&version::text()),
+        Some("--generate") => output::print(&generated(rest)?),
         _ => call(named(first)?, rest),
     }
 }
 
 fn call(command: &Command, words: &[OsString]) -> Result<(), Failure> {
     if arguments::ask_for_help(words) {
-        return output::print(command.help);
+        return output::print(&help::of(command));
     }
-    (command.run)(&arguments::parse(command, words)?)
+    let arguments = arguments::parse(command, words)?;
+    loudness::set(arguments.loudness()?);
+    (command.run)(&arguments)
 }
 
 fn help_on(words: &[OsString]) -> Result<(), Failure> {
     match words.first() {
         None => output::print(help::WHOLE),
-        Some(name) => output::print(named(name)?.help),
+        Some(name) => output::print(&help::of(named(name)?)),
+    }
+}
+
+/// A text for the tools that help with a command: the manual page, or the completions of a shell.
+fn generated(words: &[OsString]) -> Result<String, Failure> {
+    match words.first().and_then(|word| word.to_str()) {
+        Some("man") => Ok(manual::page()),
+        Some("bash") => Ok(completions::bash()),
+        Some("zsh") => Ok(completions::zsh()),
+        Some("fish") => Ok(completions::fish()),
+        _ => Err(Failure::Usage("--generate makes man, bash, zsh or fish".into())),
     }
 }
 

@@ -1,7 +1,8 @@
 //! What pages show, wherever they come from: marks and rules, in units of 1/432 inch to the right and down.
 
-use spatecanter::galley::{self, Character};
-use spatecanter::sheet::{self, Field};
+use spatecanter::galley::Character;
+use spatecanter::sheet::Field;
+use spatecanter::{Galley, Sheet};
 
 /// Units in a quantum of height.
 pub const QUANTUM: i64 = 3;
@@ -88,17 +89,17 @@ impl Measure {
     }
 }
 
-/// The pages of a galley that the check accepts.
-pub fn of_galley(galley: &[u8]) -> Vec<Page> {
-    let pages = galley::pages(galley);
+/// The pages of a galley.
+pub fn of_galley(galley: &Galley) -> Vec<Page> {
+    let pages = galley.pages();
     let marks = |page: Vec<Character>| page.into_iter().map(Mark::of).collect();
     (1..).zip(pages).map(|(number, page)| Page { number, marks: marks(page), rules: vec![] }).collect()
 }
 
-/// The pages of a sheet that the check accepts and that begins with a page.
-pub fn of_sheet(sheet: &[u8], measure: Measure) -> Vec<Page> {
+/// The pages of a sheet that begins with a page.
+pub fn of_sheet(sheet: &Sheet, measure: Measure) -> Vec<Page> {
     let mut pages: Vec<Page> = Vec::new();
-    for field in sheet::fields(sheet) {
+    for field in sheet.fields() {
         match (field, pages.last_mut()) {
             (Field::Page(number), _) => {
                 pages.push(Page { number: number.into(), marks: vec![], rules: vec![] });

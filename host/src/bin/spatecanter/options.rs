@@ -5,12 +5,11 @@ use crate::codes::Codes;
 use crate::commands::{CONVERT_USAGE, REPRINT_USAGE};
 use crate::differences::Order;
 use crate::edition::Edition;
-use crate::explain::Form;
 use crate::failure::Failure;
 use crate::marks::Measure;
 use crate::report::Format;
 use crate::text::grouped;
-use spatecanter::{Machine, HEIGHT_LIMIT, TAPE_LIMIT};
+use spatecanter::{Form, Machine, NoMachine, HEIGHT_LIMIT, TAPE_LIMIT};
 use std::ffi::OsStr;
 use std::ops::{Range, RangeInclusive};
 
@@ -22,14 +21,9 @@ pub fn machine(arguments: &Arguments) -> Result<Option<Machine>, Failure> {
     let Some(word) = &arguments.machine else {
         return Ok(None);
     };
-    match word.to_str() {
-        Some("4") => Ok(Some(Machine::Four)),
-        Some("8") => Ok(Some(Machine::Eight)),
-        _ => Err(Failure::Usage(format!(
-            "--machine {} is no machine: it is 4 or 8, the number of fonts",
-            word.to_string_lossy()
-        ))),
-    }
+    let word = word.to_string_lossy();
+    let wrong = |error: NoMachine| Failure::Usage(format!("--machine {word} is {error}"));
+    word.parse().map(Some).map_err(wrong)
 }
 
 /// How many bytes --pieces allows in a piece.

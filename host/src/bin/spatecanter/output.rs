@@ -2,8 +2,8 @@
 //! it is whole; the files of one run are put in their places together, all or none. Whatever ends the run
 //! early, nothing unfinished is left behind.
 
-use crate::failure::{say, Failure};
-use crate::progress;
+use crate::failure::Failure;
+use crate::{loudness, progress};
 use std::collections::BTreeSet;
 use std::ffi::OsStr;
 use std::fs::{self, File, OpenOptions};
@@ -70,7 +70,7 @@ impl Place {
     /// Says on standard error what was written, if it went to a file.
     pub fn tell(&self, what: &str) {
         if let Place::File { path, .. } = self {
-            say(&format!("{}: {what}", path.display()));
+            loudness::tell(&format!("{}: {what}", path.display()));
         }
     }
 

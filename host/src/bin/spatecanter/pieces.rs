@@ -1,11 +1,10 @@
 //! A tape read in pieces, as they come: what is kept is the running tape and one piece.
 
-use crate::explain::{self, Stretch};
 use crate::failure::Failure;
 use crate::input;
 use crate::output::{self, Draft, Place};
-use crate::progress;
 use crate::text::counted;
+use crate::{progress, refused};
 use spatecanter::galley::{items, Item};
 use spatecanter::{Extents, Machine, Refusal, RunningTape};
 use std::ffi::OsStr;
@@ -70,7 +69,7 @@ impl Reading<'_> {
             .map_err(|refusal| self.refused(&before, piece, refusal))?;
         self.fields.truncate(length);
         self.bytes += piece.len();
-        self.has_tilt |= explain::has_tilt(piece);
+        self.has_tilt |= refused::has_tilt(piece);
         for item in items(&self.fields) {
             match item {
                 Item::Character(_) => self.characters += 1,
@@ -86,8 +85,7 @@ impl Reading<'_> {
     }
 
     fn refused(&self, before: &RunningTape, piece: &[u8], refusal: Refusal) -> Failure {
-        let stretch = Stretch { before, start: self.bytes, codes: piece };
-        explain::stretch(self.name, stretch, self.machine, refusal)
+        refused::input(self.name, &refusal.in_piece(before, self.bytes, piece, self.machine))
     }
 
     fn in_words(&self) -> String {

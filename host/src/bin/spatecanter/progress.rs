@@ -1,5 +1,6 @@
-//! Progress of slow work, on standard error if that is a terminal.
+//! Progress of slow work, on standard error if that is a terminal, and with -v the time of each step.
 
+use crate::loudness::{self, Loudness};
 use std::io::{stderr, IsTerminal, Write};
 use std::sync::mpsc::{channel, Receiver, RecvTimeoutError};
 use std::sync::{Mutex, PoisonError};
@@ -27,15 +28,21 @@ pub fn during<T>(what: &str, work: impl FnOnce() -> T) -> T {
 
 /// The same for work that tells how far it is.
 pub fn while_reaching<T>(what: &str, work: impl FnOnce(&Reached) -> T) -> T {
-    let reached = Reached::default();
-    if !stderr().is_terminal() {
-        return work(&reached);
-    }
+    let (reached, start) = (Reached::default(), Instant::now());
+    let result = if loudness::is(Loudness::Quiet) || !stderr().is_terminal() {
+        work(&reached)
+    } else {
+        while_told(what, &reached, work)
+    };
+    loudness::tell_step(&format!("{what}: {:.3} s{}", start.elapsed().as_secs_f64(), reached.words()));
+    result
+}
+
+fn while_told<T>(what: &str, reached: &Reached, work: impl FnOnce(&Reached) -> T) -> T {
     thread::scope(|scope| {
         let (working, watched) = channel();
-        let told = &reached;
-        scope.spawn(move || tell(what, told, &watched));
-        let result = work(&reached);
+        scope.spawn(move || tell(what, reached, &watched));
+        let result = work(reached);
         drop(working);
         result
     })

@@ -6,7 +6,7 @@ use crate::progress::{self, Reached};
 use crate::tapes::Tape;
 use crate::text::{counted, grouped};
 use spatecanter::galley::Character;
-use spatecanter::{number, Refusal, Report, REPORT_LIMIT, TAPE_LIMIT};
+use spatecanter::{Refusal, Report, REPORT_LIMIT, TAPE_LIMIT};
 use std::io::{self, Write};
 use std::sync::atomic::{AtomicUsize, Ordering::Relaxed};
 use std::sync::{Mutex, PoisonError};
@@ -41,7 +41,7 @@ impl Counted<'_> {
     /// Counts the tapes on all processors; the parts are joined in the tapes' order.
     pub fn of(tapes: &[Tape], with_findings: bool) -> Result<Counted<'_>, Failure> {
         if tapes.len() as u64 > REPORT_LIMIT {
-            let full = Refusal { number: number::REPORT_FULL, place: 0 };
+            let full = Refusal::ReportFull;
             return Err(Failure::Refused(format!("{}: {full}", counted(tapes.len(), "tape"))));
         }
         let mut report = Report::new();
@@ -140,8 +140,8 @@ impl Done {
 /// each character, 3 for each cut and 7.
 fn finding(tape: &[u8], machine: u32, characters: u64) -> Finding {
     match spatecanter::read_tape_into(tape, machine, &mut []) {
-        Err(Refusal { number: number::GALLEY_ROOM, place }) => {
-            let cuts = (place as u64 - 7 - 11 * characters) / 3;
+        Err(Refusal::GalleyRoom { needed }) => {
+            let cuts = (needed as u64 - 7 - 11 * characters) / 3;
             Ok(Held { characters, pages: cuts + 1 })
         }
         Err(refusal) => Err(refusal),
@@ -181,7 +181,7 @@ impl Counted<'_> {
         row("refused", report.tapes() - report.accepted(), "")?;
         for number in Report::NUMBERS {
             if report.refused(number) > 0 {
-                let meaning = Refusal { number, place: 0 }.meaning();
+                let meaning = Refusal::from_parts(number, 0).meaning();
                 row(&format!("  under {number}"), report.refused(number), &format!("  {meaning}"))?;
             }
         }
@@ -273,7 +273,7 @@ fn in_words(finding: &Finding) -> String {
 fn in_numbers(finding: &Finding) -> [u64; 4] {
     match finding {
         Ok(held) => [0, 0, held.characters, held.pages],
-        Err(refusal) => [refusal.number as u64, refusal.place as u64, 0, 0],
+        Err(refusal) => [refusal.number() as u64, refusal.place() as u64, 0, 0],
     }
 }
 

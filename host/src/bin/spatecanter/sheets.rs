@@ -1,13 +1,14 @@
 //! Sheets as inputs.
 
-use crate::failure::{say, Failure};
+use crate::failure::Failure;
 use crate::fonts::Fonts;
 use crate::input::shown;
+use crate::loudness::tell;
 use crate::marks::{self, Measure};
 use crate::plot::Source;
 use crate::text::counted;
 use spatecanter::sheet::{self, Field};
-use spatecanter::{Machine, SHEET_LIMIT};
+use spatecanter::{Machine, Sheet, SHEET_LIMIT};
 use std::ffi::OsStr;
 
 /// Whether bytes begin with the field of a page, as the sheet of every file that shows a page does. No galley
@@ -26,18 +27,18 @@ pub fn looks_good() -> impl FnMut(&[u8]) -> bool {
 }
 
 /// Whole sheets only.
-pub fn check(name: &OsStr, bytes: &[u8]) -> Result<(), Failure> {
+pub fn checked(name: &OsStr, bytes: Vec<u8>) -> Result<Sheet, Failure> {
     let refused = |why: String| Failure::Refused(format!("{}: {why}", shown(name)));
     if bytes.len() > SHEET_LIMIT {
         return Err(refused(format!("no sheet: longer than {}", counted(SHEET_LIMIT, "byte"))));
     }
-    sheet::check(bytes).map(|_| ()).map_err(|fault| refused(fault.to_string()))
+    Sheet::from_bytes(bytes).map_err(|fault| refused(fault.to_string()))
 }
 
-/// What plot draws of a sheet that the check accepts.
+/// What plot draws of a sheet.
 pub fn source(
     name: &OsStr,
-    sheet: &[u8],
+    sheet: &Sheet,
     measure: Measure,
     machine: Option<Machine>,
     fonts: Option<&OsStr>,
@@ -53,7 +54,7 @@ pub fn source(
         (Measure::Rsu, None) => ("Sheet in rsu".into(), Fonts::choose(fonts, None)?),
     };
     if matches!(measure, Measure::Rsu) && is_small(sheet) {
-        say(&format!(
+        tell(&format!(
             "spatecanter: no character of {} stands 1/432 inch from the page's corner. If the sheet is of an\n  \
              XGP file, its places are dots: use --dots N, the dots to an inch.",
             shown(name)
@@ -63,8 +64,8 @@ pub fn source(
 }
 
 /// Whether the characters of a sheet in rsu stand nearer to 0 than one unit, but not all at 0.
-fn is_small(sheet: &[u8]) -> bool {
-    let numbers = sheet::fields(sheet).flat_map(|field| match field {
+fn is_small(sheet: &Sheet) -> bool {
+    let numbers = sheet.fields().flat_map(|field| match field {
         Field::Character { x, y, .. } => [x, y],
         _ => [0, 0],
     });

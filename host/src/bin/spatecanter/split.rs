@@ -2,7 +2,8 @@
 
 use crate::arguments::Arguments;
 use crate::codes::Codes;
-use crate::failure::{say, Failure};
+use crate::failure::Failure;
+use crate::loudness::tell;
 use crate::output::{self, named_after, Draft, Place};
 use crate::plot::{Picture, Source};
 use crate::text::counted;
@@ -54,7 +55,7 @@ pub fn draw(
         [one] => one.shown(),
         all => format!("{} to {}", shown(all.first()), shown(all.last())),
     };
-    say(&format!("{files}: {}, {}", counted(places.len(), "file"), counted(characters, "character")));
+    tell(&format!("{files}: {}, {}", counted(places.len(), "file"), counted(characters, "character")));
     Ok(())
 }
 

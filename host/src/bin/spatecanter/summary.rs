@@ -2,8 +2,8 @@
 
 use crate::fonts::Fonts;
 use crate::text::{farthest_x, greatest_height, grouped};
-use spatecanter::galley::{characters, font_name, items, Character, Item};
-use spatecanter::Extents;
+use spatecanter::galley::{font_name, Character, Item};
+use spatecanter::{Extents, Galley};
 use std::collections::BTreeMap;
 use std::fmt;
 
@@ -16,10 +16,10 @@ pub struct Summary<'a> {
 }
 
 impl Summary<'_> {
-    pub fn of<'a>(galley: &[u8], extents: Extents, fonts: &'a Fonts) -> Summary<'a> {
-        let pages = 1 + items(galley).filter(|item| *item == Item::Cut).count();
+    pub fn of<'a>(galley: &Galley, extents: Extents, fonts: &'a Fonts) -> Summary<'a> {
+        let pages = 1 + galley.items().filter(|item| *item == Item::Cut).count();
         let mut by_font = BTreeMap::new();
-        for character in characters(galley) {
+        for character in galley.characters() {
             *by_font.entry(character.font_number).or_default() += 1;
         }
         Summary { fonts, pages, extents, by_font }

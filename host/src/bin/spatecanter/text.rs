@@ -1,28 +1,10 @@
 //! Galleys, sheets and extents as text.
 
-use spatecanter::galley::{font_name, items, Item};
-use spatecanter::sheet::{fields, Field};
-use spatecanter::Extents;
+use spatecanter::galley::{font_name, Item};
+use spatecanter::sheet::Field;
+pub use spatecanter::text::{counted, grouped};
+use spatecanter::{Extents, Galley, Sheet};
 use std::io::{self, Write};
-
-/// A number with its thousands apart.
-pub fn grouped(number: usize) -> String {
-    let digits = number.to_string();
-    let mut text = String::new();
-    for (index, digit) in digits.chars().enumerate() {
-        if index > 0 && (digits.len() - index).is_multiple_of(3) {
-            text.push(',');
-        }
-        text.push(digit);
-    }
-    text
-}
-
-/// So many of a thing.
-pub fn counted(number: usize, thing: &str) -> String {
-    let plural = if number == 1 { "" } else { "s" };
-    format!("{} {thing}{plural}", grouped(number))
-}
 
 /// Units of 1/432 inch as inches.
 pub fn inches_of_units(units: i32) -> f64 {
@@ -61,11 +43,11 @@ pub fn reach(characters: usize, extents: Extents) -> String {
     )
 }
 
-/// Lists a galley that the check accepts.
-pub fn list_galley(out: &mut dyn Write, galley: &[u8]) -> io::Result<()> {
+/// Lists a galley.
+pub fn list_galley(out: &mut dyn Write, galley: &Galley) -> io::Result<()> {
     writeln!(out, "x y font size char")?;
     let mut count = 0;
-    for item in items(galley) {
+    for item in galley.items() {
         match item {
             Item::Character(it) => {
                 writeln!(out, "{} {} {} {} {}", it.x, it.height, it.font(), it.points(), it.code)?;
@@ -77,10 +59,10 @@ pub fn list_galley(out: &mut dyn Write, galley: &[u8]) -> io::Result<()> {
     writeln!(out, "{count} glyphs")
 }
 
-/// Lists a sheet that the check accepts.
-pub fn list_sheet(out: &mut dyn Write, sheet: &[u8]) -> io::Result<()> {
+/// Lists a sheet.
+pub fn list_sheet(out: &mut dyn Write, sheet: &Sheet) -> io::Result<()> {
     let mut count = 0;
-    for field in fields(sheet) {
+    for field in sheet.fields() {
         list_field(out, field)?;
         count += 1;
     }

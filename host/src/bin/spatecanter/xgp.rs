@@ -5,9 +5,9 @@ use crate::commands::{widths, XGP_USAGE};
 use crate::failure::Failure;
 use crate::output::Place;
 use crate::text::{counted, grouped};
-use crate::{input, progress, xgp_refusals};
-use spatecanter::sheet::{fields, Field};
-use spatecanter::XGP_LIMIT;
+use crate::{input, progress, refused};
+use spatecanter::sheet::Field;
+use spatecanter::{Refusal, Sheet, XGP_LIMIT};
 use std::collections::BTreeSet;
 use std::ffi::OsStr;
 
@@ -24,7 +24,10 @@ pub fn run(arguments: &Arguments) -> Result<(), Failure> {
     let file = input::read(&arguments.input, XGP_LIMIT)?;
     let widths = widths(widths_name)?;
     let sheet = progress::during("reading the XGP file", || spatecanter::read_xgp(&file, spacing, &widths))
-        .map_err(|refusal| xgp_refusals::refused(inputs, &file, spacing, &widths, refusal))?;
+        .map_err(|refusal| {
+        let is_of_widths = matches!(refusal, Refusal::Widths | Refusal::NegativeWidth);
+        refused::input(inputs[usize::from(is_of_widths)], &refusal.in_xgp(&file, spacing, &widths))
+    })?;
     place.write(&sheet)?;
     place.tell(&reach(&sheet));
     Ok(())
@@ -48,10 +51,10 @@ fn missing(what: &str) -> Failure {
 }
 
 /// How many characters a sheet has, on which pages, how far they reach, and in which fonts.
-fn reach(sheet: &[u8]) -> String {
+fn reach(sheet: &Sheet) -> String {
     let (mut characters, mut pages, mut last) = (0, 0, 0);
     let (mut right, mut down, mut numbers) = (i32::MIN, i32::MIN, BTreeSet::new());
-    for field in fields(sheet) {
+    for field in sheet.fields() {
         match field {
             Field::Page(number) => (pages, last) = (pages + 1, number),
             Field::Character { x, y, font, .. } => {

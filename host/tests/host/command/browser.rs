@@ -1,7 +1,6 @@
 //! Pictures and indexes, looked at in a real browser, where one is installed.
 
 use super::*;
-use spatecanter::galley::characters;
 use spatecanter::sample::{codes, pages, yearbook};
 use spatecanter::Machine;
 use std::io::stderr;
@@ -64,7 +63,7 @@ fn a_browser_shows_the_index_and_the_picture() {
     assert_eq!(value("words"), value("words under the pointer"));
     // A mark is some pixels: of each colour as many as there are characters of its fonts, and more.
     let galley = spatecanter::read_tape(&tape, Machine::Eight).unwrap();
-    let of_fonts = |fonts: &[i32]| characters(&galley).filter(|it| fonts.contains(&it.font())).count();
+    let of_fonts = |fonts: &[i32]| galley.characters().filter(|it| fonts.contains(&it.font())).count();
     for (colour, fonts) in [("blue", &[1][..]), ("orange", &[2]), ("grey", &[3])] {
         assert!(value(colour).parse::<usize>().unwrap() > 2 * of_fonts(fonts), "{colour}: {found}");
     }

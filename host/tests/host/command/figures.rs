@@ -1,7 +1,6 @@
 //! Tapes and galleys as text and as lists, with a code table.
 
 use super::*;
-use spatecanter::galley::characters;
 use spatecanter::sample::{codes, pages, yearbook, yearbook_figures, Figure};
 use spatecanter::Machine;
 
@@ -210,7 +209,7 @@ fn a_list_has_every_character_of_the_longest_galley() {
     fs::write(folder.join("a.galley"), &galley).unwrap();
     let csv = run(&folder, &["list", "a.galley", "--format", "csv", "--codes", "a.codes"]).text();
     let mut lines = csv.lines().skip(1);
-    for it in characters(&galley) {
+    for it in galley.characters() {
         let line = lines.next().unwrap();
         assert!(line.starts_with(&format!("1,{},{},", it.x, it.height)), "{line}");
         assert!(line.contains(&format!(",{},{},{},", it.font(), it.points(), it.code)), "{line}");
@@ -219,5 +218,5 @@ fn a_list_has_every_character_of_the_longest_galley() {
     // The tape goes back to the top, so that tables stand on others; no figure is lost for it.
     let (shown, _) = text(&folder, &["a.galley"]);
     let count = shown.chars().filter(|character| character.is_ascii_alphanumeric()).count();
-    assert_eq!(count, characters(&galley).count());
+    assert_eq!(count, galley.characters().count());
 }

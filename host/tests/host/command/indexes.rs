@@ -1,7 +1,6 @@
 //! Titles under the pointer, colours, a file for each page, and indexes of many.
 
 use super::*;
-use spatecanter::galley::characters;
 use spatecanter::sample::{codes, pages, yearbook};
 use spatecanter::Machine;
 
@@ -53,7 +52,7 @@ fn every_character_has_a_title() {
         .flat_map(|title| title.split("&#10;code").nth(1).unwrap().split("&#10;").next().unwrap().split(' '))
         .filter_map(|word| word.parse().ok())
         .collect();
-    let mut set: Vec<i32> = characters(&galley).map(|it| it.code).collect();
+    let mut set: Vec<i32> = galley.characters().map(|it| it.code).collect();
     told.sort();
     set.sort();
     assert_eq!(told, set);

@@ -2,6 +2,7 @@
 
 mod browser;
 mod comparisons;
+mod conventions;
 mod editions;
 mod figures;
 mod indexes;

@@ -1,7 +1,6 @@
 //! Pictures and summaries.
 
 use super::*;
-use spatecanter::galley::characters;
 use spatecanter::sample::{chart, pages, yearbook};
 use spatecanter::Machine;
 
@@ -249,7 +248,7 @@ fn a_part_of_a_column() {
     let folder = folder("part");
     fs::write(folder.join("a.tape"), chart(2, 200_000)).unwrap();
     let galley = spatecanter::read_tape(&chart(2, 200_000), Machine::Eight).unwrap();
-    let within = |from, to| characters(&galley).filter(|it| (from..=to).contains(&it.height)).count();
+    let within = |from, to| galley.characters().filter(|it| (from..=to).contains(&it.height)).count();
     let rows: [(&[&str], i32, i32); 4] = [
         (&["--from", "1440", "--to", "14400"], 1_440, 14_400),
         (&["--from", "10in", "--to=100.0in"], 1_440, 14_400),

@@ -175,7 +175,7 @@ fn reprint_writes_three_files_and_a_summary() {
         let line = text.lines().find(|line| line.starts_with(what)).unwrap();
         line.rsplit(' ').next().unwrap().replace(',', "").parse().unwrap()
     };
-    let font = |font| spatecanter::galley::characters(&galley).filter(|it| it.font() == font).count();
+    let font = |font| galley.characters().filter(|it| it.font() == font).count();
     assert_eq!(count(&run.text(), "characters"), galley.len() / 11);
     assert_eq!(count(&run.text(), "pages"), 1);
     assert_eq!(count(&run.text(), "in font 1"), font(1));

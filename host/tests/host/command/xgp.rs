@@ -113,7 +113,7 @@ fn refusals_of_widths_name_their_file() {
     assert!(short.err.starts_with("spatecanter: a.widths: refused 31 at 0: the width table is not "));
     assert!(short
         .err
-        .ends_with("\n  it has 384 numbers; expected: 512, of which 128 for each of the fonts 0 to 3\n"));
+        .ends_with("\n  it has 384 numbers\n  expected: 512, of which 128 for each of the fonts 0 to 3\n"));
     let mut widths = [1; 512];
     widths[128 + 0o101] = -7;
     let folder = with_widths("xgp_widths", &widths);
@@ -122,7 +122,7 @@ fn refusals_of_widths_name_their_file() {
         (negative.status, negative.err.as_str()),
         (
             1,
-            "spatecanter: a.widths: refused 63 at 0: a negative width\n  character 65 (101 octal) of font 1 has -7; \
+            "spatecanter: a.widths: refused 63 at 0: a negative width\n  character 65 (101 octal) of font 1 has -7\n  \
              expected: 0 or more\n"
         )
     );

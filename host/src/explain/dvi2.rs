@@ -1,24 +1,32 @@
 //! Refusals of DVI files of the second edition in words: what stands at the place, and what the writer puts there.
 
-use crate::explain::offset;
-use crate::failure::Failure;
-use crate::input::shown;
+use super::{offset, Explained};
+use crate::edition2::write_dvi2;
+use crate::operations::ITEM_LIMIT;
+use crate::refusal::Refusal;
 use crate::text::grouped;
-use spatecanter::{number, Refusal, ITEM_LIMIT};
-use std::ffi::OsStr;
 
-pub fn dvi2(name: &OsStr, dvi: &[u8], refusal: Refusal) -> Failure {
-    let mut lines = vec![format!("{}: {refusal}", shown(name))];
-    if refusal.number == number::NOT_OURS {
-        let before = Before::new(dvi, refusal.place);
-        let (stands, expected) = match dvi.get(refusal.place) {
-            Some(&command) => (in_words(command), before.expected(&dvi[refusal.place..])),
+impl Refusal {
+    /// What it says of a DVI file of the second edition.
+    ///
+    /// ```
+    /// use spatecanter::read_dvi2;
+    ///
+    /// let explained = read_dvi2(&[247, 3]).unwrap_err().in_dvi2(&[247, 3]);
+    /// assert_eq!(explained.found.unwrap(), "at offset 0 (hexadecimal 0): command 247, pre");
+    /// ```
+    pub fn in_dvi2(self, dvi: &[u8]) -> Explained {
+        let Refusal::NotOurs { place } = self else {
+            return Explained::new(self);
+        };
+        let before = Before::new(dvi, place);
+        let (stands, expected) = match dvi.get(place) {
+            Some(&command) => (in_words(command), before.expected(&dvi[place..])),
             None => ("the end of the file".into(), before.expected_rest(dvi)),
         };
-        lines.push(format!("{}: {stands}", offset(refusal.place)));
-        lines.push(format!("  expected: {expected}"));
+        let found = format!("{}: {stands}", offset(place));
+        Explained { refusal: self, found: Some(found), expected: Some(expected) }
     }
-    Failure::Refused(lines.join("\n"))
 }
 
 /// Where the commands before a place lead.
@@ -135,7 +143,7 @@ impl Before {
     fn written(&self, next: &[u8]) -> Option<String> {
         let characters = self.characters + u32::from(next.len() > 3);
         let galley = [&self.fields, next, &[2, 0, 4], &characters.to_be_bytes()].concat();
-        let dvi = spatecanter::write_dvi2(&galley).ok()?;
+        let dvi = write_dvi2(&galley).ok()?;
         let rest = &dvi[self.place.min(dvi.len())..];
         let command = rest.first().map(|&command| &rest[..length(command)]);
         Some(command.map_or("the end of the file".into(), in_bytes))

@@ -1,44 +1,54 @@
 //! Refusals of XGP files in words: the code at the place, by the name that character mode gives it, and what was
 //! expected there.
 
-use crate::explain::{bytes_in_words, offset};
-use crate::failure::Failure;
-use crate::input::shown;
+use super::{bytes_in_words, offset, Explained};
+use crate::operations::WIDTHS_PER_FONT;
+use crate::refusal::Refusal;
+use crate::sheet::Field;
 use crate::text::counted;
-use spatecanter::sheet::{fields, Field};
-use spatecanter::{number, Refusal, WIDTHS_PER_FONT};
-use std::ffi::OsStr;
+use crate::xgp::read_xgp;
 
-/// A refused file, or the table of widths for it where that is at fault.
-pub fn refused(names: [&OsStr; 2], file: &[u8], spacing: u16, widths: &[i32], refusal: Refusal) -> Failure {
-    let is_of_widths = matches!(refusal.number, number::WIDTHS | number::NEGATIVE_WIDTH);
-    let mut lines = vec![format!("{}: {refusal}", shown(names[usize::from(is_of_widths)]))];
-    match refusal.number {
-        number::WIDTHS => lines.push(format!(
-            "  it has {}; expected: 512, of which 128 for each of the fonts 0 to 3",
-            counted(widths.len(), "number")
-        )),
-        number::NEGATIVE_WIDTH => lines.extend(negative(widths)),
-        number::DVI_TOO_LONG => {}
-        _ => {
-            let rest = &file[refusal.place.min(file.len())..];
-            let code = &rest[..length(rest).min(rest.len())];
-            let (bytes, name) = (bytes_in_words(code, 5), name(code));
-            lines.push(format!("{}: {bytes} ({} octal), {name}", offset(refusal.place), octal(code)));
-            lines.push(format!("  expected: {}", expected(file, spacing, widths, code, refusal)));
-        }
+impl Refusal {
+    /// What it says of an XGP file that was read with this line spacing and these widths.
+    ///
+    /// ```
+    /// use spatecanter::{read_xgp, XGP_WIDTHS};
+    ///
+    /// let widths = [0; XGP_WIDTHS];
+    /// let explained = read_xgp(b"A\x08", 1, &widths).unwrap_err().in_xgp(b"A\x08", 1, &widths);
+    /// assert!(explained.found.unwrap().ends_with("bytes 08 (10 octal), backspace"));
+    /// ```
+    pub fn in_xgp(self, file: &[u8], spacing: u16, widths: &[i32]) -> Explained {
+        let (found, expected) = match self {
+            Refusal::Widths => (
+                format!("it has {}", counted(widths.len(), "number")),
+                "512, of which 128 for each of the fonts 0 to 3".into(),
+            ),
+            Refusal::NegativeWidth => match negative(widths) {
+                Some(found) => (found, "0 or more".into()),
+                None => return Explained::new(self),
+            },
+            Refusal::OutsidePart { place }
+            | Refusal::ReservedCode { place }
+            | Refusal::CodeCutShort { place }
+            | Refusal::Overflow { place } => {
+                let rest = &file[place.min(file.len())..];
+                let code = &rest[..length(rest).min(rest.len())];
+                let (bytes, name) = (bytes_in_words(code, 5), name(code));
+                let found = format!("{}: {bytes} ({} octal), {name}", offset(place), octal(code));
+                (found, expected(file, spacing, widths, code, self))
+            }
+            _ => return Explained::new(self),
+        };
+        Explained { refusal: self, found: Some(found), expected: Some(expected) }
     }
-    Failure::Refused(lines.join("\n"))
 }
 
 /// Which width is negative.
 fn negative(widths: &[i32]) -> Option<String> {
     let place = widths.iter().position(|width| *width < 0)?;
     let (font, code) = (place / WIDTHS_PER_FONT, place % WIDTHS_PER_FONT);
-    Some(format!(
-        "  character {code} ({code:o} octal) of font {font} has {}; expected: 0 or more",
-        widths[place]
-    ))
+    Some(format!("character {code} ({code:o} octal) of font {font} has {}", widths[place]))
 }
 
 fn octal(code: &[u8]) -> String {
@@ -97,11 +107,13 @@ fn operation_name(operation: u8) -> &'static str {
 }
 
 fn expected(file: &[u8], spacing: u16, widths: &[i32], code: &[u8], refusal: Refusal) -> String {
-    match refusal.number {
-        number::OUTSIDE_PART if code.iter().any(|byte| *byte > 127) => "bytes to 127 (177 octal)".into(),
-        number::CODE_CUT_SHORT => "the rest of the code".into(),
-        number::OVERFLOW => {
-            let standing = standing(&file[..refusal.place], spacing, widths);
+    match refusal {
+        Refusal::OutsidePart { .. } if code.iter().any(|byte| *byte > 127) => {
+            "bytes to 127 (177 octal)".into()
+        }
+        Refusal::CodeCutShort { .. } => "the rest of the code".into(),
+        Refusal::Overflow { place } => {
+            let standing = standing(&file[..place.min(file.len())], spacing, widths);
             let place =
                 standing.map_or(String::new(), |(x, y)| format!("; it stands at x {x}, baseline {y}"));
             format!("x, the baseline and each character's y to 2,147,483,647{place}")
@@ -117,8 +129,9 @@ fn standing(codes: &[u8], spacing: u16, widths: &[i32]) -> Option<(i32, i32)> {
     let place = narrowest.min_by_key(|place| widths[*place])?;
     let (font, code) = ((place / WIDTHS_PER_FONT) as u8, (place % WIDTHS_PER_FONT) as u8);
     let end = [0o177, 1, font, 0o177, code];
-    let sheet = spatecanter::read_xgp(&[codes, &end].concat(), spacing, widths).ok()?;
-    fields(&sheet).filter_map(character_place).last()
+    let sheet = read_xgp(&[codes, &end].concat(), spacing, widths).ok()?;
+    let last = sheet.fields().filter_map(character_place).last();
+    last
 }
 
 fn character_place(field: Field) -> Option<(i32, i32)> {
