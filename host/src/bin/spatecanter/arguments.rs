@@ -46,6 +46,10 @@ pub struct Arguments {
     pub mark: Option<OsString>,
     /// --edition
     pub edition: Option<OsString>,
+    /// --ending
+    pub ending: Option<OsString>,
+    /// -j
+    pub threads: Option<OsString>,
     /// --force
     pub force: bool,
     /// --plain
@@ -56,6 +60,8 @@ pub struct Arguments {
     pub tapes: bool,
     /// --split
     pub split: bool,
+    /// --dry-run
+    pub dry_run: bool,
     /// -q
     pub quiet: bool,
     /// -v
@@ -115,9 +121,14 @@ impl Inputs {
 }
 
 impl Arguments {
-    /// The files of the first input and of --codes, which no output may take the place of.
-    pub fn read_files(&self) -> Vec<&OsStr> {
-        std::iter::once(self.input.as_os_str()).chain(self.codes.as_deref()).collect()
+    /// The files that are read: the first input, and those that options name.
+    pub fn read_files(&self) -> impl Iterator<Item = &OsStr> {
+        std::iter::once(self.input.as_os_str()).chain(self.lent_files())
+    }
+
+    /// The files that options name to be read for each input.
+    pub fn lent_files(&self) -> impl Iterator<Item = &OsStr> {
+        [&self.widths, &self.codes].into_iter().flatten().map(OsString::as_os_str)
     }
 
     /// What -q and -v say.
@@ -187,6 +198,7 @@ impl Arguments {
             "--check" => &mut self.check,
             "--tapes" => &mut self.tapes,
             "--split" => &mut self.split,
+            "--dry-run" => &mut self.dry_run,
             "-q" => &mut self.quiet,
             "-v" => &mut self.verbose,
             _ => &mut self.force,
@@ -213,6 +225,8 @@ impl Arguments {
             "--codes" => Some(&mut self.codes),
             "--mark" => Some(&mut self.mark),
             "--edition" => Some(&mut self.edition),
+            "--ending" => Some(&mut self.ending),
+            "-j" => Some(&mut self.threads),
             _ => None,
         }
     }

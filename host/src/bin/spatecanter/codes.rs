@@ -1,7 +1,7 @@
 //! Code tables: which character each code of a font is.
 
 use crate::failure::Failure;
-use crate::input::{read_one_of_many, shown};
+use crate::input::{self, shown};
 use spatecanter::galley::Character;
 use std::ffi::{OsStr, OsString};
 
@@ -23,7 +23,7 @@ pub struct Codes {
 impl Codes {
     /// The table that --codes names.
     pub fn read(name: &OsStr) -> Result<Codes, Failure> {
-        let bytes = read_one_of_many(name, LIMIT)?;
+        let bytes = input::read(name, LIMIT)?;
         let wrong = |what: String| Failure::File(format!("{}: {what}", shown(name)));
         if bytes.len() > LIMIT {
             return Err(wrong("longer than 1,048,576 bytes".into()));

@@ -2,6 +2,7 @@
 
 use crate::arguments::{Arguments, Inputs};
 use crate::differences::{Differences, Named};
+use crate::each::{self, Made, Remark, Told};
 use crate::edition::{Edition, Reprinted};
 use crate::failure::Failure;
 use crate::font_marks::FontMarks;
@@ -10,12 +11,12 @@ use crate::grid::Grid;
 use crate::input::{self, shown};
 use crate::listing::Listing;
 use crate::loudness::tell;
-use crate::output::{self, named_after, Draft, Place};
+use crate::output::{self, Draft, Place};
 use crate::plot::{Picture, Source};
 use crate::report::Counted;
 use crate::summary::Summary;
 use crate::text::{self, counted};
-use crate::{help, index, marks, options, pieces, progress, refused, sheets, split, tapes, xgp};
+use crate::{help, index, many, marks, options, pieces, progress, refused, sheets, split, tapes, xgp};
 use spatecanter::{
     Extents, Form, Galley, Machine, Refusal, Sheet, DVI2_LIMIT, DVI_LIMIT, GALLEY_LIMIT, OLD_GALLEY_LIMIT,
     SHEET_LIMIT, TAPE_LIMIT,
@@ -35,17 +36,17 @@ pub struct Command {
 pub const COMMANDS: [Command; 16] = [
     Command {
         name: "read",
-        usage: "read TAPE [--machine 4|8] [--pieces N] [-o GALLEY] [--force]",
-        inputs: Inputs::One,
-        options: &["--machine", "--pieces", "-o", "--force"],
+        usage: "read TAPE... [--machine 4|8] [--pieces N] [-o GALLEY|-d FOLDER] [--force]",
+        inputs: Inputs::Some,
+        options: &["--machine", "--pieces", "-o", "-d", "--force", "--ending", "-j", "--dry-run"],
         help: help::READ,
         run: read,
     },
     Command {
         name: "check",
-        usage: "check GALLEY",
-        inputs: Inputs::One,
-        options: &[],
+        usage: "check GALLEY...",
+        inputs: Inputs::Some,
+        options: &["--ending", "-j"],
         help: help::CHECK,
         run: check,
     },
@@ -67,33 +68,33 @@ pub const COMMANDS: [Command; 16] = [
     },
     Command {
         name: "set",
-        usage: "set GALLEY [--edition 1980|2] [-o DVI] [--force]",
-        inputs: Inputs::One,
-        options: &["--edition", "-o", "--force"],
+        usage: "set GALLEY... [--edition 1980|2] [-o DVI|-d FOLDER] [--force]",
+        inputs: Inputs::Some,
+        options: &["--edition", "-o", "-d", "--force", "--ending", "-j", "--dry-run"],
         help: help::SET,
         run: set,
     },
     Command {
         name: "show",
-        usage: "show DVI [--widths FILE] [--plain|--check] [-o SHEET] [--force]",
-        inputs: Inputs::One,
-        options: &["--widths", "--plain", "--check", "-o", "--force"],
+        usage: "show DVI... [--widths FILE] [--plain|--check] [-o SHEET|-d FOLDER] [--force]",
+        inputs: Inputs::Some,
+        options: &["--widths", "--plain", "--check", "-o", "-d", "--force", "--ending", "-j", "--dry-run"],
         help: help::SHOW,
         run: show,
     },
     Command {
         name: "back",
-        usage: "back DVI [--widths FILE] [-o GALLEY] [--force]",
-        inputs: Inputs::One,
-        options: &["--widths", "-o", "--force"],
+        usage: "back DVI... [--widths FILE] [-o GALLEY|-d FOLDER] [--force]",
+        inputs: Inputs::Some,
+        options: &["--widths", "-o", "-d", "--force", "--ending", "-j", "--dry-run"],
         help: help::BACK,
         run: back,
     },
     Command {
         name: "xgp",
         usage: XGP_USAGE,
-        inputs: Inputs::One,
-        options: &["--spacing", "--widths", "-o", "--force"],
+        inputs: Inputs::Some,
+        options: &["--spacing", "--widths", "-o", "-d", "--force", "--ending", "-j", "--dry-run"],
         help: help::XGP,
         run: xgp::run,
     },
@@ -108,15 +109,15 @@ pub const COMMANDS: [Command; 16] = [
     Command {
         name: "reprint",
         usage: REPRINT_USAGE,
-        inputs: Inputs::One,
-        options: &["--machine", "--fonts", "--edition", "-d", "--force"],
+        inputs: Inputs::Some,
+        options: &["--machine", "--fonts", "--edition", "-d", "--force", "--ending", "-j", "--dry-run"],
         help: help::REPRINT,
         run: reprint,
     },
     Command {
         name: "plot",
         usage: PLOT_USAGE,
-        inputs: Inputs::One,
+        inputs: Inputs::Some,
         options: &[
             "--machine",
             "--dots",
@@ -127,7 +128,11 @@ pub const COMMANDS: [Command; 16] = [
             "--to",
             "--split",
             "-o",
+            "-d",
             "--force",
+            "--ending",
+            "-j",
+            "--dry-run",
         ],
         help: help::PLOT,
         run: draw,
@@ -136,23 +141,23 @@ pub const COMMANDS: [Command; 16] = [
         name: "index",
         usage: INDEX_USAGE,
         inputs: Inputs::Some,
-        options: &["--machine", "--list", "--fonts", "--codes", "-d", "--force"],
+        options: &["--machine", "--list", "--fonts", "--codes", "-d", "--force", "--ending"],
         help: help::INDEX,
         run: index::write,
     },
     Command {
         name: "punch",
-        usage: "punch GALLEY [-o TAPE] [--force]",
-        inputs: Inputs::One,
-        options: &["-o", "--force"],
+        usage: "punch GALLEY... [-o TAPE|-d FOLDER] [--force]",
+        inputs: Inputs::Some,
+        options: &["-o", "-d", "--force", "--ending", "-j", "--dry-run"],
         help: help::PUNCH,
         run: punch,
     },
     Command {
         name: "convert",
         usage: CONVERT_USAGE,
-        inputs: Inputs::One,
-        options: &["--to", "-o", "--force"],
+        inputs: Inputs::Some,
+        options: &["--to", "-o", "-d", "--force", "--ending", "-j", "--dry-run"],
         help: help::CONVERT,
         run: convert,
     },
@@ -168,7 +173,7 @@ pub const COMMANDS: [Command; 16] = [
         name: "report",
         usage: REPORT_USAGE,
         inputs: Inputs::Some,
-        options: &["--machine", "--list", "--format", "--tapes"],
+        options: &["--machine", "--list", "--format", "--tapes", "--ending"],
         help: help::REPORT,
         run: report,
     },
@@ -179,43 +184,58 @@ const LIST_USAGE: &str =
 const TEXT_USAGE: &str =
     "text TAPE|GALLEY --codes FILE [--mark MARKS] [--machine 4|8] [--page N] [-o FILE] [--force]";
 pub const REPRINT_USAGE: &str =
-    "reprint TAPE [--machine 4|8] [--fonts NAMES] [--edition 1980|2] -d FOLDER [--force]";
-pub const CONVERT_USAGE: &str = "convert --to new|old GALLEY [-o GALLEY] [--force]";
+    "reprint TAPE... [--machine 4|8] [--fonts NAMES] [--edition 1980|2] -d FOLDER [--force]";
+pub const CONVERT_USAGE: &str = "convert --to new|old GALLEY... [-o GALLEY|-d FOLDER] [--force]";
 const COMPARE_USAGE: &str = "compare TAPE|GALLEY TAPE|GALLEY [--machine 4|8] [--order any]";
-const REPORT_USAGE: &str = "report PATH... [--machine 4|8] [--list FILE] [--format text|csv|json] [--tapes]";
-const PLOT_USAGE: &str = "plot TAPE|GALLEY|SHEET [--machine 4|8] [--dots N] [--fonts NAMES] [--codes FILE] \
-                          [--page N] [--from HEIGHT] [--to HEIGHT] [--split] [-o SVG] [--force]";
+const REPORT_USAGE: &str = "report PATH... [--machine 4|8] [--list FILE] [--format text|csv|json] [--tapes] \
+                            [--ending ENDING]";
+const PLOT_USAGE: &str = "plot TAPE|GALLEY|SHEET... [--machine 4|8] [--dots N] [--fonts NAMES] \
+                          [--codes FILE] [--page N] [--from HEIGHT] [--to HEIGHT] [--split] \
+                          [-o SVG|-d FOLDER] [--force]";
 
 pub const INDEX_USAGE: &str =
-    "index PATH... [--machine 4|8] [--list FILE] [--fonts NAMES] [--codes FILE] -d FOLDER [--force]";
+    "index PATH... [--machine 4|8] [--list FILE] [--fonts NAMES] [--codes FILE] [--ending ENDING] -d FOLDER \
+     [--force]";
 
-pub const XGP_USAGE: &str = "xgp FILE --spacing N --widths FILE [-o SHEET] [--force]";
+pub const XGP_USAGE: &str = "xgp XGP... --spacing N --widths FILE [-o SHEET|-d FOLDER] [--force]";
 
 /// The longest table of widths that is read, in bytes: 65,536 fonts.
 const WIDTHS_LIMIT: usize = 33_554_432;
 
 fn read(arguments: &Arguments) -> Result<(), Failure> {
-    let name = &arguments.input;
     let named = options::machine(arguments)?;
     let longest = options::pieces(arguments)?;
-    let place = place(arguments, &[name], "galley")?;
-    if name != "-" && longest.is_none() {
-        let tape = input::read(name, TAPE_LIMIT)?;
-        let (galley, extents) = galley_of(name, &tape, named)?;
-        place.write(&galley)?;
-        place.tell(&text::reach(galley.characters().count(), extents));
-        return Ok(());
+    let is_in_pieces = arguments.input == "-" || longest.is_some();
+    if is_in_pieces && !many::are_given(arguments) && !arguments.dry_run {
+        return read_pieces(arguments, named, longest.unwrap_or(pieces::LONGEST));
     }
-    let machine = named.unwrap_or(Machine::Eight);
-    let reading = pieces::read(name, machine, longest.unwrap_or(pieces::LONGEST), &place)?;
-    hint_at_four_fonts(name, named, reading.characters, reading.has_tilt);
+    each::input(arguments, &["galley"], &|name| {
+        let tape = input::read(name, TAPE_LIMIT)?;
+        let (galley, extents, remark) = galley_of(name, &tape, named)?;
+        let told = Told::OfOutput(text::reach(galley.characters().count(), extents));
+        let holds = text::characters_and_pages(&galley);
+        let remarks = remark.into_iter().collect();
+        Ok(Made { remarks, told, ..Made::new(&tape, galley.into_bytes(), holds) })
+    })
+}
+
+fn read_pieces(arguments: &Arguments, named: Option<Machine>, longest: usize) -> Result<(), Failure> {
+    let place = each::place(arguments, "galley")?;
+    let reading = pieces::read(&arguments.input, named.unwrap_or(Machine::Eight), longest, &place)?;
+    if let Some(remark) = without_tilt(named, reading.characters, reading.has_tilt) {
+        remark.tell(&shown(&arguments.input));
+    }
     place.tell(&text::reach(reading.characters, reading.extents()));
     Ok(())
 }
 
 fn check(arguments: &Arguments) -> Result<(), Failure> {
-    let galley = checked_galley(&arguments.input)?;
-    output::print(&format!("accepted, {}\n", counted(galley.characters().count(), "character")))
+    each::input(arguments, &[], &|name| {
+        let galley = checked_galley(name)?;
+        let holds = counted(galley.characters().count(), "character");
+        let told = Told::Printed(format!("accepted, {holds}\n"));
+        Ok(Made { outputs: vec![], holds, length: galley.len(), remarks: vec![], told })
+    })
 }
 
 fn list(arguments: &Arguments) -> Result<(), Failure> {
@@ -248,31 +268,30 @@ fn set_as_text(arguments: &Arguments) -> Result<(), Failure> {
 
 fn set(arguments: &Arguments) -> Result<(), Failure> {
     let edition = options::edition(arguments)?;
-    let place = place(arguments, &[&arguments.input], "dvi")?;
-    let galley = input::read(&arguments.input, GALLEY_LIMIT)?;
-    let dvi = progress::during("writing the DVI file", || edition.write(&galley))
-        .map_err(|refusal| refused::galley(&arguments.input, &galley, refusal))?;
-    place.write(&dvi)?;
-    place.tell(&counted(dvi.len(), "byte"));
-    Ok(())
+    each::input(arguments, &["dvi"], &|name| {
+        let galley = input::read(name, GALLEY_LIMIT)?;
+        let dvi = progress::during("writing the DVI file", || edition.write(&galley))
+            .map_err(|refusal| refused::galley(name, &galley, refusal))?;
+        Ok(Made::of_bytes(&galley, dvi))
+    })
 }
 
 fn show(arguments: &Arguments) -> Result<(), Failure> {
     if arguments.plain && arguments.check {
         return Err(Failure::Usage("--plain and --check do not go together: --check reads both ways".into()));
     }
-    let (place, dvi, widths) = dvi_file(arguments, "sheet", DVI_LIMIT)?;
+    let widths = widths(arguments, "DVI file")?;
     let read = if arguments.plain { spatecanter::read_dvi_plain } else { spatecanter::read_dvi };
-    let sheet = progress::during("reading the DVI file", || read(&dvi, &widths));
-    if arguments.check {
-        readers_agree(&arguments.input, &dvi, &widths, &sheet)?;
-    }
-    let sheet = sheet.map_err(|refusal| {
-        refused::dvi(&arguments.input, &dvi, arguments.widths.as_deref(), &widths, refusal)
-    })?;
-    place.write(&sheet)?;
-    place.tell(&counted(sheet.len(), "byte"));
-    Ok(())
+    each::input(arguments, &["sheet"], &|name| {
+        let dvi = input::read(name, DVI_LIMIT)?;
+        let sheet = progress::during("reading the DVI file", || read(&dvi, &widths));
+        if arguments.check {
+            readers_agree(name, &dvi, &widths, &sheet)?;
+        }
+        let table = arguments.widths.as_deref();
+        let sheet = sheet.map_err(|refusal| refused::dvi(name, &dvi, table, &widths, refusal))?;
+        Ok(Made::of_bytes(&dvi, sheet.into_bytes()))
+    })
 }
 
 /// Reads the file the plain way too, and says that it gives the same, as it is proved to.
@@ -295,47 +314,35 @@ fn readers_agree(
 }
 
 fn back(arguments: &Arguments) -> Result<(), Failure> {
-    let (place, dvi, widths) = dvi_file(arguments, "galley", DVI2_LIMIT)?;
-    let edition = Edition::of(&dvi);
-    if edition == Edition::Second && arguments.widths.is_some() {
-        let what = format!("{} is of the second edition, which needs no --widths", shown(&arguments.input));
-        return Err(Failure::Usage(what));
-    }
-    let galley = progress::during("reading the DVI file", || match edition {
-        Edition::First => spatecanter::dvi_to_galley(&dvi, &widths),
-        Edition::Second => spatecanter::read_dvi2(&dvi),
+    let widths = widths(arguments, "DVI file")?;
+    each::input(arguments, &["galley"], &|name| {
+        let dvi = input::read(name, DVI2_LIMIT)?;
+        let edition = Edition::of(&dvi);
+        if edition == Edition::Second && arguments.widths.is_some() {
+            let what = format!("{} is of the second edition, which needs no --widths", shown(name));
+            return Err(Failure::Usage(what));
+        }
+        let galley = progress::during("reading the DVI file", || match edition {
+            Edition::First => spatecanter::dvi_to_galley(&dvi, &widths),
+            Edition::Second => spatecanter::read_dvi2(&dvi),
+        })
+        .map_err(|refusal| match edition {
+            Edition::First => refused::dvi(name, &dvi, arguments.widths.as_deref(), &widths, refusal),
+            Edition::Second => refused::input(name, &refusal.in_dvi2(&dvi)),
+        })?;
+        let holds = counted(galley.characters().count(), "character");
+        Ok(Made::new(&dvi, galley.into_bytes(), holds))
     })
-    .map_err(|refusal| match edition {
-        Edition::First => refused::dvi(&arguments.input, &dvi, arguments.widths.as_deref(), &widths, refusal),
-        Edition::Second => refused::input(&arguments.input, &refusal.in_dvi2(&dvi)),
-    })?;
-    place.write(&galley)?;
-    place.tell(&counted(galley.characters().count(), "character"));
-    Ok(())
 }
 
-/// A DVI file of at most so many bytes and its widths, and where the output goes.
-fn dvi_file(
-    arguments: &Arguments,
-    ending: &str,
-    limit: usize,
-) -> Result<(Place, Vec<u8>, Vec<i32>), Failure> {
-    let mut inputs = vec![arguments.input.as_os_str()];
-    inputs.extend(arguments.widths.as_deref());
-    if inputs == ["-", "-"] {
-        return Err(Failure::Usage("the DVI file and the widths cannot both be standard input".into()));
-    }
-    let place = place(arguments, &inputs, ending)?;
-    let dvi = input::read(&arguments.input, limit)?;
-    let widths = match &arguments.widths {
-        Some(name) => widths(name)?,
-        None => vec![],
+/// The numbers of --widths for inputs of a kind: a file of 32-bit numbers, high byte first.
+pub fn widths(arguments: &Arguments, kind: &str) -> Result<Vec<i32>, Failure> {
+    let Some(name) = &arguments.widths else {
+        return Ok(vec![]);
     };
-    Ok((place, dvi, widths))
-}
-
-/// A file of 32-bit numbers, high byte first.
-pub fn widths(name: &OsStr) -> Result<Vec<i32>, Failure> {
+    if name == "-" && arguments.input == "-" {
+        return Err(Failure::Usage(format!("the {kind} and the widths cannot both be standard input")));
+    }
     let bytes = input::read(name, WIDTHS_LIMIT)?;
     let (numbers, rest) = bytes.as_chunks();
     let fault = match rest {
@@ -353,86 +360,81 @@ fn list_sheet(arguments: &Arguments) -> Result<(), Failure> {
 }
 
 fn reprint(arguments: &Arguments) -> Result<(), Failure> {
-    let folder = options::folder(arguments)?;
-    let machine = options::machine(arguments)?;
+    options::folder(arguments)?;
+    let named = options::machine(arguments)?;
     let edition = options::edition(arguments)?;
-    let fonts = Fonts::choose(arguments.fonts.as_deref(), Some(machine.unwrap_or(Machine::Eight)))?;
-    let in_folder = |ending: &&str| {
-        let path = named_after(&arguments.input, Some(folder), ending);
-        Place::file(path, &[&arguments.input], arguments.force)
-    };
-    let places = edition.endings().iter().map(in_folder).collect::<Result<Vec<Place>, Failure>>()?;
-    let tape = input::read(&arguments.input, TAPE_LIMIT)?;
-    let (galley, extents) = galley_of(&arguments.input, &tape, machine)?;
-    let Reprinted { dvi, read } = progress::during("reprinting", || edition.reprint(&galley))
-        .map_err(|refusal| refused::galley(&arguments.input, &galley, refusal))?;
-    if edition == Edition::Second && read != galley {
-        let what = format!(
-            "{}: reading the DVI file gives another galley, a fault of the library",
-            shown(&arguments.input)
-        );
-        return Err(Failure::Refused(what));
-    }
-    let mut drafts = Vec::new();
-    for (place, bytes) in places.iter().zip([galley.as_bytes(), &dvi, &read]) {
-        let mut draft = Draft::start(place)?;
-        draft.fill(|out| out.write_all(bytes))?;
-        drafts.push(draft);
-    }
-    output::finish(drafts)?;
-    output::print(&Summary::of(&galley, extents, &fonts).to_string())
+    let fonts = Fonts::choose(arguments.fonts.as_deref(), Some(named.unwrap_or(Machine::Eight)))?;
+    each::input(arguments, edition.endings(), &|name| {
+        let tape = input::read(name, TAPE_LIMIT)?;
+        let (galley, extents, remark) = galley_of(name, &tape, named)?;
+        let Reprinted { dvi, read } = progress::during("reprinting", || edition.reprint(&galley))
+            .map_err(|refusal| refused::galley(name, &galley, refusal))?;
+        if edition == Edition::Second && read != galley {
+            let what = "reading the DVI file gives another galley, a fault of the library";
+            return Err(Failure::Refused(format!("{}: {what}", shown(name))));
+        }
+        let told = Told::Printed(Summary::of(&galley, extents, &fonts).to_string());
+        let holds = text::characters_and_pages(&galley);
+        let remarks = remark.into_iter().collect();
+        let outputs = vec![galley.into_bytes(), dvi, read];
+        Ok(Made { outputs, holds, length: tape.len(), remarks, told })
+    })
 }
 
 fn draw(arguments: &Arguments) -> Result<(), Failure> {
     let codes = options::codes(arguments)?;
     let named = options::machine(arguments)?;
-    if arguments.split {
+    if arguments.split && !many::are_given(arguments) {
         let base = split::base(arguments)?;
-        let source = drawn(&arguments.input, named, arguments)?;
+        let Drawn { source, remark, .. } = drawn(&arguments.input, named, arguments)?;
+        remark.iter().for_each(|remark| remark.tell(&source.name));
         let pages = options::pages(arguments, source.pages.len())?;
         return progress::during("drawing", || split::draw(&source, codes.as_ref(), pages, &base, arguments));
     }
-    let place = place(arguments, &arguments.read_files(), "svg")?;
-    let source = drawn(&arguments.input, named, arguments)?;
-    let shown_pages = options::pages(arguments, source.pages.len())?;
-    let part = options::part(arguments, shown_pages.len(), source.pages[shown_pages.start].lowest())?;
-    let picture = Picture::new(&source, codes.as_ref(), shown_pages, part);
-    let mut draft = Draft::start(&place)?;
-    progress::during("drawing", || draft.fill(|out| picture.draw(out)))?;
-    output::finish(vec![draft])?;
-    place.tell(&counted(picture.count(), "character"));
-    if let Some(percent) = picture.scaled_to() {
-        tell(&format!(
-            "{}: scaled to {percent:.1} percent, since many programs show no picture of more than 32,767 \
-             pixels; --page N, or --from and --to, draw a part in full size",
-            place.shown()
-        ));
-    }
-    Ok(())
+    each::input(arguments, &["svg"], &|name| {
+        let Drawn { source, length, remark } = drawn(name, named, arguments)?;
+        let shown_pages = options::pages(arguments, source.pages.len())?;
+        let part = options::part(arguments, shown_pages.len(), source.pages[shown_pages.start].lowest())?;
+        let picture = Picture::new(&source, codes.as_ref(), shown_pages, part);
+        let mut svg = Vec::new();
+        progress::during("drawing", || picture.draw(&mut svg)).expect("there is room");
+        let remarks = remark.into_iter().chain(picture.scaled_to().map(Remark::Scaled)).collect();
+        let holds = counted(picture.count(), "character");
+        Ok(Made { length, remarks, ..Made::new(&[], svg, holds) })
+    })
 }
 
-/// What plot draws: the pages of a sheet, a galley or a tape.
-pub fn drawn(input: &OsStr, named: Option<Machine>, arguments: &Arguments) -> Result<Source, Failure> {
+/// What plot draws: the pages of a sheet, a galley or a tape of so many bytes.
+pub struct Drawn {
+    pub source: Source,
+    length: usize,
+    pub remark: Option<Remark>,
+}
+
+pub fn drawn(input: &OsStr, named: Option<Machine>, arguments: &Arguments) -> Result<Drawn, Failure> {
     let measure = options::measure(arguments)?;
     let mut looks_good = sheets::looks_good();
     let bytes = input::read_while(input, SHEET_LIMIT, |bytes| match sheets::is_sheet(bytes) {
         true => looks_good(bytes),
         false => bytes.len() <= GALLEY_LIMIT,
     })?;
+    let length = bytes.len();
     if sheets::is_sheet(&bytes) {
         let sheet = sheets::checked(input, bytes)?;
-        return sheets::source(input, &sheet, measure, named, arguments.fonts.as_deref());
+        let source = sheets::source(input, &sheet, measure, named, arguments.fonts.as_deref())?;
+        return Ok(Drawn { source, length, remark: None });
     }
     if arguments.dots.is_some() {
         return Err(Failure::Usage(format!("--dots is for sheets, and {} is none", shown(input))));
     }
-    let (galley, machine) = galley_in(input, bytes, named)?;
+    let (galley, machine, remark) = galley_in(input, bytes, named)?;
     let origin = match machine {
         Some(machine) => format!("{}-font machine", machine.fonts()),
         None => "Machine not recorded".into(),
     };
     let fonts = Fonts::choose(arguments.fonts.as_deref(), machine)?;
-    Ok(Source { name: shown(input), origin, fonts, pages: marks::of_galley(&galley) })
+    let source = Source { name: shown(input), origin, fonts, pages: marks::of_galley(&galley) };
+    Ok(Drawn { source, length, remark })
 }
 
 fn compare(arguments: &Arguments) -> Result<(), Failure> {
@@ -452,7 +454,7 @@ fn compare(arguments: &Arguments) -> Result<(), Failure> {
     if differences.is_none() {
         Ok(())
     } else {
-        Err(Failure::Different)
+        Err(Failure::Told(1))
     }
 }
 
@@ -465,28 +467,33 @@ fn report(arguments: &Arguments) -> Result<(), Failure> {
 
 /// The galley of an input that is a galley or a tape, and its machine: a galley's is the one named, if any.
 fn galley_or_tape(name: &OsStr, named: Option<Machine>) -> Result<(Galley, Option<Machine>), Failure> {
-    galley_in(name, input::read(name, GALLEY_LIMIT)?, named)
+    let (galley, machine, remark) = galley_in(name, input::read(name, GALLEY_LIMIT)?, named)?;
+    remark.iter().for_each(|remark| remark.tell(&shown(name)));
+    Ok((galley, machine))
 }
 
+/// The same for an input that was read, with what is to be told of it.
 fn galley_in(
     name: &OsStr,
     bytes: Vec<u8>,
     named: Option<Machine>,
-) -> Result<(Galley, Option<Machine>), Failure> {
+) -> Result<(Galley, Option<Machine>, Option<Remark>), Failure> {
     match bytes.first() {
-        Some(1 | 2 | 6 | 7) => Ok((checked(name, bytes)?, named)),
-        _ => Ok((galley_of(name, &bytes, named)?.0, named.or(Some(Machine::Eight)))),
+        Some(1 | 2 | 6 | 7) => Ok((checked(name, bytes)?, named, None)),
+        _ => {
+            let (galley, _, remark) = galley_of(name, &bytes, named)?;
+            Ok((galley, named.or(Some(Machine::Eight)), remark))
+        }
     }
 }
 
 fn punch(arguments: &Arguments) -> Result<(), Failure> {
-    let place = place(arguments, &[&arguments.input], "tape")?;
-    let galley = input::read(&arguments.input, GALLEY_LIMIT)?;
-    let tape = progress::during("punching the tape", || spatecanter::punch_tape(&galley))
-        .map_err(|refusal| refused::galley(&arguments.input, &galley, refusal))?;
-    place.write(&tape)?;
-    place.tell(&counted(tape.len(), "byte"));
-    Ok(())
+    each::input(arguments, &["tape"], &|name| {
+        let galley = input::read(name, GALLEY_LIMIT)?;
+        let tape = progress::during("punching the tape", || spatecanter::punch_tape(&galley))
+            .map_err(|refusal| refused::galley(name, &galley, refusal))?;
+        Ok(Made::of_bytes(&galley, tape))
+    })
 }
 
 fn convert(arguments: &Arguments) -> Result<(), Failure> {
@@ -495,27 +502,21 @@ fn convert(arguments: &Arguments) -> Result<(), Failure> {
         Form::New => (Form::Old, OLD_GALLEY_LIMIT, "new.galley"),
         Form::Old => (Form::New, GALLEY_LIMIT, "old.galley"),
     };
-    let place = place(arguments, &[&arguments.input], ending)?;
-    let galley = input::read(&arguments.input, limit)?;
-    let converted = progress::during("converting the galley", || match to {
-        Form::New => spatecanter::galley_to_new(&galley).map(Galley::into_bytes),
-        Form::Old => spatecanter::galley_to_old(&galley),
+    each::input(arguments, &[ending], &|name| {
+        let galley = input::read(name, limit)?;
+        let converted = progress::during("converting the galley", || match to {
+            Form::New => spatecanter::galley_to_new(&galley).map(Galley::into_bytes),
+            Form::Old => spatecanter::galley_to_old(&galley),
+        })
+        .map_err(|refusal| refused::input(name, &refusal.in_galley(&galley, from)))?;
+        Ok(Made::of_bytes(&galley, converted))
     })
-    .map_err(|refusal| refused::input(&arguments.input, &refusal.in_galley(&galley, from)))?;
-    place.write(&converted)?;
-    place.tell(&counted(converted.len(), "byte"));
-    Ok(())
-}
-
-/// Where the output of a command with one output goes.
-fn place(arguments: &Arguments, inputs: &[&OsStr], ending: &str) -> Result<Place, Failure> {
-    Place::choose(arguments.output.as_deref(), inputs, ending, arguments.force)
 }
 
 /// Where text for people goes: to standard output, unless -o names a file.
 fn text_place(arguments: &Arguments) -> Result<Place, Failure> {
     match &arguments.output {
-        Some(_) => place(arguments, &arguments.read_files(), "text"),
+        Some(_) => each::place(arguments, "text"),
         None => Ok(Place::Standard),
     }
 }
@@ -532,25 +533,23 @@ fn print(write: impl FnOnce(&mut dyn Write) -> io::Result<()>) -> Result<(), Fai
     fill(&Place::Standard, write)
 }
 
-/// The galley and the extents of a tape of this machine, or of the 8-font machine where none is named. Nothing
-/// on a tape tells its machine but a tilt.
-fn galley_of(name: &OsStr, tape: &[u8], named: Option<Machine>) -> Result<(Galley, Extents), Failure> {
+/// The galley and the extents of a tape of this machine, or of the 8-font machine where none is named, with what
+/// is to be told of it: nothing on a tape tells its machine but a tilt.
+fn galley_of(
+    name: &OsStr,
+    tape: &[u8],
+    named: Option<Machine>,
+) -> Result<(Galley, Extents, Option<Remark>), Failure> {
     let machine = named.unwrap_or(Machine::Eight);
     let read = progress::during("reading the tape", || spatecanter::read_tape_with_extents(tape, machine));
     let (galley, extents) = read.map_err(|refusal| refused::tape(name, tape, machine, refusal))?;
-    hint_at_four_fonts(name, named, galley.characters().count(), refused::has_tilt(tape));
-    Ok((galley, extents))
+    let remark = without_tilt(named, galley.characters().count(), refused::has_tilt(tape));
+    Ok((galley, extents, remark))
 }
 
 /// A tape that the 8-font machine accepts may be one of the 4-font machine, if it flashes and never tilts.
-fn hint_at_four_fonts(name: &OsStr, named: Option<Machine>, characters: usize, has_tilt: bool) {
-    if named.is_none() && characters > 0 && !has_tilt {
-        tell(&format!(
-            "spatecanter: {} has no tilt code (4E, 4F). If it was made for the 4-font machine, its fonts are\n  \
-             others: use --machine 4. With --machine 8 this hint is left out.",
-            shown(name)
-        ));
-    }
+fn without_tilt(named: Option<Machine>, characters: usize, has_tilt: bool) -> Option<Remark> {
+    (named.is_none() && characters > 0 && !has_tilt).then_some(Remark::NoTilt)
 }
 
 /// A galley that the check accepts.

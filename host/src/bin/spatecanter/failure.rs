@@ -1,5 +1,6 @@
 //! Why the command ends without success, and its exit status.
 
+use crate::progress;
 use std::io::{stderr, Write};
 use std::process::ExitCode;
 
@@ -10,8 +11,9 @@ pub enum Failure {
     Usage(String),
     /// A file could not be read or written.
     File(String),
-    /// Two inputs differ, as standard output says.
-    Different,
+    /// Standard output has said it: two inputs differ, or some of many were refused (1), or could not be read
+    /// or written (2).
+    Told(u8),
     /// Whoever read standard output has seen enough.
     Closed,
 }
@@ -32,7 +34,7 @@ impl Failure {
                 say(&format!("spatecanter: {message}"));
                 ExitCode::from(2)
             }
-            Failure::Different => ExitCode::from(1),
+            Failure::Told(status) => ExitCode::from(status),
             Failure::Closed => ExitCode::SUCCESS,
         }
     }
@@ -40,5 +42,6 @@ impl Failure {
 
 /// Writes a line to standard error, if anyone is there to read it.
 pub fn say(text: &str) {
+    let _cleared = progress::cleared();
     let _ = writeln!(stderr(), "{text}");
 }

@@ -61,6 +61,12 @@ pub const FLAGS: &[Flag] = &[
         ..flag("-o", Value::File("FILE"), "where the output goes; - is standard output")
     },
     flag("--force", Value::None, "write over files that are there already"),
+    flag("--ending", Value::Text("ENDING"), "of a folder only files whose names end so, as in .tape"),
+    Flag {
+        long: Some("--threads"),
+        ..flag("-j", Value::Text("N"), "many inputs on N threads; on as many as processors without it")
+    },
+    flag("--dry-run", Value::None, "check the inputs, and write no file"),
 ];
 
 /// The options of every command.
@@ -103,6 +109,11 @@ impl Value {
 }
 
 impl Command {
+    /// Whether it takes many inputs, and folders, by the rules for many.
+    pub fn takes_many(&self) -> bool {
+        self.options.contains(&"-j")
+    }
+
     /// Its options, those of every command last.
     pub fn flags(&self) -> impl Iterator<Item = &'static Flag> + '_ {
         self.options.iter().map(|name| self.listed(name)).chain(COMMON)

@@ -8,8 +8,19 @@ pub fn of(command: &Command) -> String {
         command.told_flags().map(|flag| (flag.spelled(), flag.about)).collect();
     let width = spelled.iter().map(|(names, _)| names.len()).max().unwrap_or(0);
     let rows = spelled.iter().map(|(names, about)| format!("  {names:<width$}  {about}\n"));
-    format!("{}\nOptions:\n{}", command.help, rows.collect::<String>())
+    format!("{}\nOptions:\n{}", text(command), rows.collect::<String>())
 }
+
+/// A command's text.
+pub fn text(command: &Command) -> String {
+    let many = if command.takes_many() { MANY } else { "" };
+    format!("{}{many}", command.help)
+}
+
+/// What is said of a command that takes many inputs.
+const MANY: &str = "
+Many inputs, and folders, are taken as spatecanter --help says under Many at once.
+";
 
 /// What a command does, in a few words: the end of its line in the whole text.
 pub fn about(command: &Command) -> &'static str {
@@ -25,20 +36,20 @@ to new ones and back; and reports over many tapes.
 
 Usage: spatecanter COMMAND ...
 
-  read TAPE [-o GALLEY]                 a tape to a galley
-  check GALLEY                          is this a galley, and of how many characters?
+  read TAPE... [-o GALLEY]              a tape to a galley
+  check GALLEY...                       is this a galley, and of how many characters?
   list TAPE|GALLEY [--format csv]       a line for each character: place, font, size and code
   text TAPE|GALLEY --codes FILE         the pages as text, each figure at its place
-  set GALLEY [--edition 2] [-o DVI]     a galley to a DVI file
-  show DVI [--widths FILE] [-o SHEET]   a DVI file to a sheet
-  back DVI [--widths FILE] [-o GALLEY]  a DVI file back to its galley
-  xgp FILE --spacing N --widths FILE    a file of XGP character mode to a sheet
+  set GALLEY... [--edition 2] [-o DVI]  a galley to a DVI file
+  show DVI... [--widths FILE]           a DVI file to a sheet
+  back DVI... [--widths FILE]           a DVI file back to its galley
+  xgp XGP... --spacing N --widths FILE  a file of XGP character mode to a sheet
   sheet SHEET                           a sheet as text
-  reprint TAPE -d FOLDER                a tape to galley, DVI file and sheet, with a summary
-  plot TAPE|GALLEY|SHEET [-o SVG]       a picture of the pages
+  reprint TAPE... -d FOLDER             a tape to galley, DVI file and sheet, with a summary
+  plot TAPE|GALLEY|SHEET... [-o SVG]    a picture of the pages
   index PATH... -d FOLDER               pictures of many, and a page of HTML that shows them small
-  punch GALLEY [-o TAPE]                a galley to a tape of the 8-font machine
-  convert --to new|old GALLEY           an old galley to a new one, or back
+  punch GALLEY... [-o TAPE]             a galley to a tape of the 8-font machine
+  convert --to new|old GALLEY...        an old galley to a new one, or back
   compare TAPE|GALLEY TAPE|GALLEY       do two set the same pages, and where do they differ?
   report PATH... [--tapes]              many tapes in numbers
 
@@ -65,16 +76,25 @@ that of another file only with --force.
 Standard error. A line tells of each output file; -q leaves it out, and hints, and -v tells
 each step and its time. Refusals and failures are always told.
 
+Many at once. Where ... stands after an input, there may be many, and folders among them: the
+files in a folder and in those below it, by name, but for names that start with a dot; with
+--ending .tape only those whose names end so. The outputs go to the folder of -d, and stand
+there as the inputs stand in theirs; without -d those of files stand beside them. If two inputs
+would write one output, nothing is done. Each input is done by itself, on -j N threads, or on as
+many as there are processors. Standard output has a line for each, in the inputs' order:
+accepted, and what it holds; refused, with number and place; or why it could not be read or
+written. The last line counts them. With --dry-run no file is written.
+
 Exit status. 0: accepted, also where whoever reads standard output leaves early. 1: refused,
 or two inputs differ; standard error says why, with the refusal's number and its place.
-2: wrong usage, or a file that cannot be read or written.
+2: wrong usage, or a file that cannot be read or written. Of many inputs the worst counts.
 ";
 
 pub const READ: &str = "\
 Reads a C/A/T tape and writes its galley: every character with its place, font and size, and
 every cut between pages.
 
-Usage: spatecanter read TAPE [--machine 4|8] [--pieces N] [-o GALLEY] [--force]
+Usage: spatecanter read TAPE... [--machine 4|8] [--pieces N] [-o GALLEY|-d FOLDER] [--force]
 
 The machine that the tape was made for has 4 or 8 fonts; without --machine, 8. The tape does
 not say which, but one without a tilt code (4E, 4F) may be of 4 fonts: a hint says so, unless
@@ -117,7 +137,7 @@ there already.
 pub const CHECK: &str = "\
 Says whether a file is a galley, and how many characters it has.
 
-Usage: spatecanter check GALLEY
+Usage: spatecanter check GALLEY...
 
 Numbers:
   40  the galley is longer than 11,534,343 bytes; at 0
@@ -180,7 +200,7 @@ output, or to the file that -o names. Refusals are those of read and check.
 pub const SET: &str = "\
 Writes a galley as a DVI file. Each cut ends a page and starts the next.
 
-Usage: spatecanter set GALLEY [--edition 1980|2] [-o DVI] [--force]
+Usage: spatecanter set GALLEY... [--edition 1980|2] [-o DVI|-d FOLDER] [--force]
 
 The file is of the edition of 1980; with --edition 2 it is of the second, with identification
 2, as DVItype describes it. There a unit is 1/432 inch, and places are exact; the fonts are
@@ -197,7 +217,8 @@ there already.
 pub const SHOW: &str = "\
 Reads a DVI file of 1980 and writes what it shows, as a sheet: pages, characters and rules.
 
-Usage: spatecanter show DVI [--widths FILE] [--plain|--check] [-o SHEET] [--force]
+Usage: spatecanter show DVI... [--widths FILE] [--plain|--check] [-o SHEET|-d FOLDER]
+                        [--force]
 
 The widths are 32-bit numbers, high byte first, 128 for each of the fonts 0, 1, ..., of at
 most 65,536 fonts. Without them no character has a width, and the commands 0 to 127 are
@@ -229,7 +250,7 @@ Makes the galley whose targets a DVI file of 1980 shows, whoever made or edited 
 the galley of a DVI file of the second edition, which only set made. Either way a file that
 set made gives back its galley, byte for byte.
 
-Usage: spatecanter back DVI [--widths FILE] [-o GALLEY] [--force]
+Usage: spatecanter back DVI... [--widths FILE] [-o GALLEY|-d FOLDER] [--force]
 
 The file's first byte tells its edition: 247 (F7) begins the second.
 
@@ -256,7 +277,7 @@ pub const XGP: &str = "\
 Reads a file of the Xerox Graphics Printer's character mode and writes what it shows, as a
 sheet in dots and scan lines.
 
-Usage: spatecanter xgp FILE --spacing N --widths FILE [-o SHEET] [--force]
+Usage: spatecanter xgp XGP... --spacing N --widths FILE [-o SHEET|-d FOLDER] [--force]
 
 The file does not say its line spacing: N scan lines, 0 to 65,535. The widths are 32-bit
 numbers, high byte first, in dots, none below 0: 128 for each of the fonts 0 to 3.
@@ -310,7 +331,7 @@ The text goes to standard output.
 pub const REPRINT: &str = "\
 Takes a tape all the way: TAPE to TAPE.galley, TAPE.dvi and TAPE.sheet in a folder.
 
-Usage: spatecanter reprint TAPE [--machine 4|8] [--fonts NAMES] [--edition 1980|2]
+Usage: spatecanter reprint TAPE... [--machine 4|8] [--fonts NAMES] [--edition 1980|2]
                            -d FOLDER [--force]
 
 Prints a summary: characters, pages, the farthest x and the greatest height over all pages,
@@ -337,9 +358,9 @@ pub const PLOT: &str = "\
 Draws the pages below one another as an SVG picture: a small mark for each character at its
 place, without letter shapes, and the rules of a sheet.
 
-Usage: spatecanter plot TAPE|GALLEY|SHEET [--machine 4|8] [--dots N] [--fonts NAMES]
+Usage: spatecanter plot TAPE|GALLEY|SHEET... [--machine 4|8] [--dots N] [--fonts NAMES]
                         [--codes FILE] [--page N] [--from HEIGHT] [--to HEIGHT] [--split]
-                        [-o SVG] [--force]
+                        [-o SVG|-d FOLDER] [--force]
 
 Font 1 is dark blue and upright, font 2 orange and slanted, other fonts light grey; marks of
 double sizes are larger, and characters that stand on another are framed. The legend tells
@@ -377,7 +398,7 @@ Draws many tapes, galleys and sheets, and writes a page of HTML that shows their
 small, each with a link to the whole.
 
 Usage: spatecanter index PATH... [--machine 4|8] [--list FILE] [--fonts NAMES] [--codes FILE]
-                         -d FOLDER [--force]
+                         [--ending ENDING] -d FOLDER [--force]
 
 A path is a file, or a folder: all files in it and in the folders below are taken, but for
 names that start with a dot. The pictures are those of plot, with the same options. That of
@@ -394,7 +415,7 @@ pub const PUNCH: &str = "\
 Punches a tape of the 8-font machine from a galley, to set its pages again. Reading the tape
 gives the same galley, byte for byte.
 
-Usage: spatecanter punch GALLEY [-o TAPE] [--force]
+Usage: spatecanter punch GALLEY... [-o TAPE|-d FOLDER] [--force]
 
 The tape begins, and goes on after each cut, with initialize and an escape of 16. For each
 character it has what the machine lacks of rail, mag, tilt, half and size, then the motions
@@ -411,7 +432,7 @@ pub const CONVERT: &str = "\
 Writes a galley of the old form in the new form, or back. Each character keeps its x, height,
 font and number; order, cuts and End stay. There and back gives the same bytes.
 
-Usage: spatecanter convert --to new|old GALLEY [-o GALLEY] [--force]
+Usage: spatecanter convert --to new|old GALLEY... [-o GALLEY|-d FOLDER] [--force]
 
 The forms differ in the field of a character:
   old  01 00 06, x (2 bytes), height (2), font number (1), character (1)
@@ -452,13 +473,13 @@ Reads many tapes and tells in numbers what they hold. Nothing is written but the
 standard output.
 
 Usage: spatecanter report PATH... [--machine 4|8] [--list FILE] [--format text|csv|json]
-                          [--tapes]
+                          [--tapes] [--ending ENDING]
 
 A path is a tape, or a folder: all files in it and in the folders below are tapes, but for
-names that start with a dot. The machine of all is that of --machine, without it 8. A list has a line for each tape, with its path and
-its machine, as in shelf/3.tape 4; empty lines and lines that start with # count for nothing,
-and paths are as on the command line. With --list no other path is needed; the tapes of the
-list come first.
+names that start with a dot; with --ending only those whose names end so. The machine of all is
+that of --machine, without it 8. A list has a line for each tape, with its path and its machine,
+as in shelf/3.tape 4; empty lines and lines that start with # count for nothing, and paths are
+as on the command line. With --list no other path is needed; the tapes of the list come first.
 
 The report has the tapes accepted, and refused under each number of read (50 for a machine in
 the list other than 4 or 8); the characters of accepted tapes, for each font and size; and

@@ -1,16 +1,16 @@
 //! An index of many tapes, galleys and sheets: a page of HTML with a small picture of each.
 
 use crate::arguments::Arguments;
-use crate::commands::{drawn, INDEX_USAGE};
+use crate::commands::{drawn, Drawn, INDEX_USAGE};
 use crate::failure::Failure;
+use crate::folders::{self, Choice};
 use crate::loudness::tell;
-use crate::output::{self, Draft, Place};
+use crate::output::{self, Draft, Place, Taken};
 use crate::plot::{escaped, Picture, Source};
 use crate::text::{counted, grouped};
 use crate::{options, tapes};
 use spatecanter::{Machine, Refusal};
-use std::collections::{HashMap, HashSet};
-use std::ffi::OsStr;
+use std::collections::HashMap;
 use std::io::{self, Write};
 use std::os::unix::ffi::OsStrExt;
 use std::path::{Component, Path, PathBuf};
@@ -45,7 +45,8 @@ pub fn write(arguments: &Arguments) -> Result<(), Failure> {
     };
     let codes = options::codes(arguments)?;
     let entries = entries(arguments, folder)?;
-    let index = place(arguments, folder.join("index.html"))?;
+    let inputs = entries.iter().map(|entry| entry.file.path.as_os_str()).chain(arguments.lent_files());
+    let index = Place::file(folder.join("index.html"), &Taken::of(inputs), arguments.force)?;
     let mut drafts = Vec::new();
     let mut cards = Vec::new();
     for entry in &entries {
@@ -83,7 +84,9 @@ fn source(file: &File, arguments: &Arguments) -> Result<Source, Failure> {
             return Err(Failure::Refused(format!("{}: {}", file.path.display(), Refusal::NoMachine)));
         }
     };
-    drawn(file.path.as_os_str(), machine, arguments)
+    let Drawn { source, remark, .. } = drawn(file.path.as_os_str(), machine, arguments)?;
+    remark.iter().for_each(|remark| remark.tell(&source.name));
+    Ok(source)
 }
 
 /// The tapes of --list, then the inputs.
@@ -94,8 +97,11 @@ fn files(arguments: &Arguments, folder: &Path) -> Result<Vec<File>, Failure> {
         let name = path.components().filter(|part| matches!(part, Component::Normal(_))).collect();
         files.push(File { path, name, fonts: Some(tape.machine) });
     }
-    let inputs = tapes::below(&arguments.inputs, folder)?;
-    files.extend(inputs.into_iter().map(|(path, name)| File { path, name, fonts: None }));
+    let choice = Choice { ending: arguments.ending.as_deref(), outputs: Some(folder) };
+    for found in arguments.inputs.iter().flat_map(|input| folders::find(Path::new(input), &choice)) {
+        let found = found.readable()?;
+        files.push(File { name: found.name(), path: found.path, fonts: None });
+    }
     if files.is_empty() {
         return Err(Failure::File("there is no file in what is named".into()));
     }
@@ -106,7 +112,7 @@ fn files(arguments: &Arguments, folder: &Path) -> Result<Vec<File>, Failure> {
 /// No place is an input's, and no two are one.
 fn entries(arguments: &Arguments, folder: &Path) -> Result<Vec<Entry>, Failure> {
     let files = files(arguments, folder)?;
-    let inputs: HashSet<PathBuf> = files.iter().filter_map(|file| file.path.canonicalize().ok()).collect();
+    let taken = Taken::of(files.iter().map(|file| file.path.as_os_str()).chain(arguments.lent_files()));
     let mut named: HashMap<PathBuf, PathBuf> = HashMap::new();
     let mut entries = Vec::new();
     for file in files {
@@ -114,26 +120,12 @@ fn entries(arguments: &Arguments, folder: &Path) -> Result<Vec<Entry>, Failure> 
             let what = format!("{} and {} have one name in the index", other.display(), file.path.display());
             return Err(Failure::Usage(what));
         }
-        let in_folder = |ending: &str| {
-            let output = folder.join(with_ending(&file.name, ending));
-            match output.canonicalize() {
-                Ok(it) if inputs.contains(&it) => Err(is_input(&output)),
-                _ => place(arguments, output),
-            }
-        };
+        let in_folder =
+            |ending: &str| Place::file(folder.join(with_ending(&file.name, ending)), &taken, arguments.force);
         let places = [in_folder("svg")?, in_folder("small.svg")?];
         entries.push(Entry { file, places });
     }
     Ok(entries)
-}
-
-fn is_input(output: &Path) -> Failure {
-    Failure::Usage(format!("{} is an input, and is not written over", output.display()))
-}
-
-fn place(arguments: &Arguments, path: PathBuf) -> Result<Place, Failure> {
-    let lent: Vec<&OsStr> = arguments.codes.as_deref().into_iter().collect();
-    Place::file(path, &lent, arguments.force)
 }
 
 fn with_ending(name: &Path, ending: &str) -> PathBuf {

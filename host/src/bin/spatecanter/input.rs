@@ -21,12 +21,7 @@ pub fn read_while(
     mut looks_good: impl FnMut(&[u8]) -> bool,
 ) -> Result<Vec<u8>, Failure> {
     progress::during(&format!("reading {}", shown(name)), || read_pieces(name, limit, &mut looks_good))
-        .map_err(|error| unread(name, &error))
-}
-
-/// Reads one of many inputs, of which none is told by itself.
-pub fn read_one_of_many(name: &OsStr, limit: usize) -> Result<Vec<u8>, Failure> {
-    read_pieces(name, limit, &mut |_| true).map_err(|error| unread(name, &error))
+        .map_err(|error| Failure::File(unread(name, &error)))
 }
 
 fn read_pieces(
@@ -40,9 +35,9 @@ fn read_pieces(
     Ok(bytes)
 }
 
-/// An input or a folder that cannot be read.
-pub fn unread(name: &OsStr, error: &io::Error) -> Failure {
-    Failure::File(format!("cannot read {}: {error}", shown(name)))
+/// That an input or a folder cannot be read.
+pub fn unread(name: &OsStr, error: &io::Error) -> String {
+    format!("cannot read {}: {error}", shown(name))
 }
 
 /// Reads an input as it comes, and has `take` take each piece of at most so many bytes.
@@ -51,7 +46,7 @@ pub fn each_piece(
     length: usize,
     mut take: impl FnMut(&[u8]) -> Result<(), Failure>,
 ) -> Result<(), Failure> {
-    let failed = |error: io::Error| Failure::File(format!("cannot read {}: {error}", shown(name)));
+    let failed = |error: io::Error| Failure::File(unread(name, &error));
     let mut input = open(name).map_err(failed)?;
     let mut piece = vec![0; length];
     loop {

@@ -23,7 +23,7 @@ pub fn page() -> String {
     page.push_str(".SH COMMANDS\n");
     for command in &COMMANDS {
         let _ = writeln!(page, ".SS {}", command.name);
-        page.push_str(&roff(command.help));
+        page.push_str(&roff(&help::text(command)));
     }
     options(&mut page);
     for (title, text) in sections.into_iter().filter_map(titled) {

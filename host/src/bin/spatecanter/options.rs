@@ -9,9 +9,13 @@ use crate::failure::Failure;
 use crate::marks::Measure;
 use crate::report::Format;
 use crate::text::grouped;
+use crate::threads;
 use spatecanter::{Form, Machine, NoMachine, HEIGHT_LIMIT, TAPE_LIMIT};
 use std::ffi::OsStr;
 use std::ops::{Range, RangeInclusive};
+
+/// The most that -j allows.
+const MOST_THREADS: usize = 1_024;
 
 /// Quanta in an inch.
 const INCH: f64 = 144.0;
@@ -37,6 +41,20 @@ pub fn pieces(arguments: &Arguments) -> Result<Option<usize>, Failure> {
             "--pieces {} is no length of a piece: it is a number of bytes, 1 to {}",
             word.to_string_lossy(),
             grouped(TAPE_LIMIT)
+        ))),
+    }
+}
+
+/// How many threads -j allows: as many as there are processors, without it.
+pub fn threads(arguments: &Arguments) -> Result<usize, Failure> {
+    let Some(word) = &arguments.threads else {
+        return Ok(threads::of_all_processors());
+    };
+    match word.to_str().and_then(|text| text.parse().ok()) {
+        Some(threads) if (1..=MOST_THREADS).contains(&threads) => Ok(threads),
+        _ => Err(Failure::Usage(format!(
+            "-j {} is no number of threads: it is 1 to {MOST_THREADS}",
+            word.to_string_lossy()
         ))),
     }
 }

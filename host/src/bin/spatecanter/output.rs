@@ -10,6 +10,7 @@ use std::fs::{self, File, OpenOptions};
 use std::io::{self, stdout, BufWriter, IsTerminal, Stdout, Write};
 use std::os::unix::fs::MetadataExt;
 use std::path::{Path, PathBuf};
+use std::sync::atomic::{AtomicUsize, Ordering::Relaxed};
 use std::sync::{Mutex, MutexGuard, PoisonError};
 
 /// The name of an output that is not named: the input's whole name with an ending after it, beside the input
@@ -36,17 +37,18 @@ pub enum Place {
 }
 
 impl Place {
-    /// The place that -o names, or one named after the first input.
+    /// The place that -o names, or one named after the input.
     pub fn choose(
         given: Option<&OsStr>,
-        inputs: &[&OsStr],
+        input: &OsStr,
+        taken: &Taken,
         ending: &str,
         force: bool,
     ) -> Result<Place, Failure> {
         match given {
             Some(name) if name == "-" || name == "/dev/stdout" => Ok(Place::Standard),
-            Some(name) => Place::file(name.into(), inputs, force),
-            None if inputs[0] != "-" => Place::file(named_after(inputs[0], None, ending), inputs, force),
+            Some(name) => Place::file(name.into(), taken, force),
+            None if input != "-" => Place::file(named_after(input, None, ending), taken, force),
             None if stdout().is_terminal() => {
                 Err(Failure::Usage(format!("no {ending} goes to a terminal: name a file with -o")))
             }
@@ -55,16 +57,31 @@ impl Place {
     }
 
     /// A file that is none of the inputs, and that is not there yet unless it may be written over.
-    pub fn file(path: PathBuf, inputs: &[&OsStr], force: bool) -> Result<Place, Failure> {
-        for input in inputs {
-            let input = if *input == "-" { OsStr::new("/dev/stdin") } else { input };
-            if is_same_file(Path::new(input), &path) {
-                let what = format!("{} is an input, and is not written over", path.display());
-                return Err(Failure::Usage(what));
-            }
+    pub fn file(path: PathBuf, taken: &Taken, force: bool) -> Result<Place, Failure> {
+        let place = Place::none_of(taken, path, force)?;
+        place.may_be_written()?;
+        Ok(place)
+    }
+
+    /// A file that is none of the inputs.
+    pub fn none_of(taken: &Taken, path: PathBuf, force: bool) -> Result<Place, Failure> {
+        if taken.has(&path) {
+            let what = format!("{} is an input, and is not written over", path.display());
+            return Err(Failure::Usage(what));
         }
-        may_be_written(&path, force)?;
         Ok(Place::File { path, force })
+    }
+
+    /// Devices and pipes may, files only by --force, and folders never.
+    pub fn may_be_written(&self) -> Result<(), Failure> {
+        let Place::File { path, force } = self else {
+            return Ok(());
+        };
+        match fs::metadata(path) {
+            Ok(old) if old.is_dir() => Err(Failure::File(format!("{} is a folder", path.display()))),
+            Ok(old) if old.is_file() && !force => Err(exists(path)),
+            _ => Ok(()),
+        }
     }
 
     /// Says on standard error what was written, if it went to a file.
@@ -72,13 +89,6 @@ impl Place {
         if let Place::File { path, .. } = self {
             loudness::tell(&format!("{}: {what}", path.display()));
         }
-    }
-
-    /// Writes a whole output.
-    pub fn write(&self, bytes: &[u8]) -> Result<(), Failure> {
-        let mut draft = Draft::start(self)?;
-        draft.fill(|out| out.write_all(bytes))?;
-        finish(vec![draft])
     }
 
     fn failed(&self, error: io::Error) -> Failure {
@@ -100,23 +110,26 @@ impl Place {
 
 /// Writes text to standard output.
 pub fn print(text: &str) -> Result<(), Failure> {
-    Place::Standard.write(text.as_bytes())
+    let mut out = stdout().lock();
+    out.write_all(text.as_bytes()).and_then(|()| out.flush()).map_err(|error| Place::Standard.failed(error))
 }
 
-fn is_same_file(one: &Path, other: &Path) -> bool {
-    match (fs::metadata(one), fs::metadata(other)) {
-        (Ok(one), Ok(other)) => one.is_file() && (one.dev(), one.ino()) == (other.dev(), other.ino()),
-        _ => false,
+/// The files that are inputs, by device and number, under whatever names.
+pub struct Taken(BTreeSet<(u64, u64)>);
+
+impl Taken {
+    pub fn of<'a>(inputs: impl Iterator<Item = &'a OsStr>) -> Taken {
+        let named = inputs.map(|input| if input == "-" { OsStr::new("/dev/stdin") } else { input });
+        Taken(named.filter_map(|input| file_number(Path::new(input))).collect())
+    }
+
+    fn has(&self, path: &Path) -> bool {
+        file_number(path).is_some_and(|number| self.0.contains(&number))
     }
 }
 
-/// Devices and pipes may, files only by --force, and folders never.
-fn may_be_written(path: &Path, force: bool) -> Result<(), Failure> {
-    match fs::metadata(path) {
-        Ok(old) if old.is_dir() => Err(Failure::File(format!("{} is a folder", path.display()))),
-        Ok(old) if old.is_file() && !force => Err(exists(path)),
-        _ => Ok(()),
-    }
+fn file_number(path: &Path) -> Option<(u64, u64)> {
+    fs::metadata(path).ok().filter(|it| it.is_file()).map(|it| (it.dev(), it.ino()))
 }
 
 fn exists(path: &Path) -> Failure {
@@ -209,12 +222,16 @@ pub fn finish(mut drafts: Vec<Draft>) -> Result<(), Failure> {
             }
         }
     }
-    for (beside, replaced) in put {
-        replaced.map(fs::remove_file);
-        // The name too reaches the disk, where the system can do that.
-        let _ = File::open(folder_of(&beside.path)).and_then(|folder| folder.sync_all());
+    for (beside, replaced) in &put {
+        replaced.as_ref().map(fs::remove_file);
+        unfinished.folders.retain(|folder| !beside.path.starts_with(folder));
     }
-    unfinished.folders.clear();
+    drop(unfinished);
+    let folders: BTreeSet<&Path> = put.iter().map(|(beside, _)| folder_of(&beside.path)).collect();
+    for folder in folders {
+        // The names too reach the disk, where the system can do that.
+        let _ = File::open(folder).and_then(|folder| folder.sync_all());
+    }
     Ok(())
 }
 
@@ -315,6 +332,18 @@ fn through_links(path: &Path) -> PathBuf {
     path
 }
 
+/// Where a file of this name stands or would stand, the same for all names of one place.
+pub fn standing_place(path: &Path) -> PathBuf {
+    let path = through_links(path);
+    for folder in path.ancestors().skip(1) {
+        let named = if folder.as_os_str().is_empty() { Path::new(".") } else { folder };
+        if let (Ok(real), Ok(rest)) = (named.canonicalize(), path.strip_prefix(folder)) {
+            return real.join(rest);
+        }
+    }
+    path
+}
+
 fn folder_of(path: &Path) -> &Path {
     match path.parent() {
         Some(folder) if !folder.as_os_str().is_empty() => folder,
@@ -322,14 +351,16 @@ fn folder_of(path: &Path) -> &Path {
     }
 }
 
-/// Makes something in a folder under a name that nothing has: a run that was killed may have left some.
+/// Makes something in a folder under a name that nothing has, for a run that was killed may have left some, and
+/// that nothing had in this run: a name stands for one file alone.
 fn under_new_name<T>(folder: &Path, make: impl Fn(&Path) -> io::Result<T>) -> io::Result<(T, PathBuf)> {
-    let mut number = 0;
+    static NUMBER: AtomicUsize = AtomicUsize::new(0);
     loop {
+        let number = NUMBER.fetch_add(1, Relaxed);
         let path = folder.join(format!(".spatecanter.{}.{number}.part", std::process::id()));
         match make(&path) {
             Ok(made) => return Ok((made, path)),
-            Err(error) if error.kind() == io::ErrorKind::AlreadyExists => number += 1,
+            Err(error) if error.kind() == io::ErrorKind::AlreadyExists => {}
             Err(error) => return Err(error),
         }
     }

@@ -2,8 +2,9 @@
 
 use crate::loudness::{self, Loudness};
 use std::io::{stderr, IsTerminal, Write};
+use std::sync::atomic::{AtomicBool, Ordering::Relaxed};
 use std::sync::mpsc::{channel, Receiver, RecvTimeoutError};
-use std::sync::{Mutex, PoisonError};
+use std::sync::{Mutex, MutexGuard, PoisonError};
 use std::thread;
 use std::time::{Duration, Instant};
 
@@ -26,37 +27,66 @@ pub fn during<T>(what: &str, work: impl FnOnce() -> T) -> T {
     while_reaching(what, |_| work())
 }
 
-/// The same for work that tells how far it is.
+/// The same for work that says how far it is.
 pub fn while_reaching<T>(what: &str, work: impl FnOnce(&Reached) -> T) -> T {
-    let (reached, start) = (Reached::default(), Instant::now());
-    let result = if loudness::is(Loudness::Quiet) || !stderr().is_terminal() {
-        work(&reached)
+    let reached = Reached::default();
+    while_telling(what, &|| reached.words(), || work(&reached))
+}
+
+/// The same for work of which it can be asked how far it is.
+pub fn while_telling<T>(what: &str, words: &(dyn Fn() -> String + Sync), work: impl FnOnce() -> T) -> T {
+    let start = Instant::now();
+    let result = if loudness::is(Loudness::Quiet) || !stderr().is_terminal() || IS_TOLD.swap(true, Relaxed) {
+        work()
     } else {
-        while_told(what, &reached, work)
+        let result = while_told(what, words, work);
+        IS_TOLD.store(false, Relaxed);
+        result
     };
-    loudness::tell_step(&format!("{what}: {:.3} s{}", start.elapsed().as_secs_f64(), reached.words()));
+    loudness::tell_step(&format!("{what}: {:.3} s{}", start.elapsed().as_secs_f64(), words()));
     result
 }
 
-fn while_told<T>(what: &str, reached: &Reached, work: impl FnOnce(&Reached) -> T) -> T {
+/// Whether some work is told; of work that is part of it nothing is.
+static IS_TOLD: AtomicBool = AtomicBool::new(false);
+
+fn while_told<T>(what: &str, words: &(dyn Fn() -> String + Sync), work: impl FnOnce() -> T) -> T {
     thread::scope(|scope| {
         let (working, watched) = channel();
-        scope.spawn(move || tell(what, reached, &watched));
-        let result = work(reached);
+        scope.spawn(move || tell(what, words, &watched));
+        let result = work();
         drop(working);
         result
     })
 }
 
 /// Tells until the other end is dropped, then clears the line.
-fn tell(what: &str, reached: &Reached, watched: &Receiver<()>) {
+fn tell(what: &str, words: &dyn Fn() -> String, watched: &Receiver<()>) {
     let start = Instant::now();
-    let mut told = false;
     while watched.recv_timeout(Duration::from_secs(1)) == Err(RecvTimeoutError::Timeout) {
-        let _ = write!(stderr(), "\r\x1b[K{what}: {} s{}", start.elapsed().as_secs(), reached.words());
-        told = true;
+        let mut line = line();
+        let _ = write!(stderr(), "\r\x1b[K{what}: {} s{}", start.elapsed().as_secs(), words());
+        line.is_there = true;
     }
-    if told {
+    drop(cleared());
+}
+
+/// The line on the terminal that tells how far the work is.
+pub struct Line {
+    is_there: bool,
+}
+
+static LINE: Mutex<Line> = Mutex::new(Line { is_there: false });
+
+fn line() -> MutexGuard<'static, Line> {
+    LINE.lock().unwrap_or_else(PoisonError::into_inner)
+}
+
+/// The line, cleared until it is told again; that waits as long as this is held.
+pub fn cleared() -> MutexGuard<'static, Line> {
+    let mut line = line();
+    if std::mem::take(&mut line.is_there) {
         let _ = write!(stderr(), "\r\x1b[K");
     }
+    line
 }

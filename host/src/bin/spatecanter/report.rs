@@ -1,17 +1,15 @@
 //! The report over many tapes, and how it is written.
 
+use crate::done::Done;
 use crate::failure::Failure;
-use crate::input::{read_one_of_many, shown};
-use crate::progress::{self, Reached};
+use crate::input::{self, shown};
+use crate::progress;
 use crate::tapes::Tape;
 use crate::text::{counted, grouped};
+use crate::threads;
 use spatecanter::galley::Character;
 use spatecanter::{Refusal, Report, REPORT_LIMIT, TAPE_LIMIT};
 use std::io::{self, Write};
-use std::sync::atomic::{AtomicUsize, Ordering::Relaxed};
-use std::sync::{Mutex, PoisonError};
-use std::thread;
-use std::time::Instant;
 
 /// How many tapes a thread takes at a time.
 const PART: usize = 16;
@@ -44,50 +42,41 @@ impl Counted<'_> {
             let full = Refusal::ReportFull;
             return Err(Failure::Refused(format!("{}: {full}", counted(tapes.len(), "tape"))));
         }
-        let mut report = Report::new();
-        let mut findings = Vec::new();
-        for part in parts(tapes, with_findings) {
-            let part = part?;
-            report.join(&part.report).expect("there are not so many tapes");
-            findings.extend(part.findings);
-        }
+        let Part { report, findings } = joined_parts(tapes, with_findings)?;
         Ok(Counted { report, tapes, findings: with_findings.then_some(findings) })
     }
 }
 
-/// The parts that were counted, in the tapes' order; after one that failed there may be gaps.
-fn parts(tapes: &[Tape], with_findings: bool) -> Vec<Result<Part, Failure>> {
-    let threads = thread::available_parallelism().map_or(1, usize::from);
+/// All parts joined, or why one cannot be read.
+fn joined_parts(tapes: &[Tape], with_findings: bool) -> Result<Part, Failure> {
+    let mut whole = Ok(Part { report: Report::new(), findings: vec![] });
     let parts: Vec<&[Tape]> = tapes.chunks(PART).collect();
-    let slots: Vec<Mutex<Option<Result<Part, Failure>>>> = parts.iter().map(|_| Mutex::new(None)).collect();
-    let next = AtomicUsize::new(0);
-    let done = Done::none_of(tapes.len());
-    progress::while_reaching("counting", |reached| {
-        let work = || loop {
-            let index = next.fetch_add(1, Relaxed);
-            let Some(part) = parts.get(index) else {
-                break;
-            };
-            let result = count_part(part, with_findings, &done, reached);
-            if result.is_err() {
-                next.store(parts.len(), Relaxed);
+    let done = Done::none_of(tapes.len(), "tape");
+    let count = |part: &&[Tape]| count_part(part, with_findings, &done);
+    progress::while_telling("counting", &|| done.words(), || {
+        threads::in_order(threads::of_all_processors(), &parts, count, |part| {
+            match (&mut whole, part) {
+                (Ok(whole), Ok(part)) => whole.join(part),
+                (_, part) => whole = part,
             }
-            *slots[index].lock().unwrap_or_else(PoisonError::into_inner) = Some(result);
-        };
-        thread::scope(|scope| {
-            for _ in 0..threads.min(parts.len()) {
-                scope.spawn(work);
-            }
+            whole.is_ok()
         });
     });
-    slots.into_iter().filter_map(|slot| slot.into_inner().unwrap_or_else(PoisonError::into_inner)).collect()
+    whole
 }
 
-fn count_part(tapes: &[Tape], with_findings: bool, done: &Done, reached: &Reached) -> Result<Part, Failure> {
+impl Part {
+    fn join(&mut self, other: Part) {
+        self.report.join(&other.report).expect("there are not so many tapes");
+        self.findings.extend(other.findings);
+    }
+}
+
+fn count_part(tapes: &[Tape], with_findings: bool, done: &Done) -> Result<Part, Failure> {
     let mut report = Report::new();
     let mut findings = Vec::new();
     for tape in tapes {
-        let bytes = read_one_of_many(&tape.name, TAPE_LIMIT)?;
+        let bytes = input::read(&tape.name, TAPE_LIMIT)?;
         let before = report.characters();
         report.count(&bytes, tape.machine).expect("a part has few tapes");
         if with_findings {
@@ -95,45 +84,7 @@ fn count_part(tapes: &[Tape], with_findings: bool, done: &Done, reached: &Reache
         }
         done.add(bytes.len());
     }
-    reached.set(done.words());
     Ok(Part { report, findings })
-}
-
-/// How many of the tapes are done, their bytes, and since when.
-struct Done {
-    all: usize,
-    tapes: AtomicUsize,
-    bytes: AtomicUsize,
-    start: Instant,
-}
-
-impl Done {
-    fn none_of(all: usize) -> Done {
-        Done { all, tapes: AtomicUsize::new(0), bytes: AtomicUsize::new(0), start: Instant::now() }
-    }
-
-    fn add(&self, bytes: usize) {
-        self.tapes.fetch_add(1, Relaxed);
-        self.bytes.fetch_add(bytes, Relaxed);
-    }
-
-    /// A bar, the tapes done, their speed, and the time left.
-    fn words(&self) -> String {
-        const WIDTH: usize = 20;
-        let (tapes, bytes) = (self.tapes.load(Relaxed), self.bytes.load(Relaxed));
-        let full = WIDTH * tapes / self.all;
-        let seconds = self.start.elapsed().as_secs_f64();
-        let left = seconds * (self.all - tapes) as f64 / tapes as f64;
-        format!(
-            " [{}{}] {} of {}, {:.0} MB/s, {} s left",
-            "#".repeat(full),
-            ".".repeat(WIDTH - full),
-            grouped(tapes),
-            counted(self.all, "tape"),
-            bytes as f64 / seconds / 1e6,
-            grouped(left.ceil() as usize)
-        )
-    }
 }
 
 /// What reading the tape answers where there is no room: if it is good, the bytes needed, which are 11 for

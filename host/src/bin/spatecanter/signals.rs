@@ -1,4 +1,5 @@
-//! Signals that end a run: SIGHUP, SIGINT and SIGTERM.
+//! Signals that end a run: SIGHUP, SIGINT, SIGQUIT, SIGTERM and SIGXCPU. SIGXFSZ ends none: writing past the
+//! longest file that is allowed fails instead, as on a full disk.
 //!
 //! std has no signals, but links the C library, which has them; these are the few functions needed, as Linux
 //! declares them. The signals are blocked in every thread and taken by one that waits for them, so that
@@ -8,7 +9,8 @@ use std::ffi::c_int;
 use std::ptr::null_mut;
 use std::thread;
 
-const SIGNALS: [c_int; 3] = [1, 2, 15];
+const SIGNALS: [c_int; 5] = [1, 2, 3, 15, 24];
+const SIGXFSZ: c_int = 25;
 
 const SIG_DFL: usize = 0;
 const SIG_IGN: usize = 1;
@@ -33,8 +35,11 @@ extern "C" {
 /// thread.
 pub fn tidy_before_the_end(tidy: fn()) {
     let set = awaited();
-    // SAFETY: the set is a live sigset_t that was filled by the C library.
-    unsafe { pthread_sigmask(SIG_BLOCK, &set, null_mut()) };
+    // SAFETY: the handler needs no function; the set is a live sigset_t that was filled by the C library.
+    unsafe {
+        signal(SIGXFSZ, SIG_IGN);
+        pthread_sigmask(SIG_BLOCK, &set, null_mut());
+    }
     thread::spawn(move || {
         let mut which = 0;
         // SAFETY: the set and the number are live; the signals of the set are blocked in all threads.

@@ -2,9 +2,10 @@
 
 use crate::arguments::Arguments;
 use crate::codes::Codes;
+use crate::each;
 use crate::failure::Failure;
 use crate::loudness::tell;
-use crate::output::{self, named_after, Draft, Place};
+use crate::output::{self, named_after, Draft, Place, Taken};
 use crate::plot::{Picture, Source};
 use crate::text::counted;
 use std::ffi::OsString;
@@ -20,8 +21,14 @@ pub fn base(arguments: &Arguments) -> Result<PathBuf, Failure> {
     if arguments.from.is_some() || arguments.to.is_some() {
         return Err(Failure::Usage("--split draws whole pages: --from and --to do not go with it".into()));
     }
+    if arguments.dry_run {
+        return Err(Failure::Usage("--split and --dry-run do not go together".into()));
+    }
     match arguments.output.as_deref() {
-        None if arguments.input != "-" => Ok(named_after(&arguments.input, None, "svg")),
+        Some(_) if arguments.folder.is_some() => Err(each::both_given()),
+        None if arguments.input != "-" => {
+            Ok(named_after(&arguments.input, arguments.folder.as_deref(), "svg"))
+        }
         Some(name) if name != "-" => Ok(name.into()),
         _ => Err(Failure::Usage("--split writes files: name them with -o, as in -o page-%d.svg".into())),
     }
@@ -35,9 +42,9 @@ pub fn draw(
     base: &Path,
     arguments: &Arguments,
 ) -> Result<(), Failure> {
-    let inputs = arguments.read_files();
+    let taken = Taken::of(arguments.read_files());
     let digits = source.pages.len().to_string().len();
-    let place = |page| Place::file(named(base, page + 1, digits), &inputs, arguments.force);
+    let place = |page| Place::file(named(base, page + 1, digits), &taken, arguments.force);
     let places = pages.clone().map(place).collect::<Result<Vec<Place>, Failure>>()?;
     let mut drafts = Vec::new();
     let mut characters = 0;

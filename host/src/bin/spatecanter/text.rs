@@ -43,6 +43,18 @@ pub fn reach(characters: usize, extents: Extents) -> String {
     )
 }
 
+/// How many characters and pages a galley has.
+pub fn characters_and_pages(galley: &Galley) -> String {
+    let (mut characters, mut pages) = (0, 1);
+    for item in galley.items() {
+        match item {
+            Item::Character(_) => characters += 1,
+            Item::Cut => pages += 1,
+        }
+    }
+    format!("{}, {}", counted(characters, "character"), counted(pages, "page"))
+}
+
 /// Lists a galley.
 pub fn list_galley(out: &mut dyn Write, galley: &Galley) -> io::Result<()> {
     writeln!(out, "x y font size char")?;

@@ -2,35 +2,32 @@
 
 use crate::arguments::Arguments;
 use crate::commands::{widths, XGP_USAGE};
+use crate::each::{self, Made, Told};
 use crate::failure::Failure;
-use crate::output::Place;
 use crate::text::{counted, grouped};
 use crate::{input, progress, refused};
 use spatecanter::sheet::Field;
 use spatecanter::{Refusal, Sheet, XGP_LIMIT};
 use std::collections::BTreeSet;
-use std::ffi::OsStr;
 
 pub fn run(arguments: &Arguments) -> Result<(), Failure> {
     let spacing = spacing(arguments)?;
     let Some(widths_name) = arguments.widths.as_deref() else {
         return Err(missing("the widths of its fonts, --widths FILE"));
     };
-    let inputs: [&OsStr; 2] = [&arguments.input, widths_name];
-    if inputs == ["-", "-"] {
-        return Err(Failure::Usage("the XGP file and the widths cannot both be standard input".into()));
-    }
-    let place = Place::choose(arguments.output.as_deref(), &inputs, "sheet", arguments.force)?;
-    let file = input::read(&arguments.input, XGP_LIMIT)?;
-    let widths = widths(widths_name)?;
-    let sheet = progress::during("reading the XGP file", || spatecanter::read_xgp(&file, spacing, &widths))
-        .map_err(|refusal| {
-        let is_of_widths = matches!(refusal, Refusal::Widths | Refusal::NegativeWidth);
-        refused::input(inputs[usize::from(is_of_widths)], &refusal.in_xgp(&file, spacing, &widths))
-    })?;
-    place.write(&sheet)?;
-    place.tell(&reach(&sheet));
-    Ok(())
+    let widths = widths(arguments, "XGP file")?;
+    each::input(arguments, &["sheet"], &|name| {
+        let file = input::read(name, XGP_LIMIT)?;
+        let read = || spatecanter::read_xgp(&file, spacing, &widths);
+        let sheet = progress::during("reading the XGP file", read).map_err(|refusal| {
+            let is_of_widths = matches!(refusal, Refusal::Widths | Refusal::NegativeWidth);
+            let at_fault = if is_of_widths { widths_name } else { name };
+            refused::input(at_fault, &refusal.in_xgp(&file, spacing, &widths))
+        })?;
+        let reach = reach(&sheet);
+        let holds = reach.lines().next().unwrap_or_default().into();
+        Ok(Made { told: Told::OfOutput(reach), ..Made::new(&file, sheet.into_bytes(), holds) })
+    })
 }
 
 /// The scan lines from one line to the next that --spacing names.

@@ -33,7 +33,7 @@ fn wrong_usage_is_2() {
         &["read", "p3.tape", "-o"],
         &["read", "p3.tape", "-x"],
         &["read", "p3.tape", "-o", "a", "-o", "b"],
-        &["read", "p3.tape", "-d", "out"],
+        &["read", "p3.tape", "-d", "out", "-o", "a"],
         &["read", "p3.tape", "--machine"],
         &["read", "p3.tape", "--machine", "8", "--machine", "8"],
         &["check", "p3.tape", "--machine", "8"],
