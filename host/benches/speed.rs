@@ -315,8 +315,11 @@ fn reprint(galley: &[u8]) -> Contest<'_> {
     let (mut dvi, mut quick_dvi) = (whole.dvi.to_vec(), whole.dvi.to_vec());
     contest_of_one(
         whole.sheet.len(),
-        move |sheet| spatecanter::reprint_into(galley, &[], &mut dvi, sheet).unwrap(),
-        move |sheet| quick::reprint(galley, &[], &mut quick_dvi, sheet),
+        move |sheet| spatecanter::reprint_into(galley, &[], &mut dvi, sheet).unwrap().sheet,
+        move |sheet| {
+            let [number, place, shown, _] = quick::reprint(galley, &[], &mut quick_dvi, sheet);
+            [number, place, shown]
+        },
     )
 }
 

@@ -7,12 +7,15 @@
  *
  * Files of XGP character mode become sheets too.
  *
- * ANSWERS. Every function but sp_version, sp_new_tape and sp_extents fills `answer` with three numbers:
+ * ANSWERS. Every function but sp_version, sp_new_tape and sp_extents fills `answer` with three numbers, sp_reprint
+ * with a fourth:
  *
  *     answer[0]  number  0 if accepted, else the refusal's number (enum sp_number)
  *     answer[1]  place   0 if accepted, else where the input was refused
  *     answer[2]  length  the bytes written if accepted (sp_check_galley: the characters; sp_item_at: the bytes of
- *                        the item's field; sp_read_back and sp_count_tape: 0), else 0
+ *                        the item's field; sp_read_back and sp_count_tape: 0; sp_reprint: the bytes of the sheet),
+ *                        else 0
+ *     answer[3]  length  sp_reprint alone: the bytes of the DVI file if accepted, else 0
  *
  * An accepted call leaves the buffer beyond the bytes written as it was. A refused call changes no
  * byte of any buffer. To learn how long a buffer must be, call with a length of 0: if the input is good,
@@ -309,15 +312,15 @@ void sp_read_xgp(const uint8_t *file, size_t file_len, uint16_t spacing,
                  size_t answer[3]);
 
 /*
- * Writes a galley as a DVI file and reads that file into a sheet, in one call. The length is the
- * sheet's; the DVI file's is the place that sp_write_dvi gives for a buffer of length 0.
- * Refusals: 40; then 41; then 43; then 31; then 42; then 30. A refusal changes neither buffer.
+ * Writes a galley as a DVI file and reads that file into a sheet, in one call. The answer has four numbers: the
+ * third is the sheet's length, and the fourth the DVI file's.
+ * Refusals: 31; then 40; then 41; then 43; then 42; then 30. A refusal changes neither buffer.
  */
 void sp_reprint(const uint8_t *galley, size_t galley_len,
                 const int32_t *widths, size_t widths_len,
                 uint8_t *dvi, size_t dvi_len,
                 uint8_t *sheet, size_t sheet_len,
-                size_t answer[3]);
+                size_t answer[4]);
 
 /*
  * Writes a galley as a DVI file of the second edition, with identification 2, as DVItype describes it. A unit is

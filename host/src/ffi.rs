@@ -98,7 +98,7 @@ extern "C" {
         dvi_len: usize,
         sheet: *mut u8,
         sheet_len: usize,
-        answer: *mut [usize; 3],
+        answer: *mut [usize; 4],
     );
 
     pub fn sp_write_dvi2(

@@ -49,8 +49,8 @@ pub use operations::{
     check_galley, dvi_to_galley, dvi_to_galley_into, galley_to_new, galley_to_new_into, galley_to_old,
     galley_to_old_into, item_at, punch_tape, punch_tape_into, read_back, read_dvi, read_dvi_into,
     read_dvi_plain, read_dvi_plain_into, read_tape, read_tape_into, read_tape_with_extents, reprint,
-    reprint_into, write_dvi, write_dvi_into, Reprint, DVI_HEIGHT_LIMIT, DVI_LIMIT, GALLEY_LIMIT,
-    HEIGHT_LIMIT, ITEM_LIMIT, OLD_GALLEY_LIMIT, SHEET_LIMIT, TAPE_LIMIT, WIDTHS_PER_FONT,
+    reprint_into, write_dvi, write_dvi_into, Reprint, ReprintLengths, DVI_HEIGHT_LIMIT, DVI_LIMIT,
+    GALLEY_LIMIT, HEIGHT_LIMIT, ITEM_LIMIT, OLD_GALLEY_LIMIT, SHEET_LIMIT, TAPE_LIMIT, WIDTHS_PER_FONT,
 };
 pub use refusal::{Outcome, Refusal};
 pub use report::{Report, REPORT_LIMIT, REPORT_WORDS};

@@ -105,6 +105,25 @@ pub struct Reprint {
     pub sheet: Sheet,
 }
 
+/// The lengths of a galley's DVI file and of its sheet.
+///
+/// ```
+/// use spatecanter::{read_tape, reprint_into, Machine, ReprintLengths};
+///
+/// let galley = read_tape(&[0x40, 0x49], Machine::Eight)?;
+/// let (mut dvi, mut sheet) = ([0; 40], [0; 20]);
+/// let ReprintLengths { dvi: file, sheet: shown } = reprint_into(&galley, &[], &mut dvi, &mut sheet)?;
+/// assert_eq!((file, shown), (36, 14));
+/// # Ok::<(), spatecanter::Refusal>(())
+/// ```
+#[derive(Clone, Copy, Debug, PartialEq, Eq)]
+pub struct ReprintLengths {
+    /// The bytes of the DVI file.
+    pub dvi: usize,
+    /// The bytes of the sheet.
+    pub sheet: usize,
+}
+
 /// Reads a tape of this machine, or of the machine with so many fonts, into a galley; the length is the galley's.
 ///
 /// ```
@@ -258,8 +277,7 @@ pub fn write_dvi_into(galley: &[u8], dvi: &mut [u8]) -> Outcome {
 /// # Ok::<(), spatecanter::Refusal>(())
 /// ```
 pub fn write_dvi(galley: &[u8]) -> Result<DviFile, Refusal> {
-    let usual = 36 + galley.len().min(GALLEY_LIMIT);
-    filled(usual, |dvi| write_dvi_into(galley, dvi)).map(DviFile::written)
+    filled(usual_dvi(galley), |dvi| write_dvi_into(galley, dvi)).map(DviFile::written)
 }
 
 /// Reads a DVI file, with a table of widths, into a sheet; the length is the sheet's.
@@ -384,18 +402,24 @@ pub fn dvi_to_galley(dvi: &[u8], widths: &[i32]) -> Result<Galley, Refusal> {
     filled(usual, |galley| dvi_to_galley_into(dvi, widths, galley)).map(Galley::written)
 }
 
-/// Writes a galley as a DVI file and reads that into a sheet; the length is the sheet's.
+/// Writes a galley as a DVI file and reads that into a sheet; the lengths are those of both.
 ///
 /// ```
-/// use spatecanter::{read_tape, reprint_into, Machine};
+/// use spatecanter::{read_tape, reprint_into, Machine, ReprintLengths};
 ///
 /// let galley = read_tape(&[0x40, 0x49], Machine::Eight)?;
 /// let (mut dvi, mut sheet) = ([0; 36], [0; 14]);
-/// assert_eq!(reprint_into(&galley, &[], &mut dvi, &mut sheet), Ok(14));
+/// let lengths = reprint_into(&galley, &[], &mut dvi, &mut sheet)?;
+/// assert_eq!(lengths, ReprintLengths { dvi: 36, sheet: 14 });
 /// # Ok::<(), spatecanter::Refusal>(())
 /// ```
-pub fn reprint_into(galley: &[u8], widths: &[i32], dvi: &mut [u8], sheet: &mut [u8]) -> Outcome {
-    let mut answer = [0; 3];
+pub fn reprint_into(
+    galley: &[u8],
+    widths: &[i32],
+    dvi: &mut [u8],
+    sheet: &mut [u8],
+) -> Result<ReprintLengths, Refusal> {
+    let mut answer = [0; 4];
     // SAFETY: every pointer comes from a live slice, with its length.
     unsafe {
         ffi::sp_reprint(
@@ -410,7 +434,8 @@ pub fn reprint_into(galley: &[u8], widths: &[i32], dvi: &mut [u8], sheet: &mut [
             &mut answer,
         );
     }
-    outcome(answer)
+    let [number, place, sheet, dvi] = answer;
+    outcome([number, place, sheet]).map(|sheet| ReprintLengths { dvi, sheet })
 }
 
 /// The DVI file and the sheet of a galley.
@@ -424,10 +449,15 @@ pub fn reprint_into(galley: &[u8], widths: &[i32], dvi: &mut [u8], sheet: &mut [
 /// # Ok::<(), spatecanter::Refusal>(())
 /// ```
 pub fn reprint(galley: &[u8], widths: &[i32]) -> Result<Reprint, Refusal> {
-    let mut dvi = vec![0; room_for_dvi(galley)?];
     // A cut's 3 bytes give 7, a character's 11 give 16, and End's 7 the first page and End, 14.
-    let enough = 7 * (galley.len() / 3);
-    let sheet = filled(enough, |sheet| reprint_into(galley, widths, &mut dvi, sheet))?;
+    let mut sheet = vec![0; 7 * (galley.len().min(GALLEY_LIMIT) / 3)];
+    let mut shown = 0;
+    let dvi = filled(usual_dvi(galley), |dvi| {
+        let lengths = reprint_into(galley, widths, dvi, &mut sheet)?;
+        shown = lengths.sheet;
+        Ok(lengths.dvi)
+    })?;
+    sheet.truncate(shown);
     Ok(Reprint { dvi: DviFile::written(dvi), sheet: Sheet::written(sheet) })
 }
 
@@ -544,12 +574,9 @@ pub fn galley_to_old(new_galley: &[u8]) -> Result<Vec<u8>, Refusal> {
     filled(enough, |old_galley| galley_to_old_into(new_galley, old_galley))
 }
 
-/// The length of a galley's DVI file: an empty buffer is refused with the bytes needed.
-fn room_for_dvi(galley: &[u8]) -> Outcome {
-    match write_dvi_into(galley, &mut []) {
-        Err(Refusal::DviRoom { needed }) => Ok(needed),
-        other => other,
-    }
+/// The bytes that most galleys' DVI files fit in.
+fn usual_dvi(galley: &[u8]) -> usize {
+    36 + galley.len().min(GALLEY_LIMIT)
 }
 
 /// A vector of what `fill` writes: `usual` bytes are offered first, then the bytes needed.

@@ -8,8 +8,8 @@ use lib.IntN.{ℤ}
 use lib.ListN.{length, take, drop}
 use lib.Seq.{take-at}
 use Rattle.octets.specs.Octets.{Bytes}
-use Rattle.octets.specs.Answer.{Outcome, accepted, refused, Result, refusal, written, outcome, after, ifRoom, noDviRoom, noSheetRoom}
-use Rattle.octets.specs.AnswerLaws.{room-short, room-enough, accepted-length, refused-length, accepted-room}
+use Rattle.octets.specs.Answer.{Outcome, accepted, refused, written, outcome, after, noDviRoom, noSheetRoom}
+use Rattle.octets.specs.AnswerLaws.{room-short, room-enough, accepted-length, refused-length, accepted-room, gives}
 use Rattle.galley_file.specs.declared.form.Form.the-variants.{New}
 use Rattle.galley_file.specs.Form.{maxGalley}
 use Rattle.galley_file.specs.Item.{charactersOf, cutsOf}
@@ -21,13 +21,13 @@ use Rattle.sheet.specs.Readable.{fontChars}
 use Rattle.dvi.specs.Sheet.{sheetResult}
 use Rattle.dvi.specs.Writer.{dviFile}
 use Rattle.dvi_writer.specs.Result.{dviResult}
-use Rattle.reprint.specs.Reprint.{Reprint, stopped, reprinted, reprintResult, reprintOutcome, dviAfter, sheetAfter, sheetSize, ReprintedWhenever}
+use Rattle.reprint.specs.Reprint.{stopped, reprinted, reprintResult, ofFile, ofSheet, sheetSize, GivesBoth, Reprints}
 use Rattle.reprint.specs.ReprintLaws.{reprints, found, file, file-written, shownSheet, sheet-size, sheet-written, both-written}
 
--- a refusal's outcome, and both buffers as they were
-pub refuses : {r : Reprint} {number place : ℕ} (dvi out : List ℕ) → r ≡ stopped number place
-    → (refused number place ≡ reprintOutcome r) × ((dvi ≡ dviAfter dvi r) × (out ≡ sheetAfter out r))
-refuses dvi out q = (sym (ap reprintOutcome q), (sym (ap (dviAfter dvi) q), sym (ap (sheetAfter out) q)))
+-- a refusal's outcomes, and both buffers as they were
+pub refuses : (g : List ℕ) (widths : List ℤ) (dvi out : List ℕ) {number place : ℕ} → reprintResult g widths (length dvi) (length out) ≡ stopped number place
+    → GivesBoth (refused number place) (refused number place) (reprintResult g widths) dvi dvi out out
+refuses g widths dvi out q = record { file-given = gives (ap ofFile q) refl refl; sheet-given = gives (ap ofSheet q) refl refl }
 
 -- what is not of characters in a galley is of cuts
 module _ (g : List ℕ) (count : ℕ) (e : accepted count ≡ lowOutcome g) where
@@ -66,13 +66,13 @@ module _ (g : List ℕ) (count : ℕ) (b : Bytes g) (e : lowOutcome g ≡ accept
   refused-file room number place q = refused-length noDviRoom room number place (file g count b e) (q ∙ ap outcome (file-written g count b e room))
 
   -- a buffer that is too short for the file
-  pub refused-writing : (dvi out : List ℕ) (number place : ℕ) {dvi′ : List ℕ} {r : Reprint} → refused number place ≡ outcome (dviResult g (length dvi)) → dvi′ ≡ after dvi (dviResult g (length dvi))
-      → r ≡ stopped noDviRoom (length (file g count b e)) → (refused number place ≡ reprintOutcome r) × ((dvi′ ≡ dviAfter dvi r) × (out ≡ sheetAfter out r))
-  refused-writing dvi out number place q d k =
+  pub refused-writing : (widths : List ℤ) (dvi out : List ℕ) (number place : ℕ) {dvi′ : List ℕ} → refused number place ≡ outcome (dviResult g (length dvi)) → dvi′ ≡ after dvi (dviResult g (length dvi))
+      → reprintResult g widths (length dvi) (length out) ≡ stopped noDviRoom (length (file g count b e)) → GivesBoth (refused number place) (refused number place) (reprintResult g widths) dvi dvi′ out out
+  refused-writing widths dvi out number place q d k =
       let f = refused-file (length dvi) number place q in
       let kept = d ∙ ap (after dvi) (file-written g count b e (length dvi) ∙ room-short noDviRoom (length dvi) (file g count b e) (f .1 .1)) in
-      let x = refuses dvi out k in
-      ((λ i. refused (f .0 i) (f .1 .0 i)) ∙ x .0, (kept ∙ x .1 .0, x .1 .1))
+      let named : refused number place ≡ refused noDviRoom (length (file g count b e)) = λ i. refused (f .0 i) (f .1 .0 i) in
+      record { file-given = gives (ap ofFile k) named kept; sheet-given = gives (ap ofSheet k) named refl }
 
   -- what the writer has written
   module _ (dvi : List ℕ) (n : ℕ) (q : accepted n ≡ outcome (dviResult g (length dvi))) where
@@ -101,43 +101,14 @@ module _ (g : List ℕ) (count : ℕ) (b : Bytes g) (e : lowOutcome g ≡ accept
           ∙ sheet-written g count b e widths w (length out)
           ∙ room-enough noSheetRoom (length out) (shownSheet g count b e widths w) (omega (arith, sheet-size g count b e widths w))
 
-      pub completes : (o : Outcome) (dvi′ out′ part : List ℕ) → part ≡ file g count b e → dvi′ ≡ after dvi (dviResult g (length dvi))
-          → o ≡ outcome (sheetResult part widths (length out)) → out′ ≡ after out (sheetResult part widths (length out))
-          → (o ≡ reprintOutcome (reprintResult g widths (length dvi) (length out)))
-          × ((dvi′ ≡ dviAfter dvi (reprintResult g widths (length dvi) (length out))) × (out′ ≡ sheetAfter out (reprintResult g widths (length dvi) (length out))))
-      completes o dvi′ out′ part k d x y = (
-        x ∙ ap outcome (reads part k) ∙ sym (ap reprintOutcome whole-reprint),
-        (d ∙ after-writing ∙ sym (ap (dviAfter dvi) whole-reprint), y ∙ ap (after out) (reads part k) ∙ sym (ap (sheetAfter out) whole-reprint)),
-      )
+      pub completes : (needed : ℕ) (dvi′ out′ part : List ℕ) → needed ≡ sheetSize (found g count b e .items) → part ≡ file g count b e → dvi′ ≡ after dvi (dviResult g (length dvi))
+          → out′ ≡ after out (sheetResult part widths (length out)) → GivesBoth (accepted n) (accepted needed) (reprintResult g widths) dvi dvi′ out out′
+      completes needed dvi′ out′ part z k d y = record {
+        file-given = gives (ap ofFile whole-reprint) (ap accepted (accepted-file (length dvi) n q)) (d ∙ after-writing);
+        sheet-given = gives (ap ofSheet whole-reprint) (ap accepted (z ∙ sym (sheet-size g count b e widths w))) (y ∙ ap (after out) (reads part k));
+      }
 
 -- what a call gives is the reprint, and so demand 3 holds of it
-pub claims : (g : List ℕ) (widths : List ℤ) (dvi out : List ℕ) → Bytes g → (o : Outcome) (dvi′ out′ : List ℕ)
-    → (o ≡ reprintOutcome (reprintResult g widths (length dvi) (length out)))
-    × ((dvi′ ≡ dviAfter dvi (reprintResult g widths (length dvi) (length out))) × (out′ ≡ sheetAfter out (reprintResult g widths (length dvi) (length out))))
-    → (o ≡ reprintOutcome (reprintResult g widths (length dvi) (length out)))
-    × ((dvi′ ≡ dviAfter dvi (reprintResult g widths (length dvi) (length out)))
-    × ((out′ ≡ sheetAfter out (reprintResult g widths (length dvi) (length out))) × ReprintedWhenever g widths dvi out o dvi′ out′))
-claims g widths dvi out b o dvi′ out′ e = (
-  e .0,
-  (
-    e .1 .0,
-    (
-      e .1 .1,
-      λ count is c r v w f s.
-          let x = reprints g widths dvi out b (reprintResult g widths (length dvi) (length out)) refl count is c r v w f s in
-          record {
-            items = x .items;
-            galley-is = x .galley-is;
-            valid = x .valid;
-            writer-accepts = x .writer-accepts;
-            file-is = e .1 .0 ∙ x .file-is;
-            faithful = x .faithful;
-            marks = x .marks;
-            shown = x .shown;
-            reader-accepts = x .reader-accepts;
-            sheet-is = e .1 .1 ∙ x .sheet-is;
-            outcome-is = e .0 ∙ x .outcome-is;
-          },
-    ),
-  ),
-)
+pub claims : (g : List ℕ) (widths : List ℤ) (dvi out : List ℕ) → Bytes g → {forFile forSheet : Outcome} {dvi′ out′ : List ℕ} → GivesBoth forFile forSheet (reprintResult g widths) dvi dvi′ out out′
+    → Reprints forFile forSheet g widths dvi dvi′ out out′
+claims g widths dvi out b o = record { given = o; demand3 = reprints g widths dvi out b o }

@@ -2,26 +2,27 @@
 -- "over heights at most 65,535" (document 02, "Longer columns").
 --     Reprint            the file and the sheet, or a refusal
 --     reprintResult      of any galley, table of widths, and two buffers of so many bytes
---     reprintOutcome     its outcome: the length is the sheet's
---     dviAfter           the buffer of the file after it
---     sheetAfter         the buffer of the sheet after it
+--     ofFile, ofSheet    its result for each of the buffers
+--     bothNumbers        the numbers of two outcomes: number, place, and both lengths
+--     GivesBoth          what an operation that fills two buffers promises
 --     Reprinted          demand 3, clause by clause
 --     ReprintedWhenever  demand 3 of a call
+--     Reprints           what a reprint promises
+--     ReprintsNumbers    the same where the numbers are given in an array
 --     Distinguished      two galleys, and what is shown of them
 use Prim.Native.Nat.{ℕ, _+_, _*_, _%_, _≤_}
 use mathlib.Core.Bool.{cond}
-use mathlib.Core.List.{List, _∷_, _++_}
+use mathlib.Core.List.{List, [], _∷_, _++_}
 use mathlib.Core.Logic.{_↔_}
 use mathlib.Core.Path.{_≡_}
 use lib.IntN.{ℤ, pos}
 use lib.ListN.{length, drop}
-use Rattle.octets.specs.Answer.{Outcome, accepted, refused, Result, refusal, written, ifRoom, widthsNotWhole, noDviRoom}
+use Rattle.octets.specs.Answer.{Outcome, accepted, refused, numberOf, placeOf, lengthOf, Result, refusal, written, widthsNotWhole, Gives}
 use Rattle.measure.specs.Place.{lowEnd}
 use Rattle.galley_file.specs.declared.form.Form.the-variants.{New}
 use Rattle.galley_file.specs.declared.item.Item.{Item}
 use Rattle.galley_file.specs.Item.{charactersOf, cutsOf}
 use Rattle.galley_file.specs.Galley.{AllValid, galley, whole, readGalley}
-use Rattle.galley_check.specs.Low.{lowResult}
 use Rattle.galley_file.specs.Outcome.{checkOutcome}
 use Rattle.sheet.specs.Sheet.{Mark, pageMark, sheet}
 use Rattle.sheet.specs.Readable.{fontChars}
@@ -32,6 +33,7 @@ use Rattle.dvi.specs.Writer.{dviFile}
 use Rattle.dvi.specs.Edition.{Faithful, Compared}
 use Rattle.dvi.specs.Demand3.{dvi1980}
 use Rattle.dvi_writer.specs.Result.{dviResult}
+use Rattle.reprint.specs.declared.Lengths.{Lengths}
 
 pub data Reprint : Type 0 where
   stopped : ℕ → ℕ → Reprint  -- a refusal's number and place
@@ -47,28 +49,38 @@ abbrev pub fileOf : List ℤ → ℕ → Result → Reprint
 fileOf widths room (refusal number place) = stopped number place
 fileOf widths room (written file) = sheetOf file (sheetResult file widths room)
 
--- of what the galley is made into: 31, then 42, then 30
-abbrev pub reprintMade : List ℤ → ℕ → ℕ → Result → Reprint
-reprintMade widths dviRoom sheetRoom (refusal number place) = stopped number place
-reprintMade widths dviRoom sheetRoom (written file) =
-    cond (wholeFonts widths) (fileOf widths sheetRoom (ifRoom noDviRoom dviRoom (written file))) (stopped widthsNotWhole 0)
-
--- 40, 41 and 43 first
+-- 31 first; then the writer's 40, 41, 43 and 42; then the reader's 30
 unfoldable pub reprintResult : List ℕ → List ℤ → ℕ → ℕ → Reprint
-reprintResult g widths dviRoom sheetRoom = reprintMade widths dviRoom sheetRoom (lowResult dviFile g)
+reprintResult g widths dviRoom sheetRoom = cond (wholeFonts widths) (fileOf widths sheetRoom (dviResult g dviRoom)) (stopped widthsNotWhole 0)
 
-abbrev pub reprintOutcome : Reprint → Outcome
-reprintOutcome (stopped number place) = refused number place
-reprintOutcome (reprinted file bs) = accepted (length bs)
+-- the result for each of the two buffers: a refusal is one of both
+abbrev pub ofFile : Reprint → Result
+ofFile (stopped number place) = refusal number place
+ofFile (reprinted file bs) = written file
 
--- a refusal changes neither buffer
-abbrev pub dviAfter : List ℕ → Reprint → List ℕ
-dviAfter buffer (stopped number place) = buffer
-dviAfter buffer (reprinted file bs) = file ++ drop (length file) buffer
+abbrev pub ofSheet : Reprint → Result
+ofSheet (stopped number place) = refusal number place
+ofSheet (reprinted file bs) = written bs
 
-abbrev pub sheetAfter : List ℕ → Reprint → List ℕ
-sheetAfter buffer (stopped number place) = buffer
-sheetAfter buffer (reprinted file bs) = bs ++ drop (length bs) buffer
+-- ---- what a call gives
+
+-- the outcomes that each case of the answer stands for
+abbrev pub fileOutcome : Lengths → Outcome
+fileOutcome (Lengths.Both bs file) = accepted file
+fileOutcome (Lengths.Refused number place) = refused number place
+
+abbrev pub sheetOutcome : Lengths → Outcome
+sheetOutcome (Lengths.Both bs file) = accepted bs
+sheetOutcome (Lengths.Refused number place) = refused number place
+
+-- number, place, the sheet's length and the file's
+abbrev pub bothNumbers : Outcome → Outcome → List ℕ
+bothNumbers forFile forSheet = numberOf forSheet ∷ placeOf forSheet ∷ lengthOf forSheet ∷ lengthOf forFile ∷ []
+
+-- the rooms are the lengths of the two lent buffers; each is given what an operation gives that fills it alone
+pub record GivesBoth (forFile forSheet : Outcome) (result : ℕ → ℕ → Reprint) (dvi dvi′ out out′ : List ℕ) : Type 0 where
+  pub file-given : Gives forFile (λ (room : ℕ). ofFile (result room (length out))) dvi dvi′
+  pub sheet-given : Gives forSheet (λ (room : ℕ). ofSheet (result (length dvi) room)) out out′
 
 -- ---- demand 3
 
@@ -76,8 +88,8 @@ sheetAfter buffer (reprinted file bs) = bs ++ drop (length bs) buffer
 abbrev pub sheetSize : List Item → ℕ
 sheetSize is = 16 * length (charactersOf is) + 7 * cutsOf is + 14
 
--- of a galley g and a table of widths, with the two buffers before the call, its outcome and the two buffers after it
-pub record Reprinted (g : List ℕ) (widths : List ℤ) (dvi out : List ℕ) (o : Outcome) (dvi′ out′ : List ℕ) : Type 0 where
+-- of a galley g and a table of widths, with the outcomes of the call and each of the two buffers before and after it
+pub record Reprinted (forFile forSheet : Outcome) (g : List ℕ) (widths : List ℤ) (dvi dvi′ out out′ : List ℕ) : Type 0 where
   -- "every valid galley": the characters and cuts that its bytes encode, of heights at most 65,535
   pub items : List Item
   pub galley-is : g ≡ galley New items
@@ -96,13 +108,27 @@ pub record Reprinted (g : List ℕ) (widths : List ℤ) (dvi out : List ℕ) (o 
   pub reader-accepts : sheetResult (dviFile items) widths (length out) ≡ written (sheet (pageMark (pos 1) ∷ marks))
   -- "The sheet is the page field, then these characters' fields in that order, then end, byte for byte"
   pub sheet-is : out′ ≡ sheet (pageMark (pos 1) ∷ marks) ++ drop (length (sheet (pageMark (pos 1) ∷ marks))) out
-  pub outcome-is : o ≡ accepted (sheetSize items)
+  -- the lengths given
+  pub file-length : forFile ≡ accepted (length (dviFile items))
+  pub sheet-length : forSheet ≡ accepted (sheetSize items)
 
 -- for every galley that the check accepts and whose heights are at most 65,535, every table of whole fonts, and buffers with room
-abbrev pub ReprintedWhenever : List ℕ → List ℤ → List ℕ → List ℕ → Outcome → List ℕ → List ℕ → Type 0
-ReprintedWhenever g widths dvi out o dvi′ out′ =
+abbrev pub ReprintedWhenever : Outcome → Outcome → List ℕ → List ℤ → List ℕ → List ℕ → List ℕ → List ℕ → Type 0
+ReprintedWhenever forFile forSheet g widths dvi dvi′ out out′ =
     (count : ℕ) (is : List Item) → checkOutcome New g ≡ accepted count → readGalley New g ≡ whole is → AllValid lowEnd is → length widths % fontChars ≡ 0 → length (dviFile is) ≤ length dvi
-    → sheetSize is ≤ length out → Reprinted g widths dvi out o dvi′ out′
+    → sheetSize is ≤ length out → Reprinted forFile forSheet g widths dvi dvi′ out out′
+
+-- what a reprint promises: outcomes and buffers are its result's, and demand 3 holds of them
+pub record Reprints (forFile forSheet : Outcome) (g : List ℕ) (widths : List ℤ) (dvi dvi′ out out′ : List ℕ) : Type 0 where
+  pub given : GivesBoth forFile forSheet (reprintResult g widths) dvi dvi′ out out′
+  pub demand3 : ReprintedWhenever forFile forSheet g widths dvi dvi′ out out′
+
+-- the same where the numbers of these outcomes are given in an array
+pub record ReprintsNumbers (numbers : List ℕ) (g : List ℕ) (widths : List ℤ) (dvi dvi′ out out′ : List ℕ) : Type 0 where
+  pub forFile : Outcome
+  pub forSheet : Outcome
+  pub numbers-are : numbers ≡ bothNumbers forFile forSheet
+  pub reprints : Reprints forFile forSheet g widths dvi dvi′ out out′
 
 -- two such galleys, of the items is and js, and the marks that their files show
 pub record Distinguished (widths : List ℤ) (g h : List ℕ) (is js : List Item) (ms ns : List Mark) : Type 0 where

@@ -8,8 +8,8 @@ use borrow.Author.Tests.{eq-eqb, ne-eqb}
 use lib.IntN.{ℤ, pos}
 use lib.ListN.{length}
 use Rattle.octets.specs.Octets.{Bytes}
-use Rattle.octets.specs.Answer.{accepted, refused, written, ifRoom, widthsNotWhole, noDviRoom, noSheetRoom}
-use Rattle.octets.specs.AnswerLaws.{room-short, room-enough}
+use Rattle.octets.specs.Answer.{Outcome, accepted, refused, written, outcome, after, ifRoom, widthsNotWhole, noDviRoom, noSheetRoom}
+use Rattle.octets.specs.AnswerLaws.{room-refused, room-short, room-enough}
 use Rattle.measure.specs.Place.{lowEnd}
 use Rattle.galley_file.specs.declared.form.Form.the-variants.{New}
 use Rattle.galley_file.specs.declared.item.Item.{Item}
@@ -27,14 +27,25 @@ use Rattle.dvi.specs.Demand3.{marksOf, dvi1980}
 use Rattle.dvi.proofs.Demand3.{demand3, sheet-size as size-of}
 use Rattle.dvi.proofs.Shown.{file-shows}
 use Rattle.dvi_writer.specs.Result.{dviResult}
-use Rattle.reprint.specs.Reprint.{Reprint, stopped, reprinted, sheetOf, fileOf, reprintMade, reprintResult, reprintOutcome, dviAfter, sheetAfter, sheetSize, ReprintedWhenever, Distinguished}
+use Rattle.reprint.specs.Reprint.{Reprint, stopped, reprinted, sheetOf, fileOf, reprintResult, ofFile, ofSheet, sheetSize, GivesBoth, ReprintedWhenever, Distinguished}
 
--- a galley that the check of heights refuses
-pub refused-galley : (g : List ℕ) (widths : List ℤ) (dviRoom sheetRoom number place : ℕ) → lowOutcome g ≡ refused number place
-    → reprintResult g widths dviRoom sheetRoom ≡ stopped number place
+-- a table of widths that is not of whole fonts decides first
+pub not-whole : (g : List ℕ) (widths : List ℤ) (dviRoom sheetRoom : ℕ) → (length widths % fontChars ≡ 0 → ⊥) → reprintResult g widths dviRoom sheetRoom ≡ stopped widthsNotWhole 0
 unfolding reprintResult
-refused-galley g widths dviRoom sheetRoom number place e =
-    ap (reprintMade widths dviRoom sheetRoom) (sym (low-refused dviFile g number place (sym e)))
+not-whole g widths dviRoom sheetRoom h = rw (ne-eqb _ _ h)
+
+-- with one of whole fonts, the writer decides
+module _ (g : List ℕ) (widths : List ℤ) (w : length widths % fontChars ≡ 0) (dviRoom sheetRoom : ℕ) where
+  by-writer : reprintResult g widths dviRoom sheetRoom ≡ fileOf widths sheetRoom (dviResult g dviRoom)
+  unfolding reprintResult
+  by-writer = rw (eq-eqb _ _ w)
+
+  -- a galley that the check of heights refuses
+  pub refused-galley : (number place : ℕ) → lowOutcome g ≡ refused number place → reprintResult g widths dviRoom sheetRoom ≡ stopped number place
+  unfolding dviResult
+  refused-galley number place e =
+      by-writer
+      ∙ ap (fileOf widths sheetRoom) (ap (ifRoom noDviRoom dviRoom) (sym (low-refused dviFile g number place (sym e))) ∙ room-refused noDviRoom dviRoom number place)
 
 -- a galley that it accepts
 module _ (g : List ℕ) (count : ℕ) (b : Bytes g) (e : lowOutcome g ≡ accepted count) where
@@ -64,13 +75,6 @@ module _ (g : List ℕ) (count : ℕ) (b : Bytes g) (e : lowOutcome g ≡ accept
   file-written room = ap (ifRoom noDviRoom room) made
 
   module _ (widths : List ℤ) where
-    by-galley : (dviRoom sheetRoom : ℕ) → reprintResult g widths dviRoom sheetRoom ≡ reprintMade widths dviRoom sheetRoom (written file)
-    unfolding reprintResult
-    by-galley dviRoom sheetRoom = ap (reprintMade widths dviRoom sheetRoom) made
-
-    pub not-whole : (dviRoom sheetRoom : ℕ) → (length widths % fontChars ≡ 0 → ⊥) → reprintResult g widths dviRoom sheetRoom ≡ stopped widthsNotWhole 0
-    not-whole dviRoom sheetRoom h = by-galley dviRoom sheetRoom ∙ rw (ne-eqb _ _ h)
-
     -- demand 3 over its items
     within : Within (dvi1980 widths) (found .items)
     within = record { valid = low; few = few }
@@ -91,7 +95,7 @@ module _ (g : List ℕ) (count : ℕ) (b : Bytes g) (e : lowOutcome g ≡ accept
 
       module _ (dviRoom sheetRoom : ℕ) where
         by-file : reprintResult g widths dviRoom sheetRoom ≡ fileOf widths sheetRoom (ifRoom noDviRoom dviRoom (written file))
-        by-file = by-galley dviRoom sheetRoom ∙ rw (eq-eqb _ _ w)
+        by-file = by-writer g widths w dviRoom sheetRoom ∙ ap (fileOf widths sheetRoom) (file-written dviRoom)
 
         pub short-file : dviRoom < length file → reprintResult g widths dviRoom sheetRoom ≡ stopped noDviRoom (length file)
         short-file h = by-file ∙ ap (fileOf widths sheetRoom) (room-short noDviRoom dviRoom file h)
@@ -109,29 +113,30 @@ module _ (g : List ℕ) (count : ℕ) (b : Bytes g) (e : lowOutcome g ≡ accept
           pub both-written : sheetSize (found .items) ≤ sheetRoom → reprintResult g widths dviRoom sheetRoom ≡ reprinted file shownSheet
           both-written h = by-sheet ∙ ap (sheetOf file) (room-enough noSheetRoom sheetRoom shownSheet (omega (arith, sheet-size)))
 
--- demand 3, from the galley's bytes to the sheet's
-pub reprints : (g : List ℕ) (widths : List ℤ) (dvi out : List ℕ) → Bytes g → (r : Reprint) → r ≡ reprintResult g widths (length dvi) (length out)
-    → ReprintedWhenever g widths dvi out (reprintOutcome r) (dviAfter dvi r) (sheetAfter out r)
-reprints g widths dvi out b r q count is c readAs v w f s =
+-- demand 3, from the galley's bytes to the sheet's, of every call that gives the result
+pub reprints : (g : List ℕ) (widths : List ℤ) (dvi out : List ℕ) → Bytes g → {forFile forSheet : Outcome} {dvi′ out′ : List ℕ} → GivesBoth forFile forSheet (reprintResult g widths) dvi dvi′ out out′
+    → ReprintedWhenever forFile forSheet g widths dvi dvi′ out out′
+reprints g widths dvi out b o count is c readAs v w f s =
     let e = low-accepts g count is c readAs v in
     let a = found g count b e in
     let t = faithful g count b e widths w in
     let same : a .items ≡ is = (let h : whole (a .items) ≡ whole is = sym (a .read) ∙ readAs in cc) in
     let room : length (dviFile (a .items)) ≤ length dvi = omega (arith, f, ap (λ (l : List Item). length (dviFile l)) same) in
     let fits : sheetSize (a .items) ≤ length out = omega (arith, s, ap sheetSize same) in
-    let done = q ∙ both-written g count b e widths w (length dvi) (length out) room fits in
+    let done = both-written g count b e widths w (length dvi) (length out) room fits in
     record {
       items = a .items;
       galley-is = a .bytes;
       valid = low g count b e;
       writer-accepts = file-written g count b e (length dvi) ∙ room-enough noDviRoom (length dvi) (dviFile (a .items)) room;
-      file-is = ap (dviAfter dvi) done;
+      file-is = o .file-given .buffer-is ∙ ap (λ (r : Reprint). after dvi (ofFile r)) done;
       faithful = t;
       marks = marksOf 1 (a .items);
       shown = file-shows widths (low g count b e) (few g count b e);
       reader-accepts = t .read-back (length out) ∙ room-enough noSheetRoom (length out) (sheet (pageMark (pos 1) ∷ marksOf 1 (a .items))) (omega (arith, fits, size-of (a .items)));
-      sheet-is = ap (sheetAfter out) done;
-      outcome-is = ap reprintOutcome done ∙ ap accepted (size-of (a .items));
+      sheet-is = o .sheet-given .buffer-is ∙ ap (λ (r : Reprint). after out (ofSheet r)) done;
+      file-length = o .file-given .outcome-is ∙ ap (λ (r : Reprint). outcome (ofFile r)) done;
+      sheet-length = o .sheet-given .outcome-is ∙ ap (λ (r : Reprint). outcome (ofSheet r)) done ∙ ap accepted (size-of (a .items));
     }
 
 -- two such galleys, and what their files show

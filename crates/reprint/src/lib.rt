@@ -6,12 +6,14 @@ use octets::answer;
 use octets::answer::Answer;
 use octets::field;
 ghost use mathlib.Core.Path.{_≡_};
+ghost use Prim.Native.Nat.{_%_};
 ghost use lib.ListN.{length};
-ghost use Rattle.octets.specs.Answer.{accepted, outcomeOf};
+ghost use Rattle.octets.specs.Answer.{accepted};
 ghost use Rattle.galley_file.specs.Galley.{itemsOf};
 ghost use Rattle.galley_check.specs.Low.{lowOutcome};
 ghost use Rattle.dvi.specs.Writer.{dviFile};
-ghost use Rattle.reprint.specs.Reprint.{reprintResult, reprintOutcome, dviAfter, sheetAfter, sheetSize, ReprintedWhenever};
+ghost use Rattle.sheet.specs.Readable.{fontChars};
+ghost use Rattle.reprint.specs.Reprint.{reprintResult, fileOutcome, sheetOutcome, bothNumbers, sheetSize, GivesBoth, Reprints};
 
 // The numbers of a font in a table of widths.
 const FONT_WIDTHS: usize = 128;
@@ -23,6 +25,22 @@ const PAGE_FIELD: usize = 7;
 
 // The fields of page 1 and of the end.
 const OTHER_FIELDS: usize = 14;
+
+// The lengths of the sheet and of the file, or the number and the place of a refusal.
+pub enum Lengths {
+    Both(usize, usize),
+    Refused(u8, usize),
+}
+
+// Number, place, the sheet's length and the file's.
+pub fn numbers(a: Lengths) -> [usize; 4]
+    ensures { λ r. ⌜ r ≡ bothNumbers (fileOutcome a) (sheetOutcome a) ⌝ }
+{
+    match a {
+        Lengths::Both(sheet, file) => [0, 0, sheet, file],
+        Lengths::Refused(number, place) => [number as usize, place, 0, 0],
+    }
+}
 
 // The bytes of a checked galley's sheet: what is not of characters in the galley is of cuts.
 fn sheet_length(galley: &[u8], count: usize) -> usize
@@ -46,42 +64,46 @@ fn file_length(galley: &[u8], count: usize) -> usize
     }
 }
 
-// Reprints a checked galley. Both rooms are known to suffice before the first store.
+// Reprints a checked galley with a table of whole fonts. Both rooms are known to suffice before the first store; the reader accepts the file, and its
+// sheet has the bytes needed.
 fn reprint_checked(
     galley: &[u8],
     count: usize,
     widths: &[i32],
     dvi: &mut [u8],
     sheet: &mut [u8],
-) -> Answer
-    requires { ⌜ accepted count ≡ lowOutcome (now galley) ⌝ }
-    ensures { λ r. ⌜ (outcomeOf r ≡ reprintOutcome (reprintResult (now (galley .entry)) (now (widths .entry)) (length (now (dvi .entry))) (length (now (sheet .entry))))) × ((now (dvi .exit) ≡ dviAfter (now (dvi .entry)) (reprintResult (now (galley .entry)) (now (widths .entry)) (length (now (dvi .entry))) (length (now (sheet .entry))))) × (now (sheet .exit) ≡ sheetAfter (now (sheet .entry)) (reprintResult (now (galley .entry)) (now (widths .entry)) (length (now (dvi .entry))) (length (now (sheet .entry)))))) ⌝ }
+) -> Lengths
+    requires { ⌜ (accepted count ≡ lowOutcome (now galley)) × (length (now widths) % fontChars ≡ 0) ⌝ }
+    ensures { λ r. ⌜ GivesBoth (fileOutcome r) (sheetOutcome r) (reprintResult (now (galley .entry)) (now (widths .entry))) (now (dvi .entry)) (now (dvi .exit)) (now (sheet .entry)) (now (sheet .exit)) ⌝ }
 {
-    if widths.len() % FONT_WIDTHS != 0 {
-        return Answer::Refused(answer::WIDTHS_NOT_WHOLE, 0);
-    }
     let needed = sheet_length(galley, count);
     if sheet.len() < needed {
         let length = file_length(galley, count);
         if dvi.len() < length {
-            return Answer::Refused(answer::NO_DVI_ROOM, length);
+            return Lengths::Refused(answer::NO_DVI_ROOM, length);
         }
-        return Answer::Refused(answer::NO_SHEET_ROOM, needed);
+        return Lengths::Refused(answer::NO_SHEET_ROOM, needed);
     }
     let written = dvi_writer::write_dvi(galley, dvi);
     match written {
-        Answer::Refused(number, place) => Answer::Refused(number, place),
-        Answer::Accepted(length) => dvi_reader::read_dvi(&dvi[..length], widths, sheet),
+        Answer::Refused(number, place) => Lengths::Refused(number, place),
+        Answer::Accepted(length) => {
+            dvi_reader::read_dvi(&dvi[..length], widths, sheet);
+            Lengths::Both(needed, length)
+        }
     }
 }
 
 // Writes the galley's file into `dvi` and its sheet into `sheet`, or neither.
-pub fn reprint(galley: &[u8], widths: &[i32], dvi: &mut [u8], sheet: &mut [u8]) -> Answer
-    ensures { λ r. ⌜ (outcomeOf r ≡ reprintOutcome (reprintResult (now (galley .entry)) (now (widths .entry)) (length (now (dvi .entry))) (length (now (sheet .entry))))) × ((now (dvi .exit) ≡ dviAfter (now (dvi .entry)) (reprintResult (now (galley .entry)) (now (widths .entry)) (length (now (dvi .entry))) (length (now (sheet .entry))))) × ((now (sheet .exit) ≡ sheetAfter (now (sheet .entry)) (reprintResult (now (galley .entry)) (now (widths .entry)) (length (now (dvi .entry))) (length (now (sheet .entry))))) × ReprintedWhenever (now (galley .entry)) (now (widths .entry)) (now (dvi .entry)) (now (sheet .entry)) (outcomeOf r) (now (dvi .exit)) (now (sheet .exit)))) ⌝ }
+pub fn reprint(galley: &[u8], widths: &[i32], dvi: &mut [u8], sheet: &mut [u8]) -> Lengths
+    ensures { λ r. ⌜ Reprints (fileOutcome r) (sheetOutcome r) (now (galley .entry)) (now (widths .entry)) (now (dvi .entry)) (now (dvi .exit)) (now (sheet .entry)) (now (sheet .exit)) ⌝ }
 {
+    if widths.len() % FONT_WIDTHS != 0 {
+        return Lengths::Refused(answer::WIDTHS_NOT_WHOLE, 0);
+    }
     let checked = galley_check::check_low(galley);
     match checked {
-        Answer::Refused(number, place) => Answer::Refused(number, place),
+        Answer::Refused(number, place) => Lengths::Refused(number, place),
         Answer::Accepted(count) => reprint_checked(galley, count, widths, dvi, sheet),
     }
 }

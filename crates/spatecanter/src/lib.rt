@@ -3,7 +3,6 @@ ghost use Rattle.galley_file.specs.declared.form.Form.the-variants.{New};
 use galley_check::Found;
 use octets::answer;
 ghost use mathlib.Core.Path.{_≡_};
-ghost use lib.ListN.{length};
 ghost use Rattle.octets.specs.Answer.{numbersOf, GivesNumbers};
 ghost use Rattle.galley_file.specs.Outcome.{checkOutcome};
 ghost use Rattle.galley_check.specs.Found.{foundOf, outcomeOfFound, readBackOutcome};
@@ -11,7 +10,7 @@ ghost use Rattle.tape.specs.Tape.{tapeResult};
 ghost use Rattle.conversion.specs.Conversion.{newResult, oldResult};
 ghost use Rattle.dvi.specs.Sheet.{sheetResult};
 ghost use Rattle.dvi_writer.specs.Result.{dviResult};
-ghost use Rattle.reprint.specs.Reprint.{reprintResult, reprintOutcome, dviAfter, sheetAfter, ReprintedWhenever};
+ghost use Rattle.reprint.specs.Reprint.{ReprintsNumbers};
 ghost use Rattle.spatecanter.specs.Numbers.{foundNumbers};
 
 // Number, place and length of reading back.
@@ -108,17 +107,17 @@ pub extern "C" fn sp_read_dvi(dvi: &[u8], widths: &[i32], sheet: &mut [u8], answ
     *answer = answer::numbers(a);
 }
 
-// Writes a galley's DVI file and its sheet, or neither.
+// Writes a galley's DVI file and its sheet, or neither; the answer has both lengths.
 #[no_mangle]
 pub extern "C" fn sp_reprint(
     galley: &[u8],
     widths: &[i32],
     dvi: &mut [u8],
     sheet: &mut [u8],
-    answer: &mut [usize; 3],
+    answer: &mut [usize; 4],
 )
-    ensures { λ _. ⌜ (now (answer .exit) ≡ numbersOf (reprintOutcome (reprintResult (now (galley .entry)) (now (widths .entry)) (length (now (dvi .entry))) (length (now (sheet .entry)))))) × ((now (dvi .exit) ≡ dviAfter (now (dvi .entry)) (reprintResult (now (galley .entry)) (now (widths .entry)) (length (now (dvi .entry))) (length (now (sheet .entry))))) × ((now (sheet .exit) ≡ sheetAfter (now (sheet .entry)) (reprintResult (now (galley .entry)) (now (widths .entry)) (length (now (dvi .entry))) (length (now (sheet .entry))))) × ReprintedWhenever (now (galley .entry)) (now (widths .entry)) (now (dvi .entry)) (now (sheet .entry)) (reprintOutcome (reprintResult (now (galley .entry)) (now (widths .entry)) (length (now (dvi .entry))) (length (now (sheet .entry))))) (now (dvi .exit)) (now (sheet .exit)))) ⌝ }
+    ensures { λ _. ⌜ ReprintsNumbers (now (answer .exit)) (now (galley .entry)) (now (widths .entry)) (now (dvi .entry)) (now (dvi .exit)) (now (sheet .entry)) (now (sheet .exit)) ⌝ }
 {
     let a = reprint::reprint(galley, widths, dvi, sheet);
-    *answer = answer::numbers(a);
+    *answer = reprint::numbers(a);
 }

@@ -33,7 +33,11 @@ pub fn write_dvi(galley: &[u8], dvi: &mut [u8]) -> [usize; 3] {
 }
 
 /// A galley's DVI file and that file's sheet.
-pub fn reprint(galley: &[u8], widths: &[i32], dvi: &mut [u8], sheet: &mut [u8]) -> [usize; 3] {
+pub fn reprint(galley: &[u8], widths: &[i32], dvi: &mut [u8], sheet: &mut [u8]) -> [usize; 4] {
+    let refused = |(number, place): (usize, usize)| [number, place, 0, 0];
+    if !widths.len().is_multiple_of(128) {
+        return refused((31, 0));
+    }
     let count = match count(galley) {
         Ok(count) => count,
         Err(refusal) => return refused(refusal),
@@ -41,9 +45,6 @@ pub fn reprint(galley: &[u8], widths: &[i32], dvi: &mut [u8], sheet: &mut [u8]) 
     let measure = measure(galley, count);
     if measure.highest > LOW {
         return refused((43, first_too_high(galley, count)));
-    }
-    if !widths.len().is_multiple_of(128) {
-        return refused((31, 0));
     }
     let needed = measure.length();
     let sheet_needed = 7 + 16 * count.characters + 7 * count.cuts + 7;
@@ -54,7 +55,8 @@ pub fn reprint(galley: &[u8], widths: &[i32], dvi: &mut [u8], sheet: &mut [u8]) 
         return refused((30, sheet_needed));
     }
     write(galley, count, &measure, &mut dvi[..needed]);
-    reader::read_dvi(&dvi[..needed], widths, sheet)
+    let [number, place, shown] = reader::read_dvi(&dvi[..needed], widths, sheet);
+    [number, place, shown, needed]
 }
 
 /// What the postamble and the room need to know of the pages.

@@ -212,11 +212,13 @@ impl Comparison {
         let mut sheet = Lent::new(&mut self.random, sheet_room);
         let (dvi_bytes, sheet_bytes) = expected.clone().unwrap_or_default();
         let after = (dvi.after(&dvi_bytes), sheet.after(&sheet_bytes));
-        let answer = (self.implementation.reprint)(lent.slice(), &widths, dvi.slice_mut(), sheet.slice_mut());
+        let [number, place, shown, file] =
+            (self.implementation.reprint)(lent.slice(), &widths, dvi.slice_mut(), sheet.slice_mut());
         lent.still_holds(galley);
         self.same_bytes("reprint, DVI file", galley, &dvi.bytes, &after.0);
         self.same_bytes("reprint, sheet", galley, &sheet.bytes, &after.1);
-        self.agree("reprint", galley, answer, answer_of(expected.map(|(_, sheet)| sheet)));
+        assert_eq!(file, dvi_bytes.len(), "{}, the DVI file's length", self.implementation.name);
+        self.agree("reprint", galley, [number, place, shown], answer_of(expected.map(|(_, sheet)| sheet)));
     }
 
     /// A galley written in the second edition; reading what was written gives it again.

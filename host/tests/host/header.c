@@ -11,7 +11,8 @@
 #define BYTES(...) (const uint8_t[]){__VA_ARGS__}, sizeof((const uint8_t[]){__VA_ARGS__})
 
 static int differ;
-static size_t answer[3];
+/* Three numbers, of a reprint four. */
+static size_t answer[4];
 static uint8_t room[4096];
 
 /* The last answer. */
@@ -196,9 +197,11 @@ static void reprints(void)
     uint8_t again[sizeof dvi], shown[sizeof sheet];
     sp_reprint(galley, sizeof galley, no_width, 0, again, sizeof again, shown, sizeof shown, answer);
     expect("reprint", SP_ACCEPTED, 0, sizeof sheet);
+    expect_true("the length of its DVI file", answer[3] == sizeof dvi);
     expect_true("the reprint", memcmp(again, dvi, sizeof dvi) == 0 && memcmp(shown, sheet, sizeof sheet) == 0);
     sp_reprint(galley, sizeof galley, no_width, 127, again, sizeof again, shown, sizeof shown, answer);
     expect("reprint with widths", SP_WIDTHS, 0, 0);
+    expect_true("no length of a DVI file", answer[3] == 0);
     sp_reprint(galley, sizeof galley, no_width, 0, again, sizeof again, shown, sizeof shown - 1, answer);
     expect("reprint without room", SP_SHEET_ROOM, sizeof sheet, 0);
 }

@@ -14,8 +14,8 @@ type ReadFile = fn(&[u8], &[i32], &mut [u8]) -> Answer;
 /// Fills the last slice from an XGP file, with the spacing of its lines and a table of widths.
 type ReadXgp = fn(&[u8], u16, &[i32], &mut [u8]) -> Answer;
 
-/// Fills the last two slices, a DVI file and its sheet.
-type FillBoth = fn(&[u8], &[i32], &mut [u8], &mut [u8]) -> Answer;
+/// Fills the last two slices, a DVI file and its sheet: number, place, the sheet's length and the DVI file's.
+type FillBoth = fn(&[u8], &[i32], &mut [u8], &mut [u8]) -> [usize; 4];
 
 /// The operations of one implementation.
 #[derive(Clone, Copy)]
@@ -84,9 +84,10 @@ pub const PLAIN: Implementation = Implementation {
     reprint: |galley, widths, dvi, sheet| match plain::reprint(galley, widths, dvi.len(), sheet.len()) {
         Ok((dvi_bytes, sheet_bytes)) => {
             dvi[..dvi_bytes.len()].copy_from_slice(&dvi_bytes);
-            filled(Ok(sheet_bytes), sheet, 30)
+            sheet[..sheet_bytes.len()].copy_from_slice(&sheet_bytes);
+            [0, 0, sheet_bytes.len(), dvi_bytes.len()]
         }
-        Err((number, place)) => [number, place, 0],
+        Err((number, place)) => [number, place, 0, 0],
     },
     write_dvi2: |galley, dvi| filled(plain::write_dvi2(galley), dvi, 42),
     read_dvi2: |dvi, galley| filled(plain::read_dvi2(dvi), galley, 12),
@@ -244,7 +245,8 @@ pub const LIBRARY: Implementation = Implementation {
         })
     },
     reprint: |galley, widths, dvi, sheet| {
-        answered(|answer| unsafe {
+        let mut answer = [usize::MAX; 4];
+        unsafe {
             ffi::sp_reprint(
                 galley.as_ptr(),
                 galley.len(),
@@ -254,9 +256,10 @@ pub const LIBRARY: Implementation = Implementation {
                 dvi.len(),
                 sheet.as_mut_ptr(),
                 sheet.len(),
-                answer,
+                &mut answer,
             )
-        })
+        }
+        answer
     },
     write_dvi2: |galley, dvi| {
         answered(|answer| unsafe {

@@ -12,50 +12,43 @@ use Rattle.octets.specs.Octets.{Bytes}
 use Rattle.octets.specs.Answer.{accepted, refused, outcomeOf, outcome, noDviRoom, noSheetRoom}
 use Rattle.dvi_writer.specs.Result.{dviResult}
 use Rattle.reprint.specs.Reprint.{stopped}
-use Rattle.reprint.specs.ReprintLaws.{found, file, not-whole, short-file, short-sheet}
+use Rattle.reprint.specs.ReprintLaws.{found, file, short-file, short-sheet}
 use Rattle.reprint.proofs.Calls.{refuses, same-file, sheet-needed, accepted-file, refused-file, refused-writing, file-fits, written-part, completes}
 use Rattle.reprint.proofs.reprint_checked.Statement.{statement}
 use Rattle.reprint.proofs.reprint_checked.Tie as tie
 
-returns : tie.Need-returns
-returns c =
-    let s = c .before .before .before .before in
-    let a = s .args in
-    let g = a .galley .now in
-    let k : Bytes g = λ i. c .before .before .before .shared-slice-known .given i .fits in
-    let e = sym (s .pre) in
-    refuses (a .dvi .now) (a .sheet .now) (not-whole g (a .count) k e (a .widths .now) (length (a .dvi .now)) (length (a .sheet .now)) (c .if1 .taken))
-
 sheet-length-requires : tie.Need-sheet-length-requires
-sheet-length-requires c κs = search needs
+sheet-length-requires c κs = c .before .before .before .pre .0
 
 file-length-requires : tie.Need-file-length-requires
-file-length-requires c κs = search needs
+file-length-requires c κs = c .before .before .before .before .before .pre .0
+
+returns : tie.Need-returns
+returns c =
+    let s = c .before .before .before .before .before .before .before in
+    let a = s .args in
+    let g = a .galley .now in
+    let k : Bytes g = λ i. c .before .before .before .before .before .before .shared-slice-known .given i .fits in
+    let e = sym (s .pre .0) in
+    let w = s .pre .1 in
+    let l = c .before .file-length .ensures ∙ sym (ap length (same-file g (a .count) k e)) in
+    let h : length (a .dvi .now) < length (file g (a .count) k e) = omega (arith, l, c .if2 .taken) in
+    refuses g (a .widths .now) (a .dvi .now) (a .sheet .now)
+    (short-file g (a .count) k e (a .widths .now) w (length (a .dvi .now)) (length (a .sheet .now)) h ∙ ap (stopped noDviRoom) (sym l))
 
 returns-2 : tie.Need-returns-2
 returns-2 c =
-    let s = c .before .before .before .before .before .before .before .before in
+    let s = c .before .before .before .before .before .before .before in
     let a = s .args in
     let g = a .galley .now in
-    let k : Bytes g = λ i. c .before .before .before .before .before .before .before .shared-slice-known .given i .fits in
-    let e = sym (s .pre) in
-    let l = c .before .file-length .ensures ∙ sym (ap length (same-file g (a .count) k e)) in
-    let h : length (a .dvi .now) < length (file g (a .count) k e) = omega (arith, l, c .if3 .taken) in
-    refuses (a .dvi .now) (a .sheet .now)
-    (short-file g (a .count) k e (a .widths .now) (c .before .before .before .before .if1 .left) (length (a .dvi .now)) (length (a .sheet .now)) h ∙ ap (stopped noDviRoom) (sym l))
-
-returns-3 : tie.Need-returns-3
-returns-3 c =
-    let s = c .before .before .before .before .before .before .before .before in
-    let a = s .args in
-    let g = a .galley .now in
-    let k : Bytes g = λ i. c .before .before .before .before .before .before .before .shared-slice-known .given i .fits in
-    let e = sym (s .pre) in
+    let k : Bytes g = λ i. c .before .before .before .before .before .before .shared-slice-known .given i .fits in
+    let e = sym (s .pre .0) in
+    let w = s .pre .1 in
     let l = c .before .file-length .ensures ∙ sym (ap length (same-file g (a .count) k e)) in
     let n = c .before .before .before .sheet-length .ensures ∙ sheet-needed g (a .count) k e in
-    let h : length (file g (a .count) k e) ≤ length (a .dvi .now) = omega (arith, l, c .if3 .left) in
-    refuses (a .dvi .now) (a .sheet .now)
-    (short-sheet g (a .count) k e (a .widths .now) (c .before .before .before .before .if1 .left) (length (a .dvi .now)) (length (a .sheet .now)) h (omega (arith, c .before .before .if2 .taken, n)) ∙ ap (stopped noSheetRoom) (sym n))
+    let h : length (file g (a .count) k e) ≤ length (a .dvi .now) = omega (arith, l, c .if2 .left) in
+    refuses g (a .widths .now) (a .dvi .now) (a .sheet .now)
+    (short-sheet g (a .count) k e (a .widths .now) w (length (a .dvi .now)) (length (a .sheet .now)) h (omega (arith, c .before .before .if1 .taken, n)) ∙ ap (stopped noSheetRoom) (sym n))
 
 write-dvi-requires : tie.Need-write-dvi-requires
 write-dvi-requires c κs = search needs
@@ -67,22 +60,22 @@ enum-known-written-2 : tie.Need-enum-known-written-2
 enum-known-written-2 c = search needs
 
 -- the writer has accepted the galley, with this length
-accepted-by : (c : tie.After-known-told2) → let a = c .before .before .before .before .before .before .before .before .before .before .before .before .before .args in accepted (c .before .written2 .given .0 .0) ≡ outcome (dviResult (a .galley .now) (length (a .dvi .now)))
+accepted-by : (c : tie.After-known-told2) → let a = c .before .before .before .before .before .before .before .before .before .before .before .before .args in accepted (c .before .written2 .given .0 .0) ≡ outcome (dviResult (a .galley .now) (length (a .dvi .now)))
 accepted-by c = sym (ap outcomeOf (c .before .written2 .given .1)) ∙ c .before .before .before .before .before .write-dvi .ensures .outcome-is
 
 part-fits : (c : tie.After-known-told2) → c .before .written2 .given .0 .0 ≤ length (c .before .before .before .before .before .write-dvi .last .1 .0)
 part-fits c =
-    let s = c .before .before .before .before .before .before .before .before .before .before .before .before .before in
+    let s = c .before .before .before .before .before .before .before .before .before .before .before .before in
     let a = s .args in
     let g = a .galley .now in
-    let k : Bytes g = λ i. c .before .before .before .before .before .before .before .before .before .before .before .before .shared-slice-known .given i .fits in
-    let e = sym (s .pre) in
+    let k : Bytes g = λ i. c .before .before .before .before .before .before .before .before .before .before .before .shared-slice-known .given i .fits in
+    let e = sym (s .pre .0) in
     let l = accepted-file g (a .count) k e (length (a .dvi .now)) _ (accepted-by c) in
     let h = file-fits g (a .count) k e (a .dvi .now) _ (accepted-by c) in
     omega (arith, l, h, c .before .before .before .before .before .write-dvi .kept .1 .0)
 
 -- the writer has refused it
-refused-by : (c : tie.After-known-told) → let a = c .before .before .before .before .before .before .before .before .before .before .before .before .before .args in refused (c .before .written .given .0 .0) (c .before .written .given .0 .1 .0) ≡ outcome (dviResult (a .galley .now) (length (a .dvi .now)))
+refused-by : (c : tie.After-known-told) → let a = c .before .before .before .before .before .before .before .before .before .before .before .before .args in refused (c .before .written .given .0 .0) (c .before .written .given .0 .1 .0) ≡ outcome (dviResult (a .galley .now) (length (a .dvi .now)))
 refused-by c = sym (ap outcomeOf (c .before .written .given .1)) ∙ c .before .before .before .before .before .write-dvi .ensures .outcome-is
 
 slice-reshare-prefix-read-dvi : tie.Need-slice-reshare-prefix-read-dvi
@@ -97,16 +90,17 @@ read-dvi-requires c κs = search needs
 same-length : tie.Need-same-length
 same-length c = search needs
 
-returns-4 : tie.Need-returns-4
-returns-4 c =
-    let s = c .before .before .before .before .before .before .before .before .before .before .before .before .before in
+returns-3 : tie.Need-returns-3
+returns-3 c =
+    let s = c .before .before .before .before .before .before .before .before .before .before .before .before in
     let a = s .args in
     let g = a .galley .now in
-    let k : Bytes g = λ i. c .before .before .before .before .before .before .before .before .before .before .before .before .shared-slice-known .given i .fits in
-    let e = sym (s .pre) in
+    let k : Bytes g = λ i. c .before .before .before .before .before .before .before .before .before .before .before .shared-slice-known .given i .fits in
+    let e = sym (s .pre .0) in
+    let w = s .pre .1 in
     let r = c .before .before .before .before .before .write-dvi in
-    let q = short-file g (a .count) k e (a .widths .now) (c .before .before .before .before .before .before .before .before .before .if1 .left) (length (a .dvi .now)) (length (a .sheet .now)) (refused-file g (a .count) k e (length (a .dvi .now)) _ _ (refused-by c) .1 .1) in
-    refused-writing g (a .count) k e (a .dvi .now) (a .sheet .now) _ _ (refused-by c) (r .ensures .buffer-is) q
+    let q = short-file g (a .count) k e (a .widths .now) w (length (a .dvi .now)) (length (a .sheet .now)) (refused-file g (a .count) k e (length (a .dvi .now)) _ _ (refused-by c) .1 .1) in
+    refused-writing g (a .count) k e (a .widths .now) (a .dvi .now) (a .sheet .now) _ _ (refused-by c) (r .ensures .buffer-is) q
 
 same-length-2 : tie.Need-same-length-2
 same-length-2 c = search needs
@@ -114,29 +108,29 @@ same-length-2 c = search needs
 same-length-3 : tie.Need-same-length-3
 same-length-3 c = search needs
 
-returns-5 : tie.Need-returns-5
-returns-5 c =
-    let s = c .before .before .before .before .before .before .before .before .before .before .before .before .before .before .before .before .before .before in
+returns-4 : tie.Need-returns-4
+returns-4 c =
+    let s = c .before .before .before .before .before .before .before .before .before .before .before .before .before .before .before .before .before in
     let a = s .args in
     let g = a .galley .now in
-    let k : Bytes g = λ i. c .before .before .before .before .before .before .before .before .before .before .before .before .before .before .before .before .before .shared-slice-known .given i .fits in
-    let e = sym (s .pre) in
+    let k : Bytes g = λ i. c .before .before .before .before .before .before .before .before .before .before .before .before .before .before .before .before .shared-slice-known .given i .fits in
+    let e = sym (s .pre .0) in
+    let w = s .pre .1 in
     let r = c .before .before .before .before .before .before .before .before .before .before .write-dvi in
     let q = accepted-by (c .before .before .before .before .before) in
     let d = c .before .before .read-dvi in
     let n = c .before .before .before .before .before .before .before .before .before .before .before .before .before .sheet-length .ensures ∙ sheet-needed g (a .count) k e in
-    completes g (a .count) k e (a .dvi .now) _ q (a .widths .now) (c .before .before .before .before .before .before .before .before .before .before .before .before .before .before .if1 .left) (a .sheet .now) (omega (arith, c .before .before .before .before .before .before .before .before .before .before .before .before .if2 .left, n)) (outcomeOf (d .result)) _ _ _
-    (written-part g (a .count) k e (a .dvi .now) _ q _ (r .ensures .buffer-is)) (r .ensures .buffer-is) (d .ensures .outcome-is) (d .ensures .buffer-is)
+    completes g (a .count) k e (a .dvi .now) _ q (a .widths .now) w (a .sheet .now) (omega (arith, c .before .before .before .before .before .before .before .before .before .before .before .before .if1 .left, n)) _ _ _ _
+    n (written-part g (a .count) k e (a .dvi .now) _ q _ (r .ensures .buffer-is)) (r .ensures .buffer-is) (d .ensures .buffer-is)
 
 pub reprint-checked-spec : {M : Type 1} → statement M
 reprint-checked-spec =
     tie.close
     (tie.spec
-    returns
     sheet-length-requires
     file-length-requires
+    returns
     returns-2
-    returns-3
     write-dvi-requires
     enum-known-written
     enum-known-written-2
@@ -144,7 +138,7 @@ reprint-checked-spec =
     slice-aggregate-read-dvi
     read-dvi-requires
     same-length
-    returns-4
+    returns-3
     same-length-2
     same-length-3
-    returns-5)
+    returns-4)

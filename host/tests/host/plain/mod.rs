@@ -37,18 +37,17 @@ pub fn with_room(result: Result<Vec<u8>, Refused>, room: usize, number: usize) -
     Ok(bytes)
 }
 
-/// A galley's DVI file and that file's sheet: 40, 41, then 43, then 31, then 42, then 30.
+/// A galley's DVI file and that file's sheet: 31, 40, then 41, then 43, then 42, then 30.
 pub fn reprint(
     galley: &[u8],
     widths: &[i32],
     dvi_room: usize,
     sheet_room: usize,
 ) -> Result<(Vec<u8>, Vec<u8>), Refused> {
-    let dvi = write_dvi(galley)?;
     if !widths.len().is_multiple_of(128) {
         return Err((31, 0));
     }
-    let dvi = with_room(Ok(dvi), dvi_room, 42)?;
+    let dvi = with_room(write_dvi(galley), dvi_room, 42)?;
     let sheet = with_room(read_dvi(&dvi, widths), sheet_room, 30)?;
     Ok((dvi, sheet))
 }

@@ -62,7 +62,8 @@ impl Call {
                 let (galley, widths) = (inputs.take("galley", bytes)?, inputs.take("widths", numbers)?);
                 Call::of(&["dvi", "sheet"], move |them, lent| {
                     let [dvi, sheet] = lent else { unreachable!() };
-                    (them.reprint)(&galley, &widths, dvi, sheet)
+                    let [number, place, shown, file] = (them.reprint)(&galley, &widths, dvi, sheet);
+                    ([number, place, shown], file)
                 })
             }
             "write_dvi2" => {
@@ -113,10 +114,12 @@ impl Call {
     }
 }
 
-/// What a call gives back beside what it writes: its answer, and a character, an item, extents or a report too.
+/// What a call gives back beside what it writes: its answer, and a second length, a character, an item,
+/// extents or a report too.
 #[derive(PartialEq, Debug)]
 pub struct Given {
     answer: Answer,
+    dvi_length: Option<usize>,
     character: Option<[i32; 4]>,
     item: Option<[i32; 5]>,
     extents: Option<([i32; 2], Vec<i32>)>,
@@ -124,9 +127,13 @@ pub struct Given {
 }
 
 impl Given {
-    /// What an operation should give; a character or an item that is left out is zeros.
+    /// What an operation should give; a length, a character or an item that is left out is zeros.
     pub fn read(operation: &str, answer: Answer, outputs: &mut Words) -> Result<Given, String> {
         match operation {
+            "reprint" => {
+                let dvi_length: Option<usize> = outputs.find("dvi_length", number)?;
+                Ok((answer, dvi_length.unwrap_or_default()).into())
+            }
             "read_back" => Ok((answer, outputs.find("character", character)?.unwrap_or_default()).into()),
             "item_at" => Ok((answer, outputs.find("item", item)?.unwrap_or_default()).into()),
             "extents" => {
@@ -141,7 +148,13 @@ impl Given {
 
 impl From<Answer> for Given {
     fn from(answer: Answer) -> Given {
-        Given { answer, character: None, item: None, extents: None, report: None }
+        Given { answer, dvi_length: None, character: None, item: None, extents: None, report: None }
+    }
+}
+
+impl From<(Answer, usize)> for Given {
+    fn from((answer, dvi_length): (Answer, usize)) -> Given {
+        Given { dvi_length: Some(dvi_length), ..answer.into() }
     }
 }
 
