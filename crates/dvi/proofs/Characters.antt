@@ -1,4 +1,4 @@
--- The commands of a valid character of a low height show it at its targets. The pen stands at targets of valid places, so every move between them and
+-- The commands of a valid character of a low height show it at its targets. The position stands at targets of valid places, so every move between them and
 -- every place fits 32 bits.
 -- Assumes nothing.
 use mathlib.Core.Path.{_≡_, refl}
@@ -14,9 +14,9 @@ use Rattle.measure.specs.Target.{xTarget, yTarget}
 use Rattle.measure.specs.TargetLaws.{target-parts, y-parts, x-move-fits, y-move-fits}
 use Rattle.galley_file.specs.declared.character.Character.{Character}
 use Rattle.galley_file.specs.CharacterLaws.{Valid, x-range, height-range}
-use Rattle.dvi.specs.Writer.{xTargetOf, yTargetOf, Pen, newPen, penAt, commandsOf}
+use Rattle.dvi.specs.Writer.{xTargetOf, yTargetOf, Position, startPosition, positionAt, commandsOf}
 use Rattle.dvi.specs.Demand3.{markOf}
-use Rattle.dvi.proofs.Pieces.{Leads, leads-append, leads-font, leads-x, leads-y, leads-char, penIn, penX}
+use Rattle.dvi.proofs.Pieces.{Leads, leads-append, leads-font, leads-x, leads-y, leads-char, positionIn, positionX}
 
 -- where a valid character may be
 record Place (x h : ℤ) : Type 0 where
@@ -37,16 +37,16 @@ x-fits {x} p = omega (integers, p .left, p .right, target-parts x)
 y-fits : {x h : ℤ} → Place x h → SFits w32 (yTarget h)
 y-fits {x} {h} p = omega (integers, p .top, p .bottom, y-parts h)
 
--- the pen stands at the targets of such a place
-pub record OnPage (pen : Pen) : Type 0 where
+-- the position stands at the targets of such a place
+pub record OnPage (position : Position) : Type 0 where
   x : ℤ
   h : ℤ
   place : Place x h
-  x-is : pen .x ≡ xTarget x
-  y-is : pen .y ≡ yTarget h
+  x-is : position .x ≡ xTarget x
+  y-is : position .y ≡ yTarget h
 
-pub on-new : OnPage newPen
-unfolding newPen xTarget yTarget
+pub on-new : OnPage startPosition
+unfolding startPosition xTarget yTarget
 on-new =
     record {
       x = pos 0;
@@ -56,18 +56,18 @@ on-new =
       y-is = refl;
     }
 
-pub on-at : (c : Character) → Valid lowEnd c → OnPage (penAt c)
-unfolding penAt
+pub on-at : (c : Character) → Valid lowEnd c → OnPage (positionAt c)
+unfolding positionAt
 on-at c v = record { x = c .x .0; h = c .height .0; place = place-of c v; x-is = refl; y-is = refl }
 
 module _ (ws : List ℤ) (last : ℤ) where
-  pub leads-character : (pen : Pen) (c : Character) → OnPage pen → Valid lowEnd c → Leads ws last pen (commandsOf pen c) (markOf c ∷ []) (penAt c)
-  unfolding commandsOf markOf penAt
-  leads-character pen c o v =
-      leads-append ws last (leads-font ws last pen (c .font) (v .font))
-      (leads-append ws last (leads-x ws last (penIn pen (c .font)) (xTargetOf c) move-x (x-fits to) (rw (o .y-is) (y-fits (o .place))))
-      (leads-append ws last (leads-y ws last (penX (penIn pen (c .font)) (xTargetOf c)) (yTargetOf c) move-y (y-fits to) (x-fits to))
-      (leads-char ws last (penAt c) (c .font) (c .code) refl (omega (arith, v .last)))))
+  pub leads-character : (position : Position) (c : Character) → OnPage position → Valid lowEnd c → Leads ws last position (commandsOf position c) (markOf c ∷ []) (positionAt c)
+  unfolding commandsOf markOf positionAt
+  leads-character position c o v =
+      leads-append ws last (leads-font ws last position (c .font) (v .font))
+      (leads-append ws last (leads-x ws last (positionIn position (c .font)) (xTargetOf c) move-x (x-fits to) (rw (o .y-is) (y-fits (o .place))))
+      (leads-append ws last (leads-y ws last (positionX (positionIn position (c .font)) (xTargetOf c)) (yTargetOf c) move-y (y-fits to) (x-fits to))
+      (leads-char ws last (positionAt c) (c .font) (c .code) refl (omega (arith, v .last)))))
     where
       from : Place (o .x) (o .h)
       from = o .place
@@ -75,8 +75,8 @@ module _ (ws : List ℤ) (last : ℤ) where
       to : Place (c .x .0) (c .height .0)
       to = place-of c v
 
-      move-x : SFits w32 (xTargetOf c -ℤ pen .x)
+      move-x : SFits w32 (xTargetOf c -ℤ position .x)
       move-x = rw (o .x-is) (x-move-fits (c .x .0) (o .x) (to .left) (to .right) (from .left) (from .right))
 
-      move-y : SFits w32 (yTargetOf c -ℤ pen .y)
+      move-y : SFits w32 (yTargetOf c -ℤ position .y)
       move-y = rw (o .y-is) (y-move-fits (c .height .0) (o .h) (to .top) (to .bottom) (from .top) (from .bottom))

@@ -1,4 +1,4 @@
--- What each of the writer's pieces does to a page that stands where the pen does: the font command, the two moves, HORZCHAR.
+-- What each of the writer's pieces does to a page that stands where the position does: the font command, the two moves, HORZCHAR.
 -- Assumes nothing.
 use mathlib.Core.Path.{_≡_, refl, ap, _∙_}
 use mathlib.Core.List.{List, [], _∷_, _++_}
@@ -19,39 +19,39 @@ use Rattle.dvi.specs.Command.{HORZCHAR, FONT, X4, Y4, FONTNUM, Command, 
 use Rattle.sheet.specs.Sheet.{Mark, charMark}
 use Rattle.dvi.specs.Page.{Numbers, Page, moved, marked, withNumbers, withFont, rightBy, downBy, setX, setY, ifFits, goTo, charHere, setStill, effect}
 use Rattle.dvi.specs.File.{inside}
-use Rattle.dvi.specs.Writer.{Pen, fontCommand, fontChange, shortest, move}
+use Rattle.dvi.specs.Writer.{Position, fontCommand, fontChange, shortest, move}
 use Rattle.dvi.proofs.Runs.{Goes, goes-nil, goes-append, goes-moved, goes-marked, decode-takes, decode-bare}
 
 abbrev pub asSigned : Option ℕ → Option ℤ
 asSigned none = none
 asSigned (some f) = some (pos f)
 
--- the page stands where the pen does, and its stack is empty
-pub record Stands (pen : Pen) (p : Page) : Type 0 where
-  pub at-x : p .numbers .atX ≡ pen .x
-  pub at-y : p .numbers .atY ≡ pen .y
-  pub at-font : p .font ≡ asSigned (pen .font)
+-- the page stands where the position does, and its stack is empty
+pub record Stands (position : Position) (p : Page) : Type 0 where
+  pub at-x : p .numbers .atX ≡ position .x
+  pub at-y : p .numbers .atY ≡ position .y
+  pub at-font : p .font ≡ asSigned (position .font)
   pub at-stack : p .stack ≡ []
 
-pub record Reached (ws : List ℤ) (last : ℤ) (p : Page) (bs : List ℕ) (ms : List Mark) (pen : Pen) : Type 0 where
+pub record Reached (ws : List ℤ) (last : ℤ) (p : Page) (bs : List ℕ) (ms : List Mark) (position : Position) : Type 0 where
   pub page : Page
-  pub stands : Stands pen page
+  pub stands : Stands position page
   pub goes : (at : ℕ) → Goes ws at (inside last p) bs ms (inside last page)
 
--- from any page that stands at the one pen the bytes show ms and lead to one that stands at the other
-pub record Leads (ws : List ℤ) (last : ℤ) (pen : Pen) (bs : List ℕ) (ms : List Mark) (to : Pen) : Type 0 where
-  pub lead : (p : Page) → Stands pen p → Reached ws last p bs ms to
+-- from any page that stands at the one position the bytes show ms and lead to one that stands at the other
+pub record Leads (ws : List ℤ) (last : ℤ) (position : Position) (bs : List ℕ) (ms : List Mark) (to : Position) : Type 0 where
+  pub lead : (p : Page) → Stands position p → Reached ws last p bs ms to
 
--- ---- the pen with another font, X or Y
+-- ---- the position with another font, X or Y
 
-abbrev pub penIn : Pen → ℕ → Pen
-penIn pen f = record { font = some f; x = pen .x; y = pen .y }
+abbrev pub positionIn : Position → ℕ → Position
+positionIn position f = record { font = some f; x = position .x; y = position .y }
 
-abbrev pub penX : Pen → ℤ → Pen
-penX pen a = record { font = pen .font; x = a; y = pen .y }
+abbrev pub positionX : Position → ℤ → Position
+positionX position a = record { font = position .font; x = a; y = position .y }
 
-abbrev pub penY : Pen → ℤ → Pen
-penY pen b = record { font = pen .font; x = pen .x; y = b }
+abbrev pub positionY : Position → ℤ → Position
+positionY position b = record { font = position .font; x = position .x; y = b }
 
 -- ---- single commands
 
@@ -94,9 +94,9 @@ byte c h = signedBytes-pos 1 c ∙ ap {B = List ℕ} (λ (n : ℕ). n ∷ []) (o
 -- ---- the pieces, one after another
 
 module _ (ws : List ℤ) (last : ℤ) where
-  pub leads-append : {pen mid to : Pen} {bs cs : List ℕ} {ms ns : List Mark} → Leads ws last pen bs ms mid → Leads ws last mid cs ns to
-      → Leads ws last pen (bs ++ cs) (ms ++ ns) to
-  leads-append {pen} {mid} {to} {bs} {cs} {ms} {ns} f g = record { lead = λ p h. both (f .lead p h) }
+  pub leads-append : {position mid to : Position} {bs cs : List ℕ} {ms ns : List Mark} → Leads ws last position bs ms mid → Leads ws last mid cs ns to
+      → Leads ws last position (bs ++ cs) (ms ++ ns) to
+  leads-append {position} {mid} {to} {bs} {cs} {ms} {ns} f g = record { lead = λ p h. both (f .lead p h) }
     where
       chain : {p : Page} (r : Reached ws last p bs ms mid) → Reached ws last (r .page) cs ns to → Reached ws last p (bs ++ cs) (ms ++ ns) to
       chain r s = record { page = s .page; stands = s .stands; goes = λ at. goes-append ws at (r .goes at) (s .goes (at + length bs)) }
@@ -113,9 +113,9 @@ module _ (ws : List ℤ) (last : ℤ) where
       (λ e. goes-moved ws at last p (withFont p (pos f)) (setFont (pos f)) (FONTNUM + f) [] (decode-bare (FONTNUM + f) (setFont (pos f)) (form-fontnum f (ltb-true f 64 e))) refl)
       (λ e. goes-moved ws at last p (withFont p (pos f)) (setFont (pos f)) FONT (signedBytes 4 (pos f)) (decode-takes FONT 4 setFont (pos f) refl (record { half = omega arith })) refl)
 
-  leads-fontCommand : (pen : Pen) (f : ℕ) → f < 120 → Leads ws last pen (fontCommand f) [] (penIn pen f)
+  leads-fontCommand : (position : Position) (f : ℕ) → f < 120 → Leads ws last position (fontCommand f) [] (positionIn position f)
   unfolding withFont
-  leads-fontCommand pen f h =
+  leads-fontCommand position f h =
       record {
         lead = λ p k. record {
           page = withFont p (pos f);
@@ -125,8 +125,8 @@ module _ (ws : List ℤ) (last : ℤ) where
       }
 
   -- no font command where the font stays
-  leads-same : (pen : Pen) (g f : ℕ) → pen .font ≡ some g → g ≡ f → Leads ws last pen [] [] (penIn pen f)
-  leads-same pen g f e k =
+  leads-same : (position : Position) (g f : ℕ) → position .font ≡ some g → g ≡ f → Leads ws last position [] [] (positionIn position f)
+  leads-same position g f e k =
       record {
         lead = λ p h. record {
           page = p;
@@ -140,30 +140,30 @@ module _ (ws : List ℤ) (last : ℤ) where
         };
       }
 
-  pub leads-font : (pen : Pen) (f : ℕ) → f < 120 → Leads ws last pen (fontChange (pen .font) f) [] (penIn pen f)
+  pub leads-font : (position : Position) (f : ℕ) → f < 120 → Leads ws last position (fontChange (position .font) f) [] (positionIn position f)
   unfolding fontChange
-  leads-font pen f h = go (pen .font) refl
+  leads-font position f h = go (position .font) refl
     where
-      go : (o : Option ℕ) → pen .font ≡ o → Leads ws last pen (fontChange o f) [] (penIn pen f)
-      go none e = leads-fontCommand pen f h
+      go : (o : Option ℕ) → position .font ≡ o → Leads ws last position (fontChange o f) [] (positionIn position f)
+      go none e = leads-fontCommand position f h
       go (some g) e =
-          by-cond (λ (bs : List ℕ). Leads ws last pen bs [] (penIn pen f)) (eqb g f) _ _
-          (λ t. leads-same pen g f e (eqb-true g f t))
-          (λ t. leads-fontCommand pen f h)
+          by-cond (λ (bs : List ℕ). Leads ws last position bs [] (positionIn position f)) (eqb g f) _ _
+          (λ t. leads-same position g f e (eqb-true g f t))
+          (λ t. leads-fontCommand position f h)
 
   -- ---- the moves
 
   -- a move by the shortest command, left out where it is 0
-  leads-move : (pen to : Pen) (op : ℕ) (make : ℤ → Command) (m : ℤ) (after : Page → Page) → Three op make → SFits w32 m
-      → (m ≡ pos 0 → (p : Page) → Stands pen p → Stands to p)
-      → ((p : Page) → Stands pen p → Stands to (after p))
-      → ((p : Page) → Stands pen p → effect ws p (make m) ≡ moved (after p)) → Leads ws last pen (move op m) [] to
+  leads-move : (position to : Position) (op : ℕ) (make : ℤ → Command) (m : ℤ) (after : Page → Page) → Three op make → SFits w32 m
+      → (m ≡ pos 0 → (p : Page) → Stands position p → Stands to p)
+      → ((p : Page) → Stands position p → Stands to (after p))
+      → ((p : Page) → Stands position p → effect ws p (make m) ≡ moved (after p)) → Leads ws last position (move op m) [] to
   unfolding move shortest
-  leads-move pen to op make m after forms fits still there eff =
+  leads-move position to op make m after forms fits still there eff =
       let k = widthOf m in
       let r = width-range m in
       let decoded = decode-takes (op + (4 - k)) k make m (forms k (r .0) (r .1)) (width-holds m (fits .sfits)) in
-      by-cond (λ (bs : List ℕ). Leads ws last pen bs [] to) (eqZ m (pos 0)) _ _
+      by-cond (λ (bs : List ℕ). Leads ws last position bs [] to) (eqZ m (pos 0)) _ _
       (λ t. record {
         lead = λ p h. record { page = p; stands = still (eqZ-true m (pos 0) t) p h; goes = λ at. goes-nil ws at (inside last p) };
       })
@@ -175,47 +175,47 @@ module _ (ws : List ℤ) (last : ℤ) where
         };
       })
 
-  pub leads-x : (pen : Pen) (a : ℤ) → SFits w32 (a -ℤ pen .x) → SFits w32 a → SFits w32 (pen .y) → Leads ws last pen (move X4 (a -ℤ pen .x)) [] (penX pen a)
+  pub leads-x : (position : Position) (a : ℤ) → SFits w32 (a -ℤ position .x) → SFits w32 a → SFits w32 (position .y) → Leads ws last position (move X4 (a -ℤ position .x)) [] (positionX position a)
   unfolding withNumbers setX rightBy effect formOf forms
-  leads-x pen a fm fa fy =
-      leads-move pen (penX pen a) X4 moveX m (λ p. withNumbers p (setX m (rightBy m (p .numbers)))) (three X4 moveX refl refl refl) fm
-      (λ e p h. record { at-x = h .at-x ∙ no-move (pen .x) a e; at-y = h .at-y; at-font = h .at-font; at-stack = h .at-stack })
+  leads-x position a fm fa fy =
+      leads-move position (positionX position a) X4 moveX m (λ p. withNumbers p (setX m (rightBy m (p .numbers)))) (three X4 moveX refl refl refl) fm
+      (λ e p h. record { at-x = h .at-x ∙ no-move (position .x) a e; at-y = h .at-y; at-font = h .at-font; at-stack = h .at-stack })
       (λ p h. record { at-x = arrives p h; at-y = h .at-y; at-font = h .at-font; at-stack = h .at-stack })
       (λ p h. goTo-fits p (setX m (rightBy m (p .numbers))) (rw (arrives p h) fa) (rw (h .at-y) fy))
     where
       m : ℤ
-      m = a -ℤ pen .x
+      m = a -ℤ position .x
 
-      arrives : (p : Page) → Stands pen p → p .numbers .atX +ℤ m ≡ a
-      arrives p h = ap (λ (z : ℤ). z +ℤ m) (h .at-x) ∙ move-ends (pen .x) a
+      arrives : (p : Page) → Stands position p → p .numbers .atX +ℤ m ≡ a
+      arrives p h = ap (λ (z : ℤ). z +ℤ m) (h .at-x) ∙ move-ends (position .x) a
 
-  pub leads-y : (pen : Pen) (b : ℤ) → SFits w32 (b -ℤ pen .y) → SFits w32 b → SFits w32 (pen .x) → Leads ws last pen (move Y4 (b -ℤ pen .y)) [] (penY pen b)
+  pub leads-y : (position : Position) (b : ℤ) → SFits w32 (b -ℤ position .y) → SFits w32 b → SFits w32 (position .x) → Leads ws last position (move Y4 (b -ℤ position .y)) [] (positionY position b)
   unfolding withNumbers setY downBy effect formOf forms
-  leads-y pen b fm fb fx =
-      leads-move pen (penY pen b) Y4 moveY m (λ p. withNumbers p (setY m (downBy m (p .numbers)))) (three Y4 moveY refl refl refl) fm
-      (λ e p h. record { at-x = h .at-x; at-y = h .at-y ∙ no-move (pen .y) b e; at-font = h .at-font; at-stack = h .at-stack })
+  leads-y position b fm fb fx =
+      leads-move position (positionY position b) Y4 moveY m (λ p. withNumbers p (setY m (downBy m (p .numbers)))) (three Y4 moveY refl refl refl) fm
+      (λ e p h. record { at-x = h .at-x; at-y = h .at-y ∙ no-move (position .y) b e; at-font = h .at-font; at-stack = h .at-stack })
       (λ p h. record { at-x = h .at-x; at-y = arrives p h; at-font = h .at-font; at-stack = h .at-stack })
       (λ p h. goTo-fits p (setY m (downBy m (p .numbers))) (rw (h .at-x) fx) (rw (arrives p h) fb))
     where
       m : ℤ
-      m = b -ℤ pen .y
+      m = b -ℤ position .y
 
-      arrives : (p : Page) → Stands pen p → p .numbers .atY +ℤ m ≡ b
-      arrives p h = ap (λ (z : ℤ). z +ℤ m) (h .at-y) ∙ move-ends (pen .y) b
+      arrives : (p : Page) → Stands position p → p .numbers .atY +ℤ m ≡ b
+      arrives p h = ap (λ (z : ℤ). z +ℤ m) (h .at-y) ∙ move-ends (position .y) b
 
   -- ---- HORZCHAR
 
-  pub leads-char : (pen : Pen) (f c : ℕ) → pen .font ≡ some f → c < 128
-      → Leads ws last pen (HORZCHAR ∷ c ∷ []) (charMark (pen .x) (pen .y) (pos f) c ∷ []) pen
+  pub leads-char : (position : Position) (f c : ℕ) → position .font ≡ some f → c < 128
+      → Leads ws last position (HORZCHAR ∷ c ∷ []) (charMark (position .x) (position .y) (pos f) c ∷ []) position
   unfolding effect formOf forms
-  leads-char pen f c e k =
+  leads-char position f c e k =
       record {
         lead = λ p h. record {
           page = p;
           stands = h;
           goes = λ at.
-              goes-marked ws at last p p (horzChar (pos c)) (charMark (pen .x) (pen .y) (pos f) c) HORZCHAR (c ∷ [])
+              goes-marked ws at last p p (horzChar (pos c)) (charMark (position .x) (position .y) (pos f) c) HORZCHAR (c ∷ [])
               (λ rest. rw (byte c k) at (decode-takes HORZCHAR 1 horzChar (pos c) refl (record { half = omega arith }) rest))
-              (set-still p c (pen .x) (pen .y) (pos f) k (h .at-x) (h .at-y) (h .at-font ∙ ap asSigned e));
+              (set-still p c (position .x) (position .y) (pos f) k (h .at-x) (h .at-y) (h .at-font ∙ ap asSigned e));
         };
       }

@@ -9,6 +9,7 @@ pub mod Sheet
 pub mod SheetLaws
 pub mod Writer
 pub mod WriterLaws
+pub mod FontOrNone
 pub mod Edition
 pub mod EditionLaws
 pub mod Demand3

@@ -1,24 +1,25 @@
 -- The DVI file of a list of items, to the last byte (document 01, "Our writer makes one page"; document 02, "Software cuts").
 --     xTargetOf, yTargetOf     a character's targets
---     Pen                      what was last set: the font, X and Y
---     commandsOf               the commands that set a character after this pen
+--     Position                 what was last set: the font, X and Y
+--     commandsOf               the commands that set a character after this position
 --     bopBytes                 the start of a page
---     Press                    how far the file is made: the pen, the page's number, its offset, and the next byte's
---     itemBytes                the bytes of an item after this press, and pressAfter the press after them
---     itemsBytes               those of a list of items, and pressAll the press after them
+--     Writing                  how far the file is made: the position, the page's number, its offset, and the next byte's
+--     itemBytes                the bytes of an item after this writing, and writingAfter the writing after them
+--     itemsBytes               those of a list of items, and writingAfterAll the writing after them
 --     pagesBytes               all pages
 --     definition               a font's definition
 --     postambleBytes           the postamble
 --     dviFile                  the file
 use Prim.Native.Nat.{ℕ, suc, _+_, _-_, _/_, _%_}
 use mathlib.Core.Bool.{cond}
-use mathlib.Core.List.{List, [], _∷_, _++_, map}
+use mathlib.Core.List.{List, [], _∷_, _++_, map, foldl}
 use mathlib.Core.Option.{Option, none, some}
 use lib.Dec.{ltb, eqb}
 use lib.IntN.{ℤ, pos, negsuc, _-ℤ_}
 use lib.ListN.{length}
 use Rattle.integers.specs.Parts.{eqZ}
 use Rattle.octets.specs.Octets.{signedBytes, widthOf}
+use Rattle.octets.specs.Transducer.{transduced}
 use Rattle.measure.specs.Target.{xTarget, yTarget}
 use Rattle.galley_file.specs.Font.{fontOf, pointSize}
 use Rattle.galley_file.specs.declared.character.Character.{Character}
@@ -38,17 +39,17 @@ xTargetOf c = xTarget (c .x .0)
 abbrev pub yTargetOf : Character → ℤ
 yTargetOf c = yTarget (c .height .0)
 
-pub record Pen : Type 0 where
+pub record Position : Type 0 where
   pub font : Option ℕ
   pub x : ℤ
   pub y : ℤ
 
 -- at the start of a page: no font, and a page's first moves are from 0
-unfoldable pub newPen : Pen
-newPen = record { font = none; x = pos 0; y = pos 0 }
+unfoldable pub startPosition : Position
+startPosition = record { font = none; x = pos 0; y = pos 0 }
 
-unfoldable pub penAt : Character → Pen
-penAt c = record { font = some (c .font); x = xTargetOf c; y = yTargetOf c }
+unfoldable pub positionAt : Character → Position
+positionAt c = record { font = some (c .font); x = xTargetOf c; y = yTargetOf c }
 
 -- 154 to 217 up to 63, else 137
 unfoldable pub fontCommand : ℕ → List ℕ
@@ -68,7 +69,7 @@ unfoldable pub move : ℕ → ℤ → List ℕ
 move op m = cond (eqZ m (pos 0)) [] (shortest op m)
 
 -- the font, the horizontal move, the vertical move, HORZCHAR; moves are differences of targets
-unfoldable pub commandsOf : Pen → Character → List ℕ
+unfoldable pub commandsOf : Position → Character → List ℕ
 commandsOf p c =
     fontChange (p .font) (c .font)
     ++ (move X4 (xTargetOf c -ℤ p .x) ++ (move Y4 (yTargetOf c -ℤ p .y) ++ (HORZCHAR ∷ c .code ∷ [])))
@@ -79,8 +80,8 @@ commandsOf p c =
 unfoldable pub bopBytes : ℕ → ℤ → List ℕ
 bopBytes n previous = BOP ∷ signedBytes 4 (pos n) ++ signedBytes 4 previous
 
-pub record Press : Type 0 where
-  pub pen : Pen
+pub record Writing : Type 0 where
+  pub position : Position
   -- the page's number
   pub page : ℕ
   -- the offset of its BOP
@@ -89,30 +90,28 @@ pub record Press : Type 0 where
   pub at : ℕ
 
 -- after the first BOP: page 1, at offset 0
-unfoldable pub firstPress : Press
-firstPress = record { pen = newPen; page = 1; bop = 0; at = 9 }
+unfoldable pub firstWriting : Writing
+firstWriting = record { position = startPosition; page = 1; bop = 0; at = 9 }
 
 -- "each cut ends the page and starts the next, numbered 1, 2, 3": EOP, and BOP with the next number and this page's offset
-unfoldable pub itemBytes : Press → Item → List ℕ
-itemBytes p (Placed c) = commandsOf (p .pen) c
+unfoldable pub itemBytes : Writing → Item → List ℕ
+itemBytes p (Placed c) = commandsOf (p .position) c
 itemBytes p Cut = EOP ∷ bopBytes (suc (p .page)) (pos (p .bop))
 
--- a new page has a new pen: "with the font stated anew"; its BOP follows EOP
-unfoldable pub pressAfter : Press → Item → Press
-pressAfter p (Placed c) = record { pen = penAt c; page = p .page; bop = p .bop; at = p .at + length (commandsOf (p .pen) c) }
-pressAfter p Cut = record { pen = newPen; page = suc (p .page); bop = p .at + 1; at = p .at + 10 }
+-- a page begins at the start position: "with the font stated anew"; its BOP follows EOP
+unfoldable pub writingAfter : Writing → Item → Writing
+writingAfter p (Placed c) = record { position = positionAt c; page = p .page; bop = p .bop; at = p .at + length (commandsOf (p .position) c) }
+writingAfter p Cut = record { position = startPosition; page = suc (p .page); bop = p .at + 1; at = p .at + 10 }
 
-unfoldable pub itemsBytes : Press → List Item → List ℕ
-itemsBytes p [] = []
-itemsBytes p (i ∷ is) = itemBytes p i ++ itemsBytes (pressAfter p i) is
+abbrev pub itemsBytes : Writing → List Item → List ℕ
+itemsBytes w is = transduced itemBytes writingAfter w is
 
-unfoldable pub pressAll : Press → List Item → Press
-pressAll p [] = p
-pressAll p (i ∷ is) = pressAll (pressAfter p i) is
+abbrev pub writingAfterAll : Writing → List Item → Writing
+writingAfterAll w is = foldl writingAfter w is
 
 -- the first page's BOP, the items, and the last page's EOP
 unfoldable pub pagesBytes : List Item → List ℕ
-pagesBytes is = bopBytes 1 (negsuc 0) ++ (itemsBytes firstPress is ++ (EOP ∷ []))
+pagesBytes is = bopBytes 1 (negsuc 0) ++ (itemsBytes firstWriting is ++ (EOP ∷ []))
 
 -- ---- the postamble
 
@@ -143,4 +142,4 @@ postambleBytes last pst cs =
 
 -- "Postamble height and width are over all pages", and so are the fonts defined
 unfoldable pub dviFile : List Item → List ℕ
-dviFile is = pagesBytes is ++ postambleBytes (pressAll firstPress is .bop) (length (pagesBytes is)) (charactersOf is)
+dviFile is = pagesBytes is ++ postambleBytes (writingAfterAll firstWriting is .bop) (length (pagesBytes is)) (charactersOf is)

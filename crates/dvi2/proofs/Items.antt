@@ -1,4 +1,4 @@
--- The bytes of valid items show them, one after the other: a character on its page, and a cut as the start of the next. A reader stands where the press does.
+-- The bytes of valid items show them, one after the other: a character on its page, and a cut as the start of the next. A reader stands where the writing does.
 -- Assumes nothing.
 use mathlib.Core.Path.{_≡_, refl, ap}
 use mathlib.Core.List.{List, [], _∷_, _++_}
@@ -14,6 +14,7 @@ use Rattle.integers.specs.Parts.{integers, dif-parts, scale-parts}
 use Rattle.octets.specs.Octets.{bytes, signedBytes}
 use Rattle.octets.specs.OctetsLaws.{signed-first, signedBytes-pos}
 use Rattle.measure.specs.Place.{heightEnd}
+use Rattle.octets.specs.Transducer.{transduced}
 use Rattle.galley_file.specs.declared.character.Character.{Character}
 use Rattle.galley_file.specs.declared.item.Item.{Item}
 use Rattle.galley_file.specs.declared.item.Item.the-variants.{Placed, Cut}
@@ -23,15 +24,15 @@ use Rattle.galley_file.specs.Galley as galley
 use Rattle.sheet.specs.Sheet.{Mark, pageMark}
 use Rattle.dvi.specs.Page.{Page, newPage}
 use Rattle.extents.specs.FontMarks.{uses}
-use Rattle.dvi.specs.Writer.{Pen, newPen}
+use Rattle.dvi.specs.Writer.{Position, startPosition}
 use Rattle.dvi.specs.EditionLaws.{markAt, marksAt}
 use Rattle.dvi2.specs.Command.{BOP, EOP, firstForms, formOf, withParameters, decode}
 use Rattle.dvi2.specs.Page.{perUnit, between, inside, endPage, effect}
 use Rattle.dvi2.specs.File.{goOn, afterEffect, inPage, beginPage, betweenPages, step}
-use Rattle.dvi2.specs.Writer.{hOf, vOf, penAt, commandsOf, bopBytes, Press, itemBytes, pressAfter, itemsBytes, pressAll}
+use Rattle.dvi2.specs.Writer.{hOf, vOf, positionAt, commandsOf, bopBytes, Writing, itemBytes, writingAfter, itemsBytes, writingAfterAll}
 use Rattle.dvi2.specs.WriterLaws.{Small, small-next}
 use Rattle.dvi2.proofs.Runs.{Goes, goes-nil, goes-append, goes-step}
-use Rattle.dvi2.proofs.Pieces.{Stands, Reached, Leads, leads-append, leads-font, leads-right, leads-down, leads-put, penIn, penX}
+use Rattle.dvi2.proofs.Pieces.{Stands, Reached, Leads, leads-append, leads-font, leads-right, leads-down, leads-put, positionIn, positionX}
 
 -- where an x is shown
 abbrev pub across : ℤ → ℤ
@@ -39,19 +40,19 @@ across x = perUnit *ℤ x
 
 -- ---- a character
 
--- the pen stands at the place of a valid character, or at a page's start
-pub record OnPage (pen : Pen) : Type 0 where
-  left : negsuc 54 ≤ℤ pen .x
-  right : pen .x ≤ℤ pos 3239
-  top : pos 0 ≤ℤ pen .y
-  bottom : pen .y ≤ℤ pos 3000000
+-- the position stands at the place of a valid character, or at a page's start
+pub record OnPage (position : Position) : Type 0 where
+  left : negsuc 54 ≤ℤ position .x
+  right : position .x ≤ℤ pos 3239
+  top : pos 0 ≤ℤ position .y
+  bottom : position .y ≤ℤ pos 3000000
 
-pub on-new : OnPage newPen
-unfolding newPen
+pub on-new : OnPage startPosition
+unfolding startPosition
 on-new = record { left = omega integers; right = omega integers; top = omega integers; bottom = omega integers }
 
-pub on-at : (c : Character) → Valid heightEnd c → OnPage (penAt c)
-unfolding penAt
+pub on-at : (c : Character) → Valid heightEnd c → OnPage (positionAt c)
+unfolding positionAt
 on-at c v =
     let h = c .height .0 in
     let r = x-range v in
@@ -74,17 +75,17 @@ three-times : (h : ℤ) → perUnit *ℤ (pos 3 *ℤ h) ≡ pos 3 *ℤ (pos 3276
 three-times h =
     omega (integers, scale-parts 32768 (pos 3 *ℤ h), scale-parts 3 h, scale-parts 3 (pos 32768 *ℤ h), scale-parts 32768 h)
 
-leads-character : (cs : List Character) (pen : Pen) (c : Character) → OnPage pen → Valid heightEnd c
-    → Leads cs pen (commandsOf (uses (c .font) cs) pen c) (markAt across c ∷ []) (cs ++ (c ∷ [])) (penAt c)
-unfolding commandsOf markAt penAt
-leads-character cs pen c o v =
+leads-character : (cs : List Character) (position : Position) (c : Character) → OnPage position → Valid heightEnd c
+    → Leads cs position (commandsOf (uses (c .font) cs) position c) (markAt across c ∷ []) (cs ++ (c ∷ [])) (positionAt c)
+unfolding commandsOf markAt positionAt
+leads-character cs position c o v =
     rw (three-times (c .height .0)) at
-    (leads-append (leads-font cs pen c)
-    (leads-append (leads-right (cs ++ (c ∷ [])) (penIn pen (c .font)) (hOf c) (x-small (hOf c) (pen .x) (to .left) (to .right) (o .left) (o .right) .sfits))
-    (leads-append (leads-down (cs ++ (c ∷ [])) (penX (penIn pen (c .font)) (hOf c)) (vOf c) (y-small (vOf c) (pen .y) (to .top) (to .bottom) (o .top) (o .bottom) .sfits))
-    (leads-put (cs ++ (c ∷ [])) (penAt c) (c .font) (c .code) refl))))
+    (leads-append (leads-font cs position c)
+    (leads-append (leads-right (cs ++ (c ∷ [])) (positionIn position (c .font)) (hOf c) (x-small (hOf c) (position .x) (to .left) (to .right) (o .left) (o .right) .sfits))
+    (leads-append (leads-down (cs ++ (c ∷ [])) (positionX (positionIn position (c .font)) (hOf c)) (vOf c) (y-small (vOf c) (position .y) (to .top) (to .bottom) (o .top) (o .bottom) .sfits))
+    (leads-put (cs ++ (c ∷ [])) (positionAt c) (c .font) (c .code) refl))))
   where
-    to : OnPage (penAt c)
+    to : OnPage (positionAt c)
     to = on-at c v
 
 -- ---- a page's start and end
@@ -106,27 +107,27 @@ end-page fs p e = goes-step (inside fs p) (between fs) EOP [] [] (λ rest. rw e)
 
 -- ---- the items
 
-reached-append : {fs : List ℤ} {p : Page} {bs bs′ : List ℕ} {ms ns : List Mark} {cs ds : List Character} {mid to : Pen} (r : Reached fs p bs ms cs mid) → Reached (r .fonts) (r .page) bs′ ns ds to
+reached-append : {fs : List ℤ} {p : Page} {bs bs′ : List ℕ} {ms ns : List Mark} {cs ds : List Character} {mid to : Position} (r : Reached fs p bs ms cs mid) → Reached (r .fonts) (r .page) bs′ ns ds to
     → Reached fs p (bs ++ bs′) (ms ++ ns) ds to
 reached-append r s = record { fonts = s .fonts; page = s .page; stands = s .stands; goes = goes-append (r .goes) (s .goes) }
 
-stands-new : (cs : List Character) (pen : Pen) (fs : List ℤ) (p : Page) → Stands cs pen fs p → Stands cs newPen fs newPage
-unfolding newPen newPage
-stands-new cs pen fs p h = record { at-x = refl; at-y = refl; at-font = refl; at-stack = refl; used = h .used; current = λ f e. cc }
+stands-new : (cs : List Character) (position : Position) (fs : List ℤ) (p : Page) → Stands cs position fs p → Stands cs startPosition fs newPage
+unfolding startPosition newPage
+stands-new cs position fs p h = record { at-x = refl; at-y = refl; at-font = refl; at-stack = refl; used = h .used; current = λ f e. cc }
 
-pub prints-items : (from : Press) {is : List Item} → OnPage (from .pen) → Small from (length is) → AllValid heightEnd is → (fs : List ℤ) (p : Page) → Stands (from .behind) (from .pen) fs p
-    → Reached fs p (itemsBytes from is) (marksAt across (from .page) is) (pressAll from is .behind) (pressAll from is .pen)
-unfolding itemsBytes itemBytes marksAt pressAll pressAfter
+pub prints-items : (from : Writing) {is : List Item} → OnPage (from .position) → Small from (length is) → AllValid heightEnd is → (fs : List ℤ) (p : Page) → Stands (from .behind) (from .position) fs p
+    → Reached fs p (itemsBytes from is) (marksAt across (from .page) is) (writingAfterAll from is .behind) (writingAfterAll from is .position)
+unfolding transduced itemBytes marksAt writingAfter
 prints-items from o s galley.nil fs p h = record { fonts = fs; page = p; stands = h; goes = goes-nil (inside fs p) }
 prints-items from o s (galley.more {i = Placed c} {is = is} v vs) fs p h =
-    let r = leads-character (from .behind) (from .pen) c o (valid-parts v) .lead fs p h in
-    reached-append r (prints-items (pressAfter from (Placed c)) (on-at c (valid-parts v)) (small-next from (Placed c) (length is) s) vs (r .fonts) (r .page) (r .stands))
+    let r = leads-character (from .behind) (from .position) c o (valid-parts v) .lead fs p h in
+    reached-append r (prints-items (writingAfter from (Placed c)) (on-at c (valid-parts v)) (small-next from (Placed c) (length is) s) vs (r .fonts) (r .page) (r .stands))
 prints-items from o s (galley.more {i = Cut} {is = is} v vs) fs p h =
     reached-append
     (record {
       fonts = fs;
       page = newPage;
-      stands = stands-new (from .behind) (from .pen) fs p h;
+      stands = stands-new (from .behind) (from .position) fs p h;
       goes = goes-append (end-page fs p (h .at-stack)) (begin-page fs (suc (from .page)) (pos (from .bop)) (omega (arith, s .page-small)));
     })
-    (prints-items (pressAfter from Cut) on-new (small-next from Cut (length is) s) vs fs newPage (stands-new (from .behind) (from .pen) fs p h))
+    (prints-items (writingAfter from Cut) on-new (small-next from Cut (length is) s) vs fs newPage (stands-new (from .behind) (from .position) fs p h))

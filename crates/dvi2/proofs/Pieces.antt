@@ -1,4 +1,4 @@
--- What each of the writer's pieces does to a page that stands where the pen does: the definition of a font, its selection, the two moves, put1.
+-- What each of the writer's pieces does to a page that stands where the position does: the definition of a font, its selection, the two moves, put1.
 -- Assumes nothing.
 use mathlib.Core.Path.{_≡_, refl, sym, ap, _∙_}
 use mathlib.Core.Bool.{Bool, true, false, _||_}
@@ -19,7 +19,7 @@ use Rattle.galley_file.specs.declared.character.Character.{Character}
 use Rattle.sheet.specs.Sheet.{Mark, charMark}
 use Rattle.dvi.specs.Page.{Page, withNumbers, withFont, rightBy, downBy}
 use Rattle.extents.specs.FontMarks.{uses}
-use Rattle.dvi.specs.Writer.{Pen, nameOf}
+use Rattle.dvi.specs.Writer.{Position, nameOf}
 use Rattle.extents.specs.FontMarksLaws.{uses-more}
 use Rattle.dvi2.specs.Command.{PUT1, RIGHT1, DOWN1, FNTNUM0, FNT1, FNTDEF1, Command, put, right, down, setFont, defineFont, bare, takes, firstForms, lastForms, formOf, command, inFile, withParameters, decode}
 use Rattle.dvi2.specs.Page.{perUnit, inside, leads, isDefined, goTo, moveTo, putHere, effect}
@@ -31,29 +31,29 @@ abbrev pub asSigned : Option ℕ → Option ℤ
 asSigned none = none
 asSigned (some f) = some (pos f)
 
--- The page stands where the pen does, and its stack is empty. The fonts of the characters set so far are defined, and so is the pen's.
-pub record Stands (cs : List Character) (pen : Pen) (fs : List ℤ) (p : Page) : Type 0 where
-  pub at-x : p .numbers .atX ≡ pen .x
-  pub at-y : p .numbers .atY ≡ pen .y
-  pub at-font : p .font ≡ asSigned (pen .font)
+-- The page stands where the position does, and its stack is empty. The fonts of the characters set so far are defined, and so is the position's.
+pub record Stands (cs : List Character) (position : Position) (fs : List ℤ) (p : Page) : Type 0 where
+  pub at-x : p .numbers .atX ≡ position .x
+  pub at-y : p .numbers .atY ≡ position .y
+  pub at-font : p .font ≡ asSigned (position .font)
   pub at-stack : p .stack ≡ []
   pub used : (f : ℕ) → uses f cs ≡ true → isDefined (pos f) fs ≡ true
-  pub current : (f : ℕ) → pen .font ≡ some f → isDefined (pos f) fs ≡ true
+  pub current : (f : ℕ) → position .font ≡ some f → isDefined (pos f) fs ≡ true
 
--- from this page the bytes show ms, and lead to one that stands at the pen
-pub record Reached (fs : List ℤ) (p : Page) (bs : List ℕ) (ms : List Mark) (cs : List Character) (pen : Pen) : Type 0 where
+-- from this page the bytes show ms, and lead to one that stands at the position
+pub record Reached (fs : List ℤ) (p : Page) (bs : List ℕ) (ms : List Mark) (cs : List Character) (position : Position) : Type 0 where
   pub fonts : List ℤ
   pub page : Page
-  pub stands : Stands cs pen fonts page
+  pub stands : Stands cs position fonts page
   pub goes : Goes (inside fs p) bs ms (inside fonts page)
 
--- from any page that stands at the one pen the bytes show ms and lead to one that stands at the other
-pub record Leads (cs : List Character) (pen : Pen) (bs : List ℕ) (ms : List Mark) (ds : List Character) (to : Pen) : Type 0 where
-  pub lead : (fs : List ℤ) (p : Page) → Stands cs pen fs p → Reached fs p bs ms ds to
+-- from any page that stands at the one position the bytes show ms and lead to one that stands at the other
+pub record Leads (cs : List Character) (position : Position) (bs : List ℕ) (ms : List Mark) (ds : List Character) (to : Position) : Type 0 where
+  pub lead : (fs : List ℤ) (p : Page) → Stands cs position fs p → Reached fs p bs ms ds to
 
-pub leads-append : {cs ds es : List Character} {pen mid to : Pen} {bs bs′ : List ℕ} {ms ns : List Mark} → Leads cs pen bs ms ds mid → Leads ds mid bs′ ns es to
-    → Leads cs pen (bs ++ bs′) (ms ++ ns) es to
-leads-append {cs} {ds} {es} {pen} {mid} {to} {bs} {bs′} {ms} {ns} f g = record { lead = λ fs p h. both (f .lead fs p h) }
+pub leads-append : {cs ds es : List Character} {position mid to : Position} {bs bs′ : List ℕ} {ms ns : List Mark} → Leads cs position bs ms ds mid → Leads ds mid bs′ ns es to
+    → Leads cs position (bs ++ bs′) (ms ++ ns) es to
+leads-append {cs} {ds} {es} {position} {mid} {to} {bs} {bs′} {ms} {ns} f g = record { lead = λ fs p h. both (f .lead fs p h) }
   where
     chain : {fs : List ℤ} {p : Page} (r : Reached fs p bs ms ds mid) → Reached (r .fonts) (r .page) bs′ ns es to → Reached fs p (bs ++ bs′) (ms ++ ns) es to
     chain r s = record { fonts = s .fonts; page = s .page; stands = s .stands; goes = goes-append (r .goes) (s .goes) }
@@ -61,16 +61,16 @@ leads-append {cs} {ds} {es} {pen} {mid} {to} {bs} {bs′} {ms} {ns} f g = record
     both : {fs : List ℤ} {p : Page} → Reached fs p bs ms ds mid → Reached fs p (bs ++ bs′) (ms ++ ns) es to
     both r = chain r (g .lead (r .fonts) (r .page) (r .stands))
 
--- ---- the pen with another font or place
+-- ---- the position with another font or place
 
-abbrev pub penIn : Pen → ℕ → Pen
-penIn pen f = record { font = some f; x = pen .x; y = pen .y }
+abbrev pub positionIn : Position → ℕ → Position
+positionIn position f = record { font = some f; x = position .x; y = position .y }
 
-abbrev pub penX : Pen → ℤ → Pen
-penX pen a = record { font = pen .font; x = a; y = pen .y }
+abbrev pub positionX : Position → ℤ → Position
+positionX position a = record { font = position .font; x = a; y = position .y }
 
-abbrev pub penY : Pen → ℤ → Pen
-penY pen b = record { font = pen .font; x = pen .x; y = b }
+abbrev pub positionY : Position → ℤ → Position
+positionY position b = record { font = position .font; x = position .x; y = b }
 
 -- ---- the font
 
@@ -132,9 +132,9 @@ defined-more fs cs c h k f e = go (uses f cs) refl (sym (uses-more f cs c) ∙ e
 
 -- ---- the font of a character
 
-module _ (cs : List Character) (pen : Pen) (c : Character) where
+module _ (cs : List Character) (position : Position) (c : Character) where
   -- the page in the font of c
-  chosen : (fs : List ℤ) (p : Page) → Stands cs pen fs p → isDefined (pos (c .font)) fs ≡ true → Stands (cs ++ (c ∷ [])) (penIn pen (c .font)) fs (withFont p (pos (c .font)))
+  chosen : (fs : List ℤ) (p : Page) → Stands cs position fs p → isDefined (pos (c .font)) fs ≡ true → Stands (cs ++ (c ∷ [])) (positionIn position (c .font)) fs (withFont p (pos (c .font)))
   unfolding withFont
   chosen fs p h k =
       record {
@@ -146,10 +146,10 @@ module _ (cs : List Character) (pen : Pen) (c : Character) where
         current = λ f e. let g : c .font ≡ f = cc in rw g at k;
       }
 
-  leads-commands : Leads cs pen (fontCommands (uses (c .font) cs) (c .font)) [] (cs ++ (c ∷ [])) (penIn pen (c .font))
+  leads-commands : Leads cs position (fontCommands (uses (c .font) cs) (c .font)) [] (cs ++ (c ∷ [])) (positionIn position (c .font))
   unfolding fontCommands
   leads-commands =
-      by-cond (λ (bs : List ℕ). Leads cs pen bs [] (cs ++ (c ∷ [])) (penIn pen (c .font))) (uses (c .font) cs) _ _
+      by-cond (λ (bs : List ℕ). Leads cs position bs [] (cs ++ (c ∷ [])) (positionIn position (c .font))) (uses (c .font) cs) _ _
       (λ t. record {
         lead = λ fs p h. record {
           fonts = fs;
@@ -167,7 +167,7 @@ module _ (cs : List Character) (pen : Pen) (c : Character) where
         };
       })
     where
-      one-more : (fs : List ℤ) (p : Page) → Stands cs pen fs p → Stands cs pen (pos (c .font) ∷ fs) p
+      one-more : (fs : List ℤ) (p : Page) → Stands cs position fs p → Stands cs position (pos (c .font) ∷ fs) p
       one-more fs p h =
           record {
             at-x = h .at-x;
@@ -179,7 +179,7 @@ module _ (cs : List Character) (pen : Pen) (c : Character) where
           }
 
   -- no command where the font stays
-  leads-same : (g : ℕ) → pen .font ≡ some g → g ≡ c .font → Leads cs pen [] [] (cs ++ (c ∷ [])) (penIn pen (c .font))
+  leads-same : (g : ℕ) → position .font ≡ some g → g ≡ c .font → Leads cs position [] [] (cs ++ (c ∷ [])) (positionIn position (c .font))
   leads-same g e k =
       record {
         lead = λ fs p h. record {
@@ -197,14 +197,14 @@ module _ (cs : List Character) (pen : Pen) (c : Character) where
         };
       }
 
-  pub leads-font : Leads cs pen (fontChange (uses (c .font) cs) (pen .font) (c .font)) [] (cs ++ (c ∷ [])) (penIn pen (c .font))
+  pub leads-font : Leads cs position (fontChange (uses (c .font) cs) (position .font) (c .font)) [] (cs ++ (c ∷ [])) (positionIn position (c .font))
   unfolding fontChange
-  leads-font = go (pen .font) refl
+  leads-font = go (position .font) refl
     where
-      go : (o : Option ℕ) → pen .font ≡ o → Leads cs pen (fontChange (uses (c .font) cs) o (c .font)) [] (cs ++ (c ∷ [])) (penIn pen (c .font))
+      go : (o : Option ℕ) → position .font ≡ o → Leads cs position (fontChange (uses (c .font) cs) o (c .font)) [] (cs ++ (c ∷ [])) (positionIn position (c .font))
       go none e = leads-commands
       go (some g) e =
-          by-cond (λ (bs : List ℕ). Leads cs pen bs [] (cs ++ (c ∷ [])) (penIn pen (c .font))) (eqb g (c .font)) _ _
+          by-cond (λ (bs : List ℕ). Leads cs position bs [] (cs ++ (c ∷ [])) (positionIn position (c .font))) (eqb g (c .font)) _ _
           (λ t. leads-same g e (eqb-true g (c .font) t))
           (λ t. leads-commands)
 
@@ -226,18 +226,18 @@ four op make e₁ e₂ e₃ e₄ (suc (suc (suc (suc (suc k))))) l h = absurd (o
 no-move : (from to : ℤ) → to -ℤ from ≡ pos 0 → from ≡ to
 no-move from to e = omega (integers, dif-parts to from)
 
-module _ (cs : List Character) (pen : Pen) where
+module _ (cs : List Character) (position : Position) where
   -- a move by the shortest command, left out where it is 0
-  leads-move : (to : Pen) (op : ℕ) (make : ℤ → Command) (m : ℤ) (after : Page → Page) → Four op make → mag m < 2147483648
-      → (m ≡ pos 0 → (fs : List ℤ) (p : Page) → Stands cs pen fs p → Stands cs to fs p)
-      → ((fs : List ℤ) (p : Page) → Stands cs pen fs p → Stands cs to fs (after p))
-      → ((fs : List ℤ) (p : Page) → effect fs p (make m) ≡ leads (inside fs (after p)) []) → Leads cs pen (move op m) [] cs to
+  leads-move : (to : Position) (op : ℕ) (make : ℤ → Command) (m : ℤ) (after : Page → Page) → Four op make → mag m < 2147483648
+      → (m ≡ pos 0 → (fs : List ℤ) (p : Page) → Stands cs position fs p → Stands cs to fs p)
+      → ((fs : List ℤ) (p : Page) → Stands cs position fs p → Stands cs to fs (after p))
+      → ((fs : List ℤ) (p : Page) → effect fs p (make m) ≡ leads (inside fs (after p)) []) → Leads cs position (move op m) [] cs to
   unfolding move shortest
   leads-move to op make m after forms small still there eff =
       let k = widthOf m in
       let r = widthOf-range m in
       let decoded = decode-signed (op + (k - 1)) k make m (forms k (r .0) (r .1)) (widthOf-holds m small) in
-      by-cond (λ (bs : List ℕ). Leads cs pen bs [] cs to) (eqZ m (pos 0)) _ _
+      by-cond (λ (bs : List ℕ). Leads cs position bs [] cs to) (eqZ m (pos 0)) _ _
       (λ t. record {
         lead = λ fs p h. record { fonts = fs; page = p; stands = still (eqZ-true m (pos 0) t) fs p h; goes = goes-nil (inside fs p) };
       })
@@ -250,31 +250,31 @@ module _ (cs : List Character) (pen : Pen) where
         };
       })
 
-  pub leads-right : (a : ℤ) → mag (a -ℤ pen .x) < 2147483648 → Leads cs pen (move RIGHT1 (a -ℤ pen .x)) [] cs (penX pen a)
+  pub leads-right : (a : ℤ) → mag (a -ℤ position .x) < 2147483648 → Leads cs position (move RIGHT1 (a -ℤ position .x)) [] cs (positionX position a)
   unfolding withNumbers rightBy effect moveTo goTo formOf firstForms
   leads-right a small =
-      leads-move (penX pen a) RIGHT1 right m (λ p. withNumbers p (rightBy m (p .numbers))) (four RIGHT1 right refl refl refl refl) small
-      (λ e fs p h. record { at-x = h .at-x ∙ no-move (pen .x) a e; at-y = h .at-y; at-font = h .at-font; at-stack = h .at-stack; used = h .used; current = h .current })
-      (λ fs p h. record { at-x = ap (λ (z : ℤ). z +ℤ m) (h .at-x) ∙ move-ends (pen .x) a; at-y = h .at-y; at-font = h .at-font; at-stack = h .at-stack; used = h .used; current = h .current })
+      leads-move (positionX position a) RIGHT1 right m (λ p. withNumbers p (rightBy m (p .numbers))) (four RIGHT1 right refl refl refl refl) small
+      (λ e fs p h. record { at-x = h .at-x ∙ no-move (position .x) a e; at-y = h .at-y; at-font = h .at-font; at-stack = h .at-stack; used = h .used; current = h .current })
+      (λ fs p h. record { at-x = ap (λ (z : ℤ). z +ℤ m) (h .at-x) ∙ move-ends (position .x) a; at-y = h .at-y; at-font = h .at-font; at-stack = h .at-stack; used = h .used; current = h .current })
       (λ fs p. refl)
     where
       m : ℤ
-      m = a -ℤ pen .x
+      m = a -ℤ position .x
 
-  pub leads-down : (b : ℤ) → mag (b -ℤ pen .y) < 2147483648 → Leads cs pen (move DOWN1 (b -ℤ pen .y)) [] cs (penY pen b)
+  pub leads-down : (b : ℤ) → mag (b -ℤ position .y) < 2147483648 → Leads cs position (move DOWN1 (b -ℤ position .y)) [] cs (positionY position b)
   unfolding withNumbers downBy effect moveTo goTo formOf firstForms
   leads-down b small =
-      leads-move (penY pen b) DOWN1 down m (λ p. withNumbers p (downBy m (p .numbers))) (four DOWN1 down refl refl refl refl) small
-      (λ e fs p h. record { at-x = h .at-x; at-y = h .at-y ∙ no-move (pen .y) b e; at-font = h .at-font; at-stack = h .at-stack; used = h .used; current = h .current })
-      (λ fs p h. record { at-x = h .at-x; at-y = ap (λ (z : ℤ). z +ℤ m) (h .at-y) ∙ move-ends (pen .y) b; at-font = h .at-font; at-stack = h .at-stack; used = h .used; current = h .current })
+      leads-move (positionY position b) DOWN1 down m (λ p. withNumbers p (downBy m (p .numbers))) (four DOWN1 down refl refl refl refl) small
+      (λ e fs p h. record { at-x = h .at-x; at-y = h .at-y ∙ no-move (position .y) b e; at-font = h .at-font; at-stack = h .at-stack; used = h .used; current = h .current })
+      (λ fs p h. record { at-x = h .at-x; at-y = ap (λ (z : ℤ). z +ℤ m) (h .at-y) ∙ move-ends (position .y) b; at-font = h .at-font; at-stack = h .at-stack; used = h .used; current = h .current })
       (λ fs p. refl)
     where
       m : ℤ
-      m = b -ℤ pen .y
+      m = b -ℤ position .y
 
   -- ---- put1
 
-  pub leads-put : (f c : ℕ) → pen .font ≡ some f → Leads cs pen (PUT1 ∷ c ∷ []) (charMark (perUnit *ℤ pen .x) (perUnit *ℤ pen .y) (pos f) c ∷ []) cs pen
+  pub leads-put : (f c : ℕ) → position .font ≡ some f → Leads cs position (PUT1 ∷ c ∷ []) (charMark (perUnit *ℤ position .x) (perUnit *ℤ position .y) (pos f) c ∷ []) cs position
   unfolding decode formOf firstForms withParameters inFile numberFrom effect putHere
   leads-put f c e =
       record {
@@ -282,12 +282,12 @@ module _ (cs : List Character) (pen : Pen) where
           fonts = fs;
           page = p;
           stands = h;
-          goes = goes-command fs p (inside fs p) (put (pos c)) (charMark (perUnit *ℤ pen .x) (perUnit *ℤ pen .y) (pos f) c ∷ []) PUT1 (c ∷ []) decoded (puts fs p h);
+          goes = goes-command fs p (inside fs p) (put (pos c)) (charMark (perUnit *ℤ position .x) (perUnit *ℤ position .y) (pos f) c ∷ []) PUT1 (c ∷ []) decoded (puts fs p h);
         };
       }
     where
       decoded : (rest : List ℕ) → decode PUT1 (c ∷ rest) ≡ command (put (pos c)) 1
       decoded rest = rw (le-leb 1 (length (c ∷ rest)) (omega arith)) (ap (λ (n : ℕ). command (put (pos n)) 1) (omega arith))
 
-      puts : (fs : List ℤ) (p : Page) → Stands cs pen fs p → effect fs p (put (pos c)) ≡ leads (inside fs p) (charMark (perUnit *ℤ pen .x) (perUnit *ℤ pen .y) (pos f) c ∷ [])
+      puts : (fs : List ℤ) (p : Page) → Stands cs position fs p → effect fs p (put (pos c)) ≡ leads (inside fs p) (charMark (perUnit *ℤ position .x) (perUnit *ℤ position .y) (pos f) c ∷ [])
       puts fs p h = rw (h .at-font ∙ ap asSigned e, h .at-x, h .at-y)

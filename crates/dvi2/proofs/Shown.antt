@@ -20,19 +20,19 @@ use Rattle.galley_file.specs.Galley.{maxItems, AllValid}
 use Rattle.sheet.specs.Sheet.{Mark, pageMark}
 use Rattle.dvi.specs.Page.{newPage}
 use Rattle.extents.specs.FontMarks.{uses}
-use Rattle.dvi.specs.Writer.{newPen}
+use Rattle.dvi.specs.Writer.{startPosition}
 use Rattle.dvi.specs.EditionLaws.{marksAt}
 use Rattle.dvi2.specs.Command.{EOP}
 use Rattle.dvi2.specs.Page.{between}
 use Rattle.dvi2.specs.File.{isUnit, preamble, betweenPages, step, showsFirst, follow, run, showDvi2}
-use Rattle.dvi2.specs.Writer.{unitBytes, preambleBytes, bopBytes, firstPress, itemsBytes, pressAll, pagesBytes, postBytes, postambleBytes, commandBytes, fillers, bytes223, dvi2File}
+use Rattle.dvi2.specs.Writer.{unitBytes, preambleBytes, bopBytes, firstWriting, itemsBytes, writingAfterAll, pagesBytes, postBytes, postambleBytes, commandBytes, fillers, bytes223, dvi2File}
 use Rattle.dvi2.specs.WriterLaws.{small-first}
 use Rattle.dvi2.proofs.Runs.{goes-append}
 use Rattle.dvi2.proofs.Pieces.{Stands, Reached}
 use Rattle.dvi2.proofs.Items.{across, on-new, begin-page, end-page, prints-items}
 
-stands-first : Stands [] newPen [] newPage
-unfolding newPen newPage uses
+stands-first : Stands [] startPosition [] newPage
+unfolding startPosition newPage uses
 stands-first = record { at-x = refl; at-y = refl; at-font = refl; at-stack = refl; used = λ f e. cc; current = λ f e. cc }
 
 -- the preamble is one, and is passed over
@@ -47,12 +47,12 @@ shows-post fs last pages post cs rest = refl
 
 -- the first page's bop, the items, and the last page's eop
 shows-pages : {is : List Item} → AllValid heightEnd is → length is ≤ maxItems → (rest : List ℕ) → ((fs : List ℤ) → run (between fs) 0 rest ≡ some [])
-    → run (between []) 0 ((bopBytes 1 (negsuc 0) ++ (itemsBytes firstPress is ++ (EOP ∷ []))) ++ rest) ≡ some (pageMark (pos 1) ∷ marksAt across 1 is)
-unfolding firstPress showsFirst
-shows-pages {is} v h rest e = whole (prints-items firstPress on-new (small-first (length is) h) v [] newPage stands-first)
+    → run (between []) 0 ((bopBytes 1 (negsuc 0) ++ (itemsBytes firstWriting is ++ (EOP ∷ []))) ++ rest) ≡ some (pageMark (pos 1) ∷ marksAt across 1 is)
+unfolding firstWriting showsFirst
+shows-pages {is} v h rest e = whole (prints-items firstWriting on-new (small-first (length is) h) v [] newPage stands-first)
   where
-    whole : Reached [] newPage (itemsBytes firstPress is) (marksAt across 1 is) (pressAll firstPress is .behind) (pressAll firstPress is .pen)
-        → run (between []) 0 ((bopBytes 1 (negsuc 0) ++ (itemsBytes firstPress is ++ (EOP ∷ []))) ++ rest) ≡ some (pageMark (pos 1) ∷ marksAt across 1 is)
+    whole : Reached [] newPage (itemsBytes firstWriting is) (marksAt across 1 is) (writingAfterAll firstWriting is .behind) (writingAfterAll firstWriting is .position)
+        → run (between []) 0 ((bopBytes 1 (negsuc 0) ++ (itemsBytes firstWriting is ++ (EOP ∷ []))) ++ rest) ≡ some (pageMark (pos 1) ∷ marksAt across 1 is)
     whole r =
         goes-append (begin-page [] 1 (negsuc 0) (omega arith)) (goes-append (r .goes) (end-page (r .fonts) (r .page) (r .stands .at-stack))) .goes rest
         ∙ ap (showsFirst (pageMark (pos 1) ∷ (marksAt across 1 is ++ []))) (e (r .fonts))
@@ -66,10 +66,10 @@ file-shows {is} v h =
     ∙ shows-pages v h (post ++ end) (λ fs. shows-post fs _ _ _ _ end))
   where
     pages : List ℕ
-    pages = bopBytes 1 (negsuc 0) ++ (itemsBytes firstPress is ++ (EOP ∷ []))
+    pages = bopBytes 1 (negsuc 0) ++ (itemsBytes firstWriting is ++ (EOP ∷ []))
 
     post : List ℕ
-    post = postambleBytes (pressAll firstPress is .bop) (pressAll firstPress is .page) (length (pagesBytes is)) (charactersOf is)
+    post = postambleBytes (writingAfterAll firstWriting is .bop) (writingAfterAll firstWriting is .page) (length (pagesBytes is)) (charactersOf is)
 
     end : List ℕ
     end = bytes223 (fillers (length (commandBytes is)))

@@ -1,23 +1,23 @@
 -- The DVI file of identification 2 of a list of items, to the last byte (document 02, "The second edition of DVI").
---     hOf, vOf                 a character's places across and down
---     penAt                    what was last set: the font and the place
---     widthOf                  the fewest bytes that hold a number
---     selects                  the command that selects a font
---     definition               a font's definition
---     fontChange               the commands before a character that change its font
---     commandsOf               the commands that set a character
---     preambleBytes            the preamble
---     bopBytes                 the start of a page
---     Press                    how far the file is made: the pen, the characters set, the page's number, its offset, and the next byte's
---     itemBytes                the bytes of an item after this press, and pressAfter the press after them
---     itemsBytes               those of a list of items, and pressAll the press after them
---     pagesBytes               the preamble and all pages
---     postambleBytes           the postamble
---     fillers                  the number of bytes 223
---     dvi2File                 the file
+--     hOf, vOf           a character's places across and down
+--     positionAt         what was last set: the font and the place
+--     widthOf            the fewest bytes that hold a number
+--     selects            the command that selects a font
+--     definition         a font's definition
+--     fontChange         the commands before a character that change its font
+--     commandsOf         the commands that set a character
+--     preambleBytes      the preamble
+--     bopBytes           the start of a page
+--     Writing            how far the file is made: the position, the characters set, the page's number, its offset, and the next byte's
+--     itemBytes          the bytes of an item after this writing, and writingAfter the writing after them
+--     itemsBytes         those of a list of items, and writingAfterAll the writing after them
+--     pagesBytes         the preamble and all pages
+--     postambleBytes     the postamble
+--     fillers            the number of bytes 223
+--     dvi2File           the file
 use Prim.Native.Nat.{ℕ, zero, suc, _+_, _-_, _*_, _%_}
 use mathlib.Core.Bool.{Bool, cond}
-use mathlib.Core.List.{List, [], _∷_, _++_, map}
+use mathlib.Core.List.{List, [], _∷_, _++_, map, foldl}
 use mathlib.Core.Option.{Option, none, some}
 use lib.Dec.{ltb, eqb}
 use lib.IntN.{ℤ, pos, negsuc, _-ℤ_, _*ℤ_}
@@ -26,6 +26,7 @@ use lib.Signed.{mag}
 use Rattle.integers.specs.Parts.{eqZ}
 use Rattle.octets.specs.Octets.{bytes, signedBytes}
 use Rattle.octets.specs.Octets as octets
+use Rattle.octets.specs.Transducer.{transduced}
 use Rattle.galley_file.specs.Font.{pointSize}
 use Rattle.galley_file.specs.declared.character.Character.{Character}
 use Rattle.galley_file.specs.declared.item.Item.{Item}
@@ -33,7 +34,7 @@ use Rattle.galley_file.specs.declared.item.Item.the-variants.{Placed, Cut}
 use Rattle.galley_file.specs.Item.{charactersOf}
 use Rattle.extents.specs.FontMarks.{uses, usedFonts}
 use Rattle.extents.specs.Extents.{largest}
-use Rattle.dvi.specs.Writer.{Pen, newPen, nameOf}
+use Rattle.dvi.specs.Writer.{Position, startPosition, nameOf}
 use Rattle.dvi2.specs.Command.{PUT1, BOP, EOP, RIGHT1, DOWN1, FNTNUM0, FNT1, FNTDEF1, PRE, POST, POSTPOST}
 
 -- ---- the commands of a character
@@ -45,8 +46,8 @@ hOf c = c .x .0
 abbrev pub vOf : Character → ℤ
 vOf c = pos 3 *ℤ c .height .0
 
-unfoldable pub penAt : Character → Pen
-penAt c = record { font = some (c .font); x = hOf c; y = vOf c }
+unfoldable pub positionAt : Character → Position
+positionAt c = record { font = some (c .font); x = hOf c; y = vOf c }
 
 -- of 1, 2, 3 and 4
 unfoldable pub widthOf : ℤ → ℕ
@@ -82,7 +83,7 @@ unfoldable pub move : ℕ → ℤ → List ℕ
 move op m = cond (eqZ m (pos 0)) [] (shortest op m)
 
 -- the font, "the moves right and down if not 0, and a put command"
-unfoldable pub commandsOf : Bool → Pen → Character → List ℕ
+unfoldable pub commandsOf : Bool → Position → Character → List ℕ
 commandsOf known p c =
     fontChange known (p .font) (c .font)
     ++ (move RIGHT1 (hOf c -ℤ p .x) ++ (move DOWN1 (vOf c -ℤ p .y) ++ (PUT1 ∷ c .code ∷ [])))
@@ -101,8 +102,8 @@ preambleBytes = PRE ∷ 2 ∷ unitBytes ++ (0 ∷ [])
 unfoldable pub bopBytes : ℕ → ℤ → List ℕ
 bopBytes n previous = BOP ∷ bytes 4 n ++ (bytes 36 0 ++ signedBytes 4 previous)
 
-pub record Press : Type 0 where
-  pub pen : Pen
+pub record Writing : Type 0 where
+  pub position : Position
   -- the characters set so far, on all pages
   pub behind : List Character
   -- the page's number
@@ -113,37 +114,35 @@ pub record Press : Type 0 where
   pub at : ℕ
 
 -- after the first bop: page 1, at offset 15
-unfoldable pub firstPress : Press
-firstPress = record { pen = newPen; behind = []; page = 1; bop = 15; at = 60 }
+unfoldable pub firstWriting : Writing
+firstWriting = record { position = startPosition; behind = []; page = 1; bop = 15; at = 60 }
 
 -- a font is known once a character has it; a cut ends the page and starts the next
-unfoldable pub itemBytes : Press → Item → List ℕ
-itemBytes p (Placed c) = commandsOf (uses (c .font) (p .behind)) (p .pen) c
+unfoldable pub itemBytes : Writing → Item → List ℕ
+itemBytes p (Placed c) = commandsOf (uses (c .font) (p .behind)) (p .position) c
 itemBytes p Cut = EOP ∷ bopBytes (suc (p .page)) (pos (p .bop))
 
--- a new page has a new pen; its bop follows eop
-unfoldable pub pressAfter : Press → Item → Press
-pressAfter p (Placed c) =
+-- a page begins at the start position; its bop follows eop
+unfoldable pub writingAfter : Writing → Item → Writing
+writingAfter p (Placed c) =
     record {
-      pen = penAt c;
+      position = positionAt c;
       behind = p .behind ++ (c ∷ []);
       page = p .page;
       bop = p .bop;
-      at = p .at + length (commandsOf (uses (c .font) (p .behind)) (p .pen) c);
+      at = p .at + length (commandsOf (uses (c .font) (p .behind)) (p .position) c);
     }
-pressAfter p Cut = record { pen = newPen; behind = p .behind; page = suc (p .page); bop = p .at + 1; at = p .at + 46 }
+writingAfter p Cut = record { position = startPosition; behind = p .behind; page = suc (p .page); bop = p .at + 1; at = p .at + 46 }
 
-unfoldable pub itemsBytes : Press → List Item → List ℕ
-itemsBytes p [] = []
-itemsBytes p (i ∷ is) = itemBytes p i ++ itemsBytes (pressAfter p i) is
+abbrev pub itemsBytes : Writing → List Item → List ℕ
+itemsBytes w is = transduced itemBytes writingAfter w is
 
-unfoldable pub pressAll : Press → List Item → Press
-pressAll p [] = p
-pressAll p (i ∷ is) = pressAll (pressAfter p i) is
+abbrev pub writingAfterAll : Writing → List Item → Writing
+writingAfterAll w is = foldl writingAfter w is
 
 -- the preamble, the first page's bop, the items, and the last page's eop
 unfoldable pub pagesBytes : List Item → List ℕ
-pagesBytes is = preambleBytes ++ (bopBytes 1 (negsuc 0) ++ (itemsBytes firstPress is ++ (EOP ∷ [])))
+pagesBytes is = preambleBytes ++ (bopBytes 1 (negsuc 0) ++ (itemsBytes firstWriting is ++ (EOP ∷ [])))
 
 -- ---- the postamble
 
@@ -170,7 +169,7 @@ postambleBytes last pages post cs =
 -- the file but for the bytes 223
 unfoldable pub commandBytes : List Item → List ℕ
 commandBytes is =
-    pagesBytes is ++ postambleBytes (pressAll firstPress is .bop) (pressAll firstPress is .page) (length (pagesBytes is)) (charactersOf is)
+    pagesBytes is ++ postambleBytes (writingAfterAll firstWriting is .bop) (writingAfterAll firstWriting is .page) (length (pagesBytes is)) (charactersOf is)
 
 -- "the fewest 223 bytes, at least four, make the length a multiple of four": after n bytes
 unfoldable pub fillers : ℕ → ℕ

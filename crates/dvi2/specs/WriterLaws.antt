@@ -1,14 +1,12 @@
 -- How long the pieces of the file are, and how it grows by one item.
---     widthOf-range, widthOf-holds, widthOf-least    a number's width is 1 to 4; so many bytes hold it, and no fewer
---     itemsBytes-append      the bytes of two runs of items, and itemsBytes-more of one item more
---     itemsBytes-part        the first items have no more bytes than all
---     pressAll-more          the press after one item more
---     press-at               the offset after a run of items
---     press-behind           the characters set by then
---     Small, press-small     no number of the press is too large for four bytes
---     fillers-range          there are four to seven bytes 223, and fillers-fewest no fewer do
---     length-pages, length-commands, length-file     the length of all pages, of all commands, of the file
---     file-fits              which a reader takes
+--     widthOf-range, widthOf-holds, widthOf-least     a number's width is 1 to 4; so many bytes hold it, and no fewer
+--     itemsBytes-most                                 the most bytes of a run of items
+--     writing-at                                      the offset after a run of items
+--     writing-behind                                  the characters set by then
+--     Small, writing-small                            no number of the writing is too large for four bytes
+--     fillers-range                                   there are four to seven bytes 223, and fillers-fewest no fewer do
+--     length-pages, length-commands, length-file      the length of all pages, of all commands, of the file
+--     file-fits                                       which a reader takes
 -- Assumes nothing.
 use mathlib.Core.Path.{_≡_, refl, sym, ap, _∙_}
 use mathlib.Core.Bool.{Bool, true, false, cond}
@@ -26,17 +24,18 @@ use Rattle.integers.specs.Parts.{eqZ}
 use Rattle.octets.specs.Octets.{bytes, signedBytes, Holds}
 use Rattle.octets.specs.Octets as octets
 use Rattle.octets.specs.OctetsLaws.{by-cond, length-signedBytes, width-range, width-holds, width-least}
+use Rattle.octets.specs.TransducerLaws.{transduced-most, transduced-at}
 use Rattle.galley_file.specs.declared.character.Character.{Character}
 use Rattle.galley_file.specs.declared.item.Item.{Item}
 use Rattle.galley_file.specs.declared.item.Item.the-variants.{Placed, Cut}
 use Rattle.galley_file.specs.Item.{charactersOf}
 use Rattle.galley_file.specs.Galley.{maxItems}
 use Rattle.extents.specs.FontMarks.{uses, usedFonts}
-use Rattle.dvi.specs.Writer.{Pen, nameOf}
+use Rattle.dvi.specs.Writer.{Position, nameOf}
 use Rattle.dvi.specs.WriterLaws.{usedFonts-most}
 use Rattle.dvi2.specs.Command.{EOP, RIGHT1, DOWN1, POSTPOST}
 use Rattle.dvi2.specs.File.{maxDvi2}
-use Rattle.dvi2.specs.Writer.{hOf, vOf, widthOf, selects, definition, fontCommands, fontChange, shortest, move, commandsOf, unitBytes, preambleBytes, bopBytes, Press, firstPress, itemBytes, pressAfter, itemsBytes, pressAll, pagesBytes, definitionBytes, postBytes, postambleBytes, commandBytes, fillers, bytes223, dvi2File}
+use Rattle.dvi2.specs.Writer.{hOf, vOf, widthOf, selects, definition, fontCommands, fontChange, shortest, move, commandsOf, unitBytes, preambleBytes, bopBytes, Writing, firstWriting, itemBytes, writingAfter, itemsBytes, writingAfterAll, pagesBytes, definitionBytes, postBytes, postambleBytes, commandBytes, fillers, bytes223, dvi2File}
 
 -- ---- the commands of a character
 
@@ -100,7 +99,7 @@ move-most op m =
     rw (length-move op m)
     (by-cond (λ (n : ℕ). n ≤ 5) (eqZ m (pos 0)) _ _ (λ _. omega arith) (λ _. omega (arith, widthOf-range m)))
 
-pub commandsOf-most : (known : Bool) (p : Pen) (c : Character) → length (commandsOf known p c) ≤ 34
+pub commandsOf-most : (known : Bool) (p : Position) (c : Character) → length (commandsOf known p c) ≤ 34
 unfolding commandsOf
 commandsOf-most known p c =
     simp length-append
@@ -112,99 +111,74 @@ pub length-bop : (n : ℕ) (previous : ℤ) → length (bopBytes n previous) ≡
 unfolding bopBytes signedBytes bytes
 length-bop n previous = refl
 
-pub length-cut : (p : Press) → length (itemBytes p Cut) ≡ 46
+pub length-cut : (p : Writing) → length (itemBytes p Cut) ≡ 46
 unfolding itemBytes bopBytes signedBytes bytes
 length-cut p = refl
 
-pub itemBytes-most : (p : Press) (i : Item) → length (itemBytes p i) ≤ 46
+pub itemBytes-most : (p : Writing) (i : Item) → length (itemBytes p i) ≤ 46
 unfolding itemBytes
-itemBytes-most p (Placed c) = omega (arith, commandsOf-most (uses (c .font) (p .behind)) (p .pen) c)
+itemBytes-most p (Placed c) = omega (arith, commandsOf-most (uses (c .font) (p .behind)) (p .position) c)
 itemBytes-most p Cut = omega (arith, length-cut p)
 
-pub itemsBytes-most : (p : Press) (is : List Item) → length (itemsBytes p is) ≤ 46 * length is
-unfolding itemsBytes
-itemsBytes-most p [] = omega arith
-itemsBytes-most p (i ∷ is) = rw length-append (omega (arith, itemBytes-most p i, itemsBytes-most (pressAfter p i) is))
+pub itemsBytes-most : (p : Writing) (is : List Item) → length (itemsBytes p is) ≤ 46 * length is
+itemsBytes-most = transduced-most itemBytes writingAfter 46 itemBytes-most
 
-pub itemsBytes-append : (p : Press) (is js : List Item) → itemsBytes p (is ++ js) ≡ itemsBytes p is ++ itemsBytes (pressAll p is) js
-unfolding itemsBytes pressAll
-itemsBytes-append p [] js = refl
-itemsBytes-append p (i ∷ is) js =
-    ap (λ (l : List ℕ). itemBytes p i ++ l) (itemsBytes-append (pressAfter p i) is js)
-    ∙ sym (append-assoc (itemBytes p i) (itemsBytes (pressAfter p i) is) (itemsBytes (pressAll (pressAfter p i) is) js))
+-- ---- the writing after them
 
-pub itemsBytes-more : (p : Press) (is : List Item) (i : Item) → itemsBytes p (is ++ (i ∷ [])) ≡ itemsBytes p is ++ itemBytes (pressAll p is) i
-unfolding itemsBytes
-itemsBytes-more p is i =
-    itemsBytes-append p is (i ∷ []) ∙ ap (λ (l : List ℕ). itemsBytes p is ++ l) (append-nil (itemBytes (pressAll p is) i))
+pub writing-next : (p : Writing) (i : Item) → writingAfter p i .at ≡ p .at + length (itemBytes p i)
+unfolding writingAfter itemBytes
+writing-next p (Placed c) = refl
+writing-next p Cut = let l = length-cut p in omega arith
 
-pub itemsBytes-part : (p : Press) (is js : List Item) → length (itemsBytes p is) ≤ length (itemsBytes p (is ++ js))
-itemsBytes-part p is js = rw (itemsBytes-append p is js, length-append) (omega arith)
+pub writing-at : (p : Writing) (is : List Item) → writingAfterAll p is .at ≡ p .at + length (itemsBytes p is)
+writing-at = transduced-at itemBytes writingAfter (λ p. p .at) writing-next
 
--- ---- the press after them
+pub writing-behind : (p : Writing) (is : List Item) → writingAfterAll p is .behind ≡ p .behind ++ charactersOf is
+unfolding writingAfter charactersOf
+writing-behind p [] = sym (append-nil (p .behind))
+writing-behind p (Placed c ∷ is) = writing-behind (writingAfter p (Placed c)) is ∙ append-assoc (p .behind) (c ∷ []) (charactersOf is)
+writing-behind p (Cut ∷ is) = writing-behind (writingAfter p Cut) is
 
-pub pressAll-more : (p : Press) (is : List Item) (i : Item) → pressAll p (is ++ (i ∷ [])) ≡ pressAfter (pressAll p is) i
-unfolding pressAll
-pressAll-more p [] i = refl
-pressAll-more p (j ∷ is) i = pressAll-more (pressAfter p j) is i
-
-pub press-next : (p : Press) (i : Item) → pressAfter p i .at ≡ p .at + length (itemBytes p i)
-unfolding pressAfter itemBytes
-press-next p (Placed c) = refl
-press-next p Cut = let l = length-cut p in omega arith
-
-pub press-at : (p : Press) (is : List Item) → pressAll p is .at ≡ p .at + length (itemsBytes p is)
-unfolding pressAll itemsBytes
-press-at p [] = omega arith
-press-at p (i ∷ is) = rw length-append (omega (arith, press-next p i, press-at (pressAfter p i) is))
-
-pub press-behind : (p : Press) (is : List Item) → pressAll p is .behind ≡ p .behind ++ charactersOf is
-unfolding pressAll pressAfter charactersOf
-press-behind p [] = sym (append-nil (p .behind))
-press-behind p (Placed c ∷ is) = press-behind (pressAfter p (Placed c)) is ∙ append-assoc (p .behind) (c ∷ []) (charactersOf is)
-press-behind p (Cut ∷ is) = press-behind (pressAfter p Cut) is
-
-page-next : (p : Press) (i : Item) → pressAfter p i .page ≤ suc (p .page)
-unfolding pressAfter
+page-next : (p : Writing) (i : Item) → writingAfter p i .page ≤ suc (p .page)
+unfolding writingAfter
 page-next p (Placed c) = omega arith
 page-next p Cut = omega arith
 
--- the numbers of the press fit four bytes, after n items more too
-pub record Small (p : Press) (n : ℕ) : Type 0 where
+-- the numbers of the writing fit four bytes, after n items more too
+pub record Small (p : Writing) (n : ℕ) : Type 0 where
   pub bop-before : p .bop ≤ p .at
   pub at-small : p .at + 46 * n < 2147483648
   pub page-small : p .page + n < 2147483648
 
-bop-next : (p : Press) (i : Item) → p .bop ≤ p .at → pressAfter p i .bop ≤ pressAfter p i .at
-unfolding pressAfter
+bop-next : (p : Writing) (i : Item) → p .bop ≤ p .at → writingAfter p i .bop ≤ writingAfter p i .at
+unfolding writingAfter
 bop-next p (Placed c) h = omega arith
 bop-next p Cut h = omega arith
 
-pub small-next : (p : Press) (i : Item) (n : ℕ) → Small p (suc n) → Small (pressAfter p i) n
+pub small-next : (p : Writing) (i : Item) (n : ℕ) → Small p (suc n) → Small (writingAfter p i) n
 small-next p i n s =
     record {
       bop-before = bop-next p i (s .bop-before);
-      at-small = omega (arith, s .at-small, press-next p i, itemBytes-most p i);
+      at-small = omega (arith, s .at-small, writing-next p i, itemBytes-most p i);
       page-small = omega (arith, s .page-small, page-next p i);
     }
 
-small-all : (p : Press) (is : List Item) (n : ℕ) → Small p (length is + n) → Small (pressAll p is) n
-unfolding pressAll
+small-all : (p : Writing) (is : List Item) (n : ℕ) → Small p (length is + n) → Small (writingAfterAll p is) n
 small-all p [] n s = rw zero-add at s
-small-all p (i ∷ is) n s = small-all (pressAfter p i) is n (small-next p i (length is + n) (rw suc-add at s))
+small-all p (i ∷ is) n s = small-all (writingAfter p i) is n (small-next p i (length is + n) (rw suc-add at s))
 
-pub small-first : (n : ℕ) → n ≤ maxItems → Small firstPress n
-unfolding firstPress
+pub small-first : (n : ℕ) → n ≤ maxItems → Small firstWriting n
+unfolding firstWriting
 small-first n h = record { bop-before = omega arith; at-small = omega arith; page-small = omega arith }
 
-pub press-small : (is : List Item) (n : ℕ) → length is + n ≤ maxItems → Small (pressAll firstPress is) n
-press-small is n h = small-all firstPress is n (small-first (length is + n) h)
+pub writing-small : (is : List Item) (n : ℕ) → length is + n ≤ maxItems → Small (writingAfterAll firstWriting is) n
+writing-small is n h = small-all firstWriting is n (small-first (length is + n) h)
 
 -- ---- all pages
 
-pub length-pages : (is : List Item) → length (pagesBytes is) ≡ 61 + length (itemsBytes firstPress is)
+pub length-pages : (is : List Item) → length (pagesBytes is) ≡ 61 + length (itemsBytes firstWriting is)
 unfolding pagesBytes preambleBytes unitBytes bopBytes bytes signedBytes
-length-pages is = rw (length-append (itemsBytes firstPress is) (EOP ∷ [])) (omega arith)
+length-pages is = rw (length-append (itemsBytes firstWriting is) (EOP ∷ [])) (omega arith)
 
 -- ---- the postamble
 
@@ -234,7 +208,7 @@ length-postamble last pages post cs =
 
 -- ---- the file
 
-pub length-commands : (is : List Item) → length (commandBytes is) ≡ 96 + length (itemsBytes firstPress is) + 20 * length (usedFonts 120 (charactersOf is))
+pub length-commands : (is : List Item) → length (commandBytes is) ≡ 96 + length (itemsBytes firstWriting is) + 20 * length (usedFonts 120 (charactersOf is))
 unfolding commandBytes
 length-commands is = rw (length-append, length-postamble, length-pages is) (omega arith)
 
@@ -259,4 +233,4 @@ length-file is = rw (length-append, length-223 (fillers (length (commandBytes is
 pub file-fits : (is : List Item) → length is ≤ maxItems → length (dvi2File is) ≤ maxDvi2
 file-fits is h =
     rw (length-file is)
-    (omega (arith, fillers-range (length (commandBytes is)) .1 .0, length-commands is, itemsBytes-most firstPress is, usedFonts-most 120 (charactersOf is)))
+    (omega (arith, fillers-range (length (commandBytes is)) .1 .0, length-commands is, itemsBytes-most firstWriting is, usedFonts-most 120 (charactersOf is)))

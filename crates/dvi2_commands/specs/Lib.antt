@@ -1,2 +1,2 @@
--- What a piece leaves in the buffer, and the code's pen in terms of the format.
-pub mod Pen
+-- What a piece leaves in the buffer, and the code's position in terms of the format.
+pub mod Position

@@ -1,7 +1,7 @@
 // The commands of a character: its font, the moves to its place, and put1.
 use crate::font;
-use crate::pen;
-use crate::pen::Pen;
+use crate::position;
+use crate::position::Position;
 use crate::put;
 use galley_file::character::Character;
 use octets::number;
@@ -15,7 +15,7 @@ ghost use Rattle.measure.specs.Place.{heightEnd};
 ghost use Rattle.galley_file.specs.Character.{valid};
 ghost use Rattle.dvi2.specs.Writer.{widthOf, move, commandsOf};
 ghost use Rattle.octets.specs.PutIfRoom.{PutIfRoom};
-ghost use Rattle.dvi2_commands.specs.Pen.{penOf, OnPage};
+ghost use Rattle.dvi2_commands.specs.Position.{positionOf, OnPage};
 
 const PUT1: u8 = 133;
 
@@ -66,13 +66,13 @@ fn put_move(out: &mut [u8], at: usize, op: u8, m: i32) -> usize
     put_signed(out, to, width, m)
 }
 
-// Writes the commands that set c after the pen `last`; `known` says whether its font is defined.
-pub fn put_commands(out: &mut [u8], at: usize, known: bool, last: Pen, c: Character) -> usize
-    requires { ⌜ (at < 2147483648) × (OnPage (penOf last) × (valid heightEnd c ≡ true)) ⌝ }
-    ensures { λ r. ⌜ PutIfRoom (now (out .entry)) at (commandsOf known (penOf last) c) (now (out .exit)) r ⌝ }
+// Writes the commands that set c after the position `last`; `known` says whether its font is defined.
+pub fn put_commands(out: &mut [u8], at: usize, known: bool, last: Position, c: Character) -> usize
+    requires { ⌜ (at < 2147483648) × (OnPage (positionOf last) × (valid heightEnd c ≡ true)) ⌝ }
+    ensures { λ r. ⌜ PutIfRoom (now (out .entry)) at (commandsOf known (positionOf last) c) (now (out .exit)) r ⌝ }
 {
-    let right = pen::right_to(last, c);
-    let down = pen::down_to(last, c);
+    let right = position::right_to(last, c);
+    let down = position::down_to(last, c);
     let mut to = font::put_font(out, at, known, last.font, c.font);
     to = put_move(out, to, RIGHT1, right);
     to = put_move(out, to, DOWN1, down);

@@ -10,7 +10,7 @@ ghost use Rattle.octets.specs.Octets.{bytes};
 ghost use Rattle.octets.specs.Write.{Wrote};
 ghost use Rattle.dvi2.specs.Writer.{selects, definition, fontChange};
 ghost use Rattle.octets.specs.PutIfRoom.{PutIfRoom};
-ghost use Rattle.dvi2_commands.specs.Pen.{fontIn};
+ghost use Rattle.dvi.specs.FontOrNone.{fontOrNone};
 
 // fnt_num_0; those to 63 follow.
 const FNTNUM0: u8 = 171;
@@ -71,7 +71,7 @@ pub fn put_definition(out: &mut [u8], at: usize, f: u8) -> usize
 // Writes the commands that change the font from `last` to f; `known` says whether f is defined.
 pub fn put_font(out: &mut [u8], at: usize, known: bool, last: u8, f: u8) -> usize
     requires { ⌜ (at < 2147483648) × (f < 120) ⌝ }
-    ensures { λ r. ⌜ PutIfRoom (now (out .entry)) at (fontChange known (fontIn last) f) (now (out .exit)) r ⌝ }
+    ensures { λ r. ⌜ PutIfRoom (now (out .entry)) at (fontChange known (fontOrNone last) f) (now (out .exit)) r ⌝ }
 {
     if last == f {
         return at;

@@ -45,19 +45,19 @@ near-move a m h k = subst (λ (z : ℤ). mag z < 2147483648) (there-and-back a m
 
 module _ (h : PageState) (b : ℕ) (ps : List ℕ) (k : ℕ) where
   pub right-parts : (m : ℤ) → mayCome h (across m) ≡ true
-      → (isMore (h .items) ≡ true) × ((beforeRight (h .stage) ≡ true) × ((not (eqZ m (pos 0)) ≡ true) × (validIn (h .pen .font) (h .pen .x +ℤ m) ≡ true)))
+      → (isMore (h .items) ≡ true) × ((beforeRight (h .stage) ≡ true) × ((not (eqZ m (pos 0)) ≡ true) × (validIn (h .position .font) (h .position .x +ℤ m) ≡ true)))
   unfolding mayCome
   right-parts m e =
-      let b₁ = both (isMore (h .items)) (beforeRight (h .stage) && (not (eqZ m (pos 0)) && validIn (h .pen .font) (h .pen .x +ℤ m))) e in
-      let b₂ = both (beforeRight (h .stage)) (not (eqZ m (pos 0)) && validIn (h .pen .font) (h .pen .x +ℤ m)) (b₁ .1) in
-      let b₃ = both (not (eqZ m (pos 0))) (validIn (h .pen .font) (h .pen .x +ℤ m)) (b₂ .1) in
+      let b₁ = both (isMore (h .items)) (beforeRight (h .stage) && (not (eqZ m (pos 0)) && validIn (h .position .font) (h .position .x +ℤ m))) e in
+      let b₂ = both (beforeRight (h .stage)) (not (eqZ m (pos 0)) && validIn (h .position .font) (h .position .x +ℤ m)) (b₁ .1) in
+      let b₃ = both (not (eqZ m (pos 0))) (validIn (h .position .font) (h .position .x +ℤ m)) (b₂ .1) in
       (b₁ .0, (b₂ .0, (b₃ .0, b₃ .1)))
 
-  pub parts-right : (m : ℤ) → isMore (h .items) ≡ true → beforeRight (h .stage) ≡ true → not (eqZ m (pos 0)) ≡ true → validIn (h .pen .font) (h .pen .x +ℤ m) ≡ true → mayCome h (across m) ≡ true
+  pub parts-right : (m : ℤ) → isMore (h .items) ≡ true → beforeRight (h .stage) ≡ true → not (eqZ m (pos 0)) ≡ true → validIn (h .position .font) (h .position .x +ℤ m) ≡ true → mayCome h (across m) ≡ true
   unfolding mayCome
   parts-right m a c d e = rw (a, c, d) e
 
-  right-case : mag (h .pen .x) < 4000 → 1 ≤ k → k ≤ 4 → b ≡ 142 + k → MoveCase h b ps k
+  right-case : mag (h .position .x) < 4000 → 1 ≤ k → k ≤ 4 → b ≡ 142 + k → MoveCase h b ps k
   unfolding inBytes
   right-case x l u o =
       record {
@@ -66,21 +66,21 @@ module _ (h : PageState) (b : ℕ) (ps : List ℕ) (k : ℕ) where
         bytes-of = λ m. refl;
         small-mk = λ m s. s;
         near = λ m c.
-            let t = font-there (h .pen .font) (h .pen .x +ℤ m) (right-parts m c .1 .1 .1) in
-            let g = x-mag (isDouble (sizeIndex (t .font))) (h .pen .x +ℤ m) (t .x-valid) in
-            near-move (h .pen .x) m (omega arith) (omega arith);
+            let t = font-there (h .position .font) (h .position .x +ℤ m) (right-parts m c .1 .1 .1) in
+            let g = x-mag (isDouble (sizeIndex (t .font))) (h .position .x +ℤ m) (t .x-valid) in
+            near-move (h .position .x) m (omega arith) (omega arith);
         lo = l;
         hi = u;
         op-is = omega arith;
         only-move = move-right b ps (omega arith) (omega arith);
       }
 
-  module _ (x : mag (h .pen .x) < 4000) (lo : 1 ≤ k) (hi : k ≤ 4) (o : b ≡ 142 + k) where
+  module _ (x : mag (h .position .x) < 4000) (lo : 1 ≤ k) (hi : k ≤ 4) (o : b ≡ 142 + k) where
     pub right-not : beforeRight (h .stage) ≡ false → step (inPage h) b ps ≡ refuse
     unfolding mayCome right-case
     right-not e = move-not h b ps k (right-case x lo hi o) (λ m. no m)
       where
-        no : (m : ℤ) → (isMore (h .items) && (beforeRight (h .stage) && (not (eqZ m (pos 0)) && validIn (h .pen .font) (h .pen .x +ℤ m)))) ≡ false
+        no : (m : ℤ) → (isMore (h .items) && (beforeRight (h .stage) && (not (eqZ m (pos 0)) && validIn (h .position .font) (h .position .x +ℤ m)))) ≡ false
         no m = rw e (false-right (isMore (h .items)))
 
     pub right-bad : (l : k ≤ length ps) → (widthOf (signed (take k ps)) ≡ k → mayCome h (across (signed (take k ps))) ≡ true → ⊥) → step (inPage h) b ps ≡ refuse
@@ -93,35 +93,35 @@ module _ (h : PageState) (b : ℕ) (ps : List ℕ) (k : ℕ) where
     right-go l y w c = move-go h b ps k (right-case x lo hi o) l y w c
 
     module _ (more : isMore (h .items) ≡ true) (br : beforeRight (h .stage) ≡ true) (l : length ps < k) where
-      pub right-found : someBelow 3295 (rightBegins (b ∷ ps) (h .pen .font) (h .pen .x)) ≡ true → step (inPage h) b ps ≡ short
+      pub right-found : someBelow 3295 (rightBegins (b ∷ ps) (h .position .font) (h .position .x)) ≡ true → step (inPage h) b ps ≡ short
       unfolding rightBegins right-case
       right-found e =
-          let f = some-found 3295 (rightBegins (b ∷ ps) (h .pen .font) (h .pen .x)) e in
+          let f = some-found 3295 (rightBegins (b ∷ ps) (h .position .font) (h .position .x)) e in
           let to = pos (f .found) -ℤ pos 55 in
-          let m = to -ℤ h .pen .x in
-          let t = both (begins (b ∷ ps) (shortest RIGHT1 m)) (not (eqZ m (pos 0)) && validIn (h .pen .font) to) (f .holds) in
-          let u = both (not (eqZ m (pos 0))) (validIn (h .pen .font) to) (t .1) in
-          let c = parts-right m more br (u .0) (subst (λ (z : ℤ). validIn (h .pen .font) z ≡ true) (sym (back-and-there (h .pen .x) to)) (u .1)) in
+          let m = to -ℤ h .position .x in
+          let t = both (begins (b ∷ ps) (shortest RIGHT1 m)) (not (eqZ m (pos 0)) && validIn (h .position .font) to) (f .holds) in
+          let u = both (not (eqZ m (pos 0))) (validIn (h .position .font) to) (t .1) in
+          let c = parts-right m more br (u .0) (subst (λ (z : ℤ). validIn (h .position .font) z ≡ true) (sym (back-and-there (h .position .x) to)) (u .1)) in
           let g = begins-is (b ∷ ps) (shortest RIGHT1 m) (t .0) in
           move-short h b ps k (right-case x lo hi o) l m (t .0)
           (way₃ h (b ∷ ps) (f .found) (f .is-below) (as-such h (b ∷ ps) (across m) (g .more) (across-bytes m ∙ g .whole-is) c))
 
-      pub right-none : someBelow 3295 (rightBegins (b ∷ ps) (h .pen .font) (h .pen .x)) ≡ false → step (inPage h) b ps ≡ refuse
+      pub right-none : someBelow 3295 (rightBegins (b ∷ ps) (h .position .font) (h .position .x)) ≡ false → step (inPage h) b ps ≡ refuse
       unfolding rightBegins right-case
       right-none e =
           move-early h b ps k (right-case x lo hi o) l
           (λ m c g.
           let w = right-parts m c in
-          let t = font-there (h .pen .font) (h .pen .x +ℤ m) (w .1 .1 .1) in
-          let n = counted (isDouble (sizeIndex (t .font))) (h .pen .x +ℤ m) (t .x-valid) in
-          let q : (pos (n .count) -ℤ pos 55) -ℤ h .pen .x ≡ m = ap (λ (a : ℤ). a -ℤ h .pen .x) (n .place-is) ∙ there-and-back (h .pen .x) m in
-          let y : rightBegins (b ∷ ps) (h .pen .font) (h .pen .x) (n .count) ≡ true =
-          both-true (begins (b ∷ ps) (shortest RIGHT1 ((pos (n .count) -ℤ pos 55) -ℤ h .pen .x))) _
+          let t = font-there (h .position .font) (h .position .x +ℤ m) (w .1 .1 .1) in
+          let n = counted (isDouble (sizeIndex (t .font))) (h .position .x +ℤ m) (t .x-valid) in
+          let q : (pos (n .count) -ℤ pos 55) -ℤ h .position .x ≡ m = ap (λ (a : ℤ). a -ℤ h .position .x) (n .place-is) ∙ there-and-back (h .position .x) m in
+          let y : rightBegins (b ∷ ps) (h .position .font) (h .position .x) (n .count) ≡ true =
+          both-true (begins (b ∷ ps) (shortest RIGHT1 ((pos (n .count) -ℤ pos 55) -ℤ h .position .x))) _
           (subst (λ (a : ℤ). begins (b ∷ ps) (shortest RIGHT1 a) ≡ true) (sym q) g)
-          (both-true (not (eqZ ((pos (n .count) -ℤ pos 55) -ℤ h .pen .x) (pos 0))) _
+          (both-true (not (eqZ ((pos (n .count) -ℤ pos 55) -ℤ h .position .x) (pos 0))) _
           (subst (λ (a : ℤ). not (eqZ a (pos 0)) ≡ true) (sym q) (w .1 .1 .0))
-          (subst (λ (a : ℤ). validIn (h .pen .font) a ≡ true) (sym (n .place-is)) (w .1 .1 .1))) in
-          no-truth _ (found-some 3295 (rightBegins (b ∷ ps) (h .pen .font) (h .pen .x)) (n .count) (n .is-below) y) e)
+          (subst (λ (a : ℤ). validIn (h .position .font) a ≡ true) (sym (n .place-is)) (w .1 .1 .1))) in
+          no-truth _ (found-some 3295 (rightBegins (b ∷ ps) (h .position .font) (h .position .x)) (n .count) (n .is-below) y) e)
 
 -- ---- moves down
 
@@ -131,22 +131,22 @@ thrice-is-down n l = both-true (eqb (3 * n % 3) 0) (leb (3 * n) 3000000) (eq-eqb
 
 module _ (h : PageState) (b : ℕ) (ps : List ℕ) (k : ℕ) where
   pub down-parts : (m : ℤ) → mayCome h (downward m) ≡ true
-      → (isMore (h .items) ≡ true) × ((beforeDown (h .stage) ≡ true) × ((not (eqZ m (pos 0)) ≡ true) × ((validIn (h .pen .font) (h .pen .x) ≡ true) × (isDown (h .pen .y +ℤ m) ≡ true))))
+      → (isMore (h .items) ≡ true) × ((beforeDown (h .stage) ≡ true) × ((not (eqZ m (pos 0)) ≡ true) × ((validIn (h .position .font) (h .position .x) ≡ true) × (isDown (h .position .y +ℤ m) ≡ true))))
   unfolding mayCome
   down-parts m e =
-      let T₄ = validIn (h .pen .font) (h .pen .x) && isDown (h .pen .y +ℤ m) in
+      let T₄ = validIn (h .position .font) (h .position .x) && isDown (h .position .y +ℤ m) in
       let b₁ = both (isMore (h .items)) (beforeDown (h .stage) && (not (eqZ m (pos 0)) && T₄)) e in
       let b₂ = both (beforeDown (h .stage)) (not (eqZ m (pos 0)) && T₄) (b₁ .1) in
       let b₃ = both (not (eqZ m (pos 0))) T₄ (b₂ .1) in
-      let b₄ = both (validIn (h .pen .font) (h .pen .x)) (isDown (h .pen .y +ℤ m)) (b₃ .1) in
+      let b₄ = both (validIn (h .position .font) (h .position .x)) (isDown (h .position .y +ℤ m)) (b₃ .1) in
       (b₁ .0, (b₂ .0, (b₃ .0, (b₄ .0, b₄ .1))))
 
-  pub parts-down : (m : ℤ) → isMore (h .items) ≡ true → beforeDown (h .stage) ≡ true → not (eqZ m (pos 0)) ≡ true → validIn (h .pen .font) (h .pen .x) ≡ true → isDown (h .pen .y +ℤ m) ≡ true
+  pub parts-down : (m : ℤ) → isMore (h .items) ≡ true → beforeDown (h .stage) ≡ true → not (eqZ m (pos 0)) ≡ true → validIn (h .position .font) (h .position .x) ≡ true → isDown (h .position .y +ℤ m) ≡ true
       → mayCome h (downward m) ≡ true
   unfolding mayCome
   parts-down m a c d e f = rw (a, c, d, e) f
 
-  down-case : mag (h .pen .y) < 4000000 → 1 ≤ k → k ≤ 4 → b ≡ 156 + k → MoveCase h b ps k
+  down-case : mag (h .position .y) < 4000000 → 1 ≤ k → k ≤ 4 → b ≡ 156 + k → MoveCase h b ps k
   unfolding inBytes
   down-case y l u o =
       record {
@@ -154,15 +154,15 @@ module _ (h : PageState) (b : ℕ) (ps : List ℕ) (k : ℕ) where
         mk = downward;
         bytes-of = λ m. refl;
         small-mk = λ m s. s;
-        near = λ m c. near-move (h .pen .y) m y (down-mag (h .pen .y +ℤ m) (down-parts m c .1 .1 .1 .1));
+        near = λ m c. near-move (h .position .y) m y (down-mag (h .position .y +ℤ m) (down-parts m c .1 .1 .1 .1));
         lo = l;
         hi = u;
         op-is = omega arith;
         only-move = move-down b ps (omega arith) (omega arith);
       }
 
-  module _ (y : mag (h .pen .y) < 4000000) (lo : 1 ≤ k) (hi : k ≤ 4) (o : b ≡ 156 + k) where
-    pub down-not : (beforeDown (h .stage) ≡ true → validIn (h .pen .font) (h .pen .x) ≡ true → ⊥) → step (inPage h) b ps ≡ refuse
+  module _ (y : mag (h .position .y) < 4000000) (lo : 1 ≤ k) (hi : k ≤ 4) (o : b ≡ 156 + k) where
+    pub down-not : (beforeDown (h .stage) ≡ true → validIn (h .position .font) (h .position .x) ≡ true → ⊥) → step (inPage h) b ps ≡ refuse
     unfolding down-case
     down-not f = page-refuse h b ps
         (λ d m a.
@@ -179,29 +179,29 @@ module _ (h : PageState) (b : ℕ) (ps : List ℕ) (k : ℕ) where
     unfolding down-case
     down-go l z w c = move-go h b ps k (down-case y lo hi o) l z w c
 
-    module _ (more : isMore (h .items) ≡ true) (bd : beforeDown (h .stage) ≡ true) (vx : validIn (h .pen .font) (h .pen .x) ≡ true) (l : length ps < k) where
-      pub down-found : someBelow 1000001 (downBegins (b ∷ ps) (h .pen .y)) ≡ true → step (inPage h) b ps ≡ short
+    module _ (more : isMore (h .items) ≡ true) (bd : beforeDown (h .stage) ≡ true) (vx : validIn (h .position .font) (h .position .x) ≡ true) (l : length ps < k) where
+      pub down-found : someBelow 1000001 (downBegins (b ∷ ps) (h .position .y)) ≡ true → step (inPage h) b ps ≡ short
       unfolding downBegins down-case
       down-found e =
-          let f = some-found 1000001 (downBegins (b ∷ ps) (h .pen .y)) e in
+          let f = some-found 1000001 (downBegins (b ∷ ps) (h .position .y)) e in
           let to = pos (3 * f .found) in
-          let m = to -ℤ h .pen .y in
+          let m = to -ℤ h .position .y in
           let t = both (begins (b ∷ ps) (shortest DOWN1 m)) (not (eqZ m (pos 0))) (f .holds) in
-          let c = parts-down m more bd (t .1) vx (subst (λ (z : ℤ). isDown z ≡ true) (sym (back-and-there (h .pen .y) to)) (thrice-is-down (f .found) (f .is-below))) in
+          let c = parts-down m more bd (t .1) vx (subst (λ (z : ℤ). isDown z ≡ true) (sym (back-and-there (h .position .y) to)) (thrice-is-down (f .found) (f .is-below))) in
           let g = begins-is (b ∷ ps) (shortest DOWN1 m) (t .0) in
           move-short h b ps k (down-case y lo hi o) l m (t .0)
           (way₄ h (b ∷ ps) (f .found) (f .is-below) (as-such h (b ∷ ps) (downward m) (g .more) (down-bytes m ∙ g .whole-is) c))
 
-      pub down-none : someBelow 1000001 (downBegins (b ∷ ps) (h .pen .y)) ≡ false → step (inPage h) b ps ≡ refuse
+      pub down-none : someBelow 1000001 (downBegins (b ∷ ps) (h .position .y)) ≡ false → step (inPage h) b ps ≡ refuse
       unfolding downBegins down-case
       down-none e =
           move-early h b ps k (down-case y lo hi o) l
           (λ m c g.
           let w = down-parts m c in
-          let n = down-counted (h .pen .y +ℤ m) (w .1 .1 .1 .1) in
-          let q : pos (3 * n .count) -ℤ h .pen .y ≡ m = ap (λ (a : ℤ). a -ℤ h .pen .y) (n .place-is) ∙ there-and-back (h .pen .y) m in
-          let z : downBegins (b ∷ ps) (h .pen .y) (n .count) ≡ true =
-          both-true (begins (b ∷ ps) (shortest DOWN1 (pos (3 * n .count) -ℤ h .pen .y))) (not (eqZ (pos (3 * n .count) -ℤ h .pen .y) (pos 0)))
+          let n = down-counted (h .position .y +ℤ m) (w .1 .1 .1 .1) in
+          let q : pos (3 * n .count) -ℤ h .position .y ≡ m = ap (λ (a : ℤ). a -ℤ h .position .y) (n .place-is) ∙ there-and-back (h .position .y) m in
+          let z : downBegins (b ∷ ps) (h .position .y) (n .count) ≡ true =
+          both-true (begins (b ∷ ps) (shortest DOWN1 (pos (3 * n .count) -ℤ h .position .y))) (not (eqZ (pos (3 * n .count) -ℤ h .position .y) (pos 0)))
           (subst (λ (a : ℤ). begins (b ∷ ps) (shortest DOWN1 a) ≡ true) (sym q) g)
           (subst (λ (a : ℤ). not (eqZ a (pos 0)) ≡ true) (sym q) (w .1 .1 .0)) in
-          no-truth _ (found-some 1000001 (downBegins (b ∷ ps) (h .pen .y)) (n .count) (n .is-below) z) e)
+          no-truth _ (found-some 1000001 (downBegins (b ∷ ps) (h .position .y)) (n .count) (n .is-below) z) e)

@@ -54,19 +54,19 @@ module _ (h : PageState) (b : ℕ) (ps : List ℕ) where
 
   -- ---- put
 
-  put-parts : (c : ℕ) → mayCome h (putting c) ≡ true → (beforePut (h .stage) ≡ true) × ((validIn (h .pen .font) (h .pen .x) ≡ true) × ((leb 1 c ≡ true) × (leb c 108 ≡ true)))
+  put-parts : (c : ℕ) → mayCome h (putting c) ≡ true → (beforePut (h .stage) ≡ true) × ((validIn (h .position .font) (h .position .x) ≡ true) × ((leb 1 c ≡ true) × (leb c 108 ≡ true)))
   unfolding mayCome
   put-parts c e =
-      let T₃ = validIn (h .pen .font) (h .pen .x) && (leb 1 c && leb c 108) in
+      let T₃ = validIn (h .position .font) (h .position .x) && (leb 1 c && leb c 108) in
       let b₁ = both (isMore (h .items)) (beforePut (h .stage) && T₃) e in
       let b₂ = both (beforePut (h .stage)) T₃ (b₁ .1) in
-      let b₃ = both (validIn (h .pen .font) (h .pen .x)) (leb 1 c && leb c 108) (b₂ .1) in
+      let b₃ = both (validIn (h .position .font) (h .position .x)) (leb 1 c && leb c 108) (b₂ .1) in
       let b₄ = both (leb 1 c) (leb c 108) (b₃ .1) in
       (b₂ .0, (b₃ .0, (b₄ .0, b₄ .1)))
 
   module _ (o : b ≡ 133) where
     -- only a put whose code is the byte there
-    put-unless : ((c : ℕ) → beforePut (h .stage) ≡ true → validIn (h .pen .font) (h .pen .x) ≡ true → 1 ≤ c → c ≤ 108 → Alike (b ∷ ps) (PUT1 ∷ c ∷ []) → ⊥) → step (inPage h) b ps ≡ refuse
+    put-unless : ((c : ℕ) → beforePut (h .stage) ≡ true → validIn (h .position .font) (h .position .x) ≡ true → 1 ≤ c → c ≤ 108 → Alike (b ∷ ps) (PUT1 ∷ c ∷ []) → ⊥) → step (inPage h) b ps ≡ refuse
     unfolding inBytes
     put-unless f = page-refuse h b ps (λ d m a. no d m a (kind d b ps a))
       where
@@ -78,7 +78,7 @@ module _ (h : PageState) (b : ℕ) (ps : List ℕ) where
         no (downward x) m a k = omega arith
         no (putting c) m a k = let w = put-parts c m in f c (w .0) (w .1 .0) (leb-true 1 c (w .1 .1 .0)) (leb-true c 108 (w .1 .1 .1)) a
 
-    pub put-not : (beforePut (h .stage) ≡ true → validIn (h .pen .font) (h .pen .x) ≡ true → ⊥) → step (inPage h) b ps ≡ refuse
+    pub put-not : (beforePut (h .stage) ≡ true → validIn (h .position .font) (h .position .x) ≡ true → ⊥) → step (inPage h) b ps ≡ refuse
     put-not f = put-unless (λ c p v l u a. f p v)
 
     code-is : (c d : ℕ) (qs : List ℕ) → Alike (b ∷ d ∷ qs) (PUT1 ∷ c ∷ []) → c ≡ d
@@ -92,7 +92,7 @@ module _ (h : PageState) (b : ℕ) (ps : List ℕ) where
         let n = code-is c d qs (subst (λ (t : List ℕ). Alike (b ∷ t) (PUT1 ∷ c ∷ [])) e a) in
         f (subst (λ (m : ℕ). 1 ≤ m) n l) (subst (λ (m : ℕ). m ≤ 108) n u))
 
-    module _ (more : isMore (h .items) ≡ true) (bp : beforePut (h .stage) ≡ true) (vx : validIn (h .pen .font) (h .pen .x) ≡ true) where
+    module _ (more : isMore (h .items) ≡ true) (bp : beforePut (h .stage) ≡ true) (vx : validIn (h .position .font) (h .position .x) ≡ true) where
       may-put : (c : ℕ) → 1 ≤ c → c ≤ 108 → mayCome h (putting c) ≡ true
       unfolding mayCome
       may-put c l u = rw (more, bp, vx, le-leb 1 c l, le-leb c 108 u)

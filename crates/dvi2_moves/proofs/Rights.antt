@@ -27,7 +27,7 @@ use Rattle.dvi2_reading.specs.PieceLaws.{x-mag}
 use Rattle.dvi2_reading.specs.WayLaws.{font-there}
 use Rattle.dvi2_reading.specs.CharacterPath.{down-mag}
 use Rattle.dvi2_state.specs.declared.page_state.PageState.{PageState}
-use Rattle.dvi2_commands.specs.Pen.{fontIn}
+use Rattle.dvi.specs.FontOrNone.{fontOrNone}
 use Rattle.dvi2_state.specs.Page.{stageOf, pageStateOf, Near, rightBegins, downBegins}
 use Rattle.dvi2_moves.proofs.MoveSteps.{right-not, right-bad, right-go, right-found, right-none, parts-right, right-parts, down-not, down-bad, down-go, down-found, down-none, parts-down, down-parts}
 use Rattle.dvi2_moves.proofs.Pages.{put-not, put-bad, put-short, put-go}
@@ -99,39 +99,39 @@ module _ (S : List ℕ) (at k : ℕ) (h : PageState) (a : at < length S) (lo : 1
     pub r-not : R.beforeRight (stageOf (h .stage)) ≡ false → refuse ≡ step (inPage H) (getD S at 0) P
     r-not e = sym (right-not H (getD S at 0) P k (near .x-near) lo hi o e)
 
-    pub r-found : R.beforeRight (stageOf (h .stage)) ≡ true → length S - at ≤ k → someBelow 3295 (rightBegins (drop at S) (fontIn (h .font)) (h .x)) ≡ true
+    pub r-found : R.beforeRight (stageOf (h .stage)) ≡ true → length S - at ≤ k → someBelow 3295 (rightBegins (drop at S) (fontOrNone (h .font)) (h .x)) ≡ true
         → short ≡ step (inPage H) (getD S at 0) P
     r-found b c e =
         sym (right-found H (getD S at 0) P k (near .x-near) lo hi o more b (let n = left in omega arith)
-        (ap (λ (s : List ℕ). someBelow 3295 (rightBegins s (fontIn (h .font)) (h .x))) (sym (drop-here S at a)) ∙ e))
+        (ap (λ (s : List ℕ). someBelow 3295 (rightBegins s (fontOrNone (h .font)) (h .x))) (sym (drop-here S at a)) ∙ e))
 
-    pub r-none : R.beforeRight (stageOf (h .stage)) ≡ true → length S - at ≤ k → someBelow 3295 (rightBegins (drop at S) (fontIn (h .font)) (h .x)) ≡ false
+    pub r-none : R.beforeRight (stageOf (h .stage)) ≡ true → length S - at ≤ k → someBelow 3295 (rightBegins (drop at S) (fontOrNone (h .font)) (h .x)) ≡ false
         → refuse ≡ step (inPage H) (getD S at 0) P
     r-none b c e =
         sym (right-none H (getD S at 0) P k (near .x-near) lo hi o more b (let n = left in omega arith)
-        (ap (λ (s : List ℕ). someBelow 3295 (rightBegins s (fontIn (h .font)) (h .x))) (sym (drop-here S at a)) ∙ e))
+        (ap (λ (s : List ℕ). someBelow 3295 (rightBegins s (fontOrNone (h .font)) (h .x))) (sym (drop-here S at a)) ∙ e))
 
     module _ (c : k < length S - at) where
       whole : k ≤ length P
       whole = let n = left in omega arith
 
-      pub r-bad : (widthOf (signedAt k (at + 1) S) ≡ k → (not (eqZ (signedAt k (at + 1) S) (pos 0)) ≡ true) → validIn (fontIn (h .font)) (h .x +ℤ signedAt k (at + 1) S) ≡ true → ⊥)
+      pub r-bad : (widthOf (signedAt k (at + 1) S) ≡ k → (not (eqZ (signedAt k (at + 1) S) (pos 0)) ≡ true) → validIn (fontOrNone (h .font)) (h .x +ℤ signedAt k (at + 1) S) ≡ true → ⊥)
           → refuse ≡ step (inPage H) (getD S at 0) P
       r-bad f =
           sym (right-bad H (getD S at 0) P k (near .x-near) lo hi o whole
           (λ w m. let p = right-parts H (getD S at 0) P k (signedAt k (at + 1) S) m in f w (p .1 .1 .0) (p .1 .1 .1)))
 
       pub r-go : Bytes S → R.beforeRight (stageOf (h .stage)) ≡ true → widthOf (signedAt k (at + 1) S) ≡ k → not (eqZ (signedAt k (at + 1) S) (pos 0)) ≡ true
-          → validIn (fontIn (h .font)) (h .x +ℤ signedAt k (at + 1) S) ≡ true → step (inPage H) (getD S at 0) P ≡ go (pageStateAfter H (across (signedAt k (at + 1) S))) k
+          → validIn (fontOrNone (h .font)) (h .x +ℤ signedAt k (at + 1) S) ≡ true → step (inPage H) (getD S at 0) P ≡ go (pageStateAfter H (across (signedAt k (at + 1) S))) k
       r-go y b w n v =
           right-go H (getD S at 0) P k (near .x-near) lo hi o whole (bytes-drop (at + 1) S y) w
           (parts-right H (getD S at 0) P k (signedAt k (at + 1) S) more b n v)
 
   module _ (o : getD S at 0 ≡ 156 + k) where
-    pub d-not : (R.beforeDown (stageOf (h .stage)) ≡ true → validIn (fontIn (h .font)) (h .x) ≡ true → ⊥) → refuse ≡ step (inPage H) (getD S at 0) P
+    pub d-not : (R.beforeDown (stageOf (h .stage)) ≡ true → validIn (fontOrNone (h .font)) (h .x) ≡ true → ⊥) → refuse ≡ step (inPage H) (getD S at 0) P
     d-not e = sym (down-not H (getD S at 0) P k (near .y-near) lo hi o e)
 
-    module _ (b : R.beforeDown (stageOf (h .stage)) ≡ true) (v : validIn (fontIn (h .font)) (h .x) ≡ true) where
+    module _ (b : R.beforeDown (stageOf (h .stage)) ≡ true) (v : validIn (fontOrNone (h .font)) (h .x) ≡ true) where
       pub d-found : length S - at ≤ k → someBelow 1000001 (downBegins (drop at S) (h .y)) ≡ true → short ≡ step (inPage H) (getD S at 0) P
       d-found c e =
           sym (down-found H (getD S at 0) P k (near .y-near) lo hi o more b v (let n = left in omega arith)
@@ -182,7 +182,7 @@ clash t p q = let y : true ≡ false = sym p ∙ q in let x : _≡_ {A = ℕ} 0 
 -- ---- put
 
 module _ (S : List ℕ) (at : ℕ) (h : PageState) (a : at < length S) (o : getD S at 0 ≡ 133) (is : List Item) (l : length is < 1048576) where
-  pub p-not : (R.beforePut (stageOf (h .stage)) ≡ true → validIn (fontIn (h .font)) (h .x) ≡ true → ⊥) → refuse ≡ step (inPage (pageStateOf is h)) (getD S at 0) (drop (at + 1) S)
+  pub p-not : (R.beforePut (stageOf (h .stage)) ≡ true → validIn (fontOrNone (h .font)) (h .x) ≡ true → ⊥) → refuse ≡ step (inPage (pageStateOf is h)) (getD S at 0) (drop (at + 1) S)
   p-not f = sym (put-not (pageStateOf is h) (getD S at 0) (drop (at + 1) S) o f)
 
   next-here : at + 1 < length S → drop (at + 1) S ≡ getD S (at + 1) 0 ∷ drop (suc (at + 1)) S
@@ -191,7 +191,7 @@ module _ (S : List ℕ) (at : ℕ) (h : PageState) (a : at < length S) (o : getD
   pub p-bad : at + 1 < length S → (1 ≤ getD S (at + 1) 0 → getD S (at + 1) 0 ≤ 108 → ⊥) → refuse ≡ step (inPage (pageStateOf is h)) (getD S at 0) (drop (at + 1) S)
   p-bad n f = sym (put-bad (pageStateOf is h) (getD S at 0) (drop (at + 1) S) o (getD S (at + 1) 0) (drop (suc (at + 1)) S) (next-here n) f)
 
-  module _ (b : R.beforePut (stageOf (h .stage)) ≡ true) (v : validIn (fontIn (h .font)) (h .x) ≡ true) where
+  module _ (b : R.beforePut (stageOf (h .stage)) ≡ true) (v : validIn (fontOrNone (h .font)) (h .x) ≡ true) where
     pub p-short : length S - at < 2 → short ≡ step (inPage (pageStateOf is h)) (getD S at 0) (drop (at + 1) S)
     p-short n = sym (put-short (pageStateOf is h) (getD S at 0) (drop (at + 1) S) o (lt-ltb (length is) 1048576 l) b v (drop-of-length-le S {i = at + 1} (omega arith)))
 

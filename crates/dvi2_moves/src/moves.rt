@@ -13,7 +13,7 @@ ghost use lib.IntN.{_+ℤ_};
 ghost use lib.ListN.{length, getD, drop};
 ghost use Rattle.octets.specs.Octets.{signedAt};
 ghost use Rattle.galley_file.specs.declared.item.Item.{Item};
-ghost use Rattle.dvi2_commands.specs.Pen.{fontIn};
+ghost use Rattle.dvi.specs.FontOrNone.{fontOrNone};
 ghost use Rattle.dvi2_reading.specs.Reading as R;
 ghost use Rattle.dvi2_state.specs.Page.{pageStateOf, Near, stepOf};
 
@@ -43,7 +43,7 @@ fn sum(a: i32, b: i32) -> i64
 
 // Whether a character of font f may stand at t.
 fn valid_at(f: u8, t: i64) -> bool
-    ensures { λ r. ⌜ r ≡ R.validIn (fontIn f) t ⌝ }
+    ensures { λ r. ⌜ r ≡ R.validIn (fontOrNone f) t ⌝ }
 {
     if t < -55 {
         return false;

@@ -18,7 +18,7 @@ use Rattle.dvi2_reading.specs.Reading as R
 use Rattle.dvi2_reading.specs.Reading.{someBelow, mayCome, mayChoose, selecting, step, inPage, refuse, short, go, pageStateAfter}
 use Rattle.dvi2_reading.specs.BytesLaws.{some-found, found-some}
 use Rattle.dvi2_state.specs.declared.page_state.PageState.{PageState}
-use Rattle.dvi2_commands.specs.Pen.{fontIn}
+use Rattle.dvi.specs.FontOrNone.{fontOrNone}
 use Rattle.dvi2_state.specs.Page.{stageOf, pageStateOf, Near}
 use Rattle.dvi2_page.specs.Fonts.{Known, choosesHigh, isFree}
 use Rattle.dvi2_page.proofs.Choices.{low-bad, low-go, high-none, high-some, high-bad, high-go}
@@ -48,7 +48,7 @@ module _ (S : List ℕ) (at : ℕ) (h : PageState) (near : Near h) (is : List It
   P = drop (at + 1) S
 
   abbrev chooses : ℕ → Bool
-  chooses f = mayChoose (stageOf (h .stage)) (charactersOf is) (fontIn (h .font)) f
+  chooses f = mayChoose (stageOf (h .stage)) (charactersOf is) (fontOrNone (h .font)) f
 
   select-is : (f : ℕ) → mayCome H (selecting f) ≡ chooses f
   unfolding mayCome
@@ -64,14 +64,14 @@ module _ (S : List ℕ) (at : ℕ) (h : PageState) (near : Near h) (is : List It
     none-here : length S - at < 2 → P ≡ []
     none-here n = drop-of-length-le S {i = at + 1} (omega arith)
 
-    pub s-short : length S - at < 2 → someBelow 120 (choosesHigh (stageOf (h .stage)) (charactersOf is) (fontIn (h .font))) ≡ true → short ≡ step (inPage H) B P
+    pub s-short : length S - at < 2 → someBelow 120 (choosesHigh (stageOf (h .stage)) (charactersOf is) (fontOrNone (h .font))) ≡ true → short ≡ step (inPage H) B P
     unfolding choosesHigh
     s-short n e =
-        let f = some-found 120 (choosesHigh (stageOf (h .stage)) (charactersOf is) (fontIn (h .font))) e in
+        let f = some-found 120 (choosesHigh (stageOf (h .stage)) (charactersOf is) (fontOrNone (h .font))) e in
         let b = both (leb 64 (f .found)) (chooses (f .found)) (f .holds) in
         sym (high-some H B P o (none-here n) (f .found) (leb-true 64 (f .found) (b .0)) (f .is-below) (select-is (f .found) ∙ b .1))
 
-    pub s-none : length S - at < 2 → someBelow 120 (choosesHigh (stageOf (h .stage)) (charactersOf is) (fontIn (h .font))) ≡ false → refuse ≡ step (inPage H) B P
+    pub s-none : length S - at < 2 → someBelow 120 (choosesHigh (stageOf (h .stage)) (charactersOf is) (fontOrNone (h .font))) ≡ false → refuse ≡ step (inPage H) B P
     s-none n e =
         sym (high-none H B P o (none-here n)
         (λ f a b. select-is f ∙ off f (chooses f) refl a b)
@@ -79,7 +79,7 @@ module _ (S : List ℕ) (at : ℕ) (h : PageState) (near : Near h) (is : List It
       where
         off : (f : ℕ) (t : Bool) → chooses f ≡ t → 64 ≤ f → f < 120 → t ≡ false
         off f true q a b =
-            absurd (clash _ (found-some 120 (choosesHigh (stageOf (h .stage)) (charactersOf is) (fontIn (h .font))) f b (chooses-high (stageOf (h .stage)) (charactersOf is) (fontIn (h .font)) f a ∙ q)) e)
+            absurd (clash _ (found-some 120 (choosesHigh (stageOf (h .stage)) (charactersOf is) (fontOrNone (h .font))) f b (chooses-high (stageOf (h .stage)) (charactersOf is) (fontOrNone (h .font)) f a ∙ q)) e)
         off f false q a b = refl
 
         small : (f : ℕ) (t : Bool) → leb 120 f ≡ t → chooses f ≡ true → f < 120

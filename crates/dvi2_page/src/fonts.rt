@@ -17,7 +17,7 @@ ghost use lib.ListN.{length, getD, drop};
 ghost use Rattle.galley_file.specs.declared.item.Item.{Item};
 ghost use Rattle.galley_file.specs.Item.{charactersOf};
 ghost use Rattle.dvi2.specs.Writer as W;
-ghost use Rattle.dvi2_commands.specs.Pen.{fontIn};
+ghost use Rattle.dvi.specs.FontOrNone.{fontOrNone};
 ghost use Rattle.dvi2_reading.specs.Reading as R;
 ghost use Rattle.dvi2_state.specs.Page.{stageOf, pageStateOf, Near, stepOf};
 ghost use Rattle.dvi2_page.specs.Fonts.{Known, choosesHigh, isFree};
@@ -28,8 +28,8 @@ const FONTS: u8 = 120;
 
 // Whether font f may be chosen at a stage, after the font `last`.
 fn may_choose(stage: Stage, last: u8, used: Fonts, f: u8) -> bool
-    requires { ⌜ ((g : ℕ) → fontIn last ≡ some g → g < 120) ⌝ }
-    ensures { λ r. ⌜ ((is : List Item) → Known (used .low) (used .high) is → r ≡ R.mayChoose (stageOf stage) (charactersOf is) (fontIn last) f) ⌝ }
+    requires { ⌜ ((g : ℕ) → fontOrNone last ≡ some g → g < 120) ⌝ }
+    ensures { λ r. ⌜ ((is : List Item) → Known (used .low) (used .high) is → r ≡ R.mayChoose (stageOf stage) (charactersOf is) (fontOrNone last) f) ⌝ }
 {
     if FONTS <= f {
         return false;
@@ -50,8 +50,8 @@ fn may_choose(stage: Stage, last: u8, used: Fonts, f: u8) -> bool
 
 // Whether some font from 64 on may be chosen.
 fn may_begin_font(stage: Stage, last: u8, used: Fonts) -> bool
-    requires { ⌜ ((g : ℕ) → fontIn last ≡ some g → g < 120) ⌝ }
-    ensures { λ r. ⌜ ((is : List Item) → Known (used .low) (used .high) is → r ≡ R.someBelow 120 (choosesHigh (stageOf stage) (charactersOf is) (fontIn last))) ⌝ }
+    requires { ⌜ ((g : ℕ) → fontOrNone last ≡ some g → g < 120) ⌝ }
+    ensures { λ r. ⌜ ((is : List Item) → Known (used .low) (used .high) is → r ≡ R.someBelow 120 (choosesHigh (stageOf stage) (charactersOf is) (fontOrNone last))) ⌝ }
 {
     let mut f: u8 = 64;
     while f < FONTS {

@@ -16,12 +16,12 @@ use Rattle.galley_file.specs.Item.{validItem, itemField}
 use Rattle.galley_file.specs.ItemLaws.{all-counted}
 use Rattle.galley_file.specs.Galley.{fields, galley}
 use Rattle.galley_file.specs.GalleyLaws.{length-fields, fields-append, fields-one}
-use Rattle.dvi2.specs.Writer.{firstPress}
-use Rattle.dvi2.specs.WriterLaws.{press-at}
+use Rattle.dvi2.specs.Writer.{firstWriting}
+use Rattle.dvi2.specs.WriterLaws.{writing-at}
 use Rattle.dvi2_reading.specs.Beginning.{Writable}
 use Rattle.dvi2_reading.specs.Reading.{inPage, newPageState, gives, bad, atEnd, readFile}
 use Rattle.dvi2_reading.specs.Reading as R
-use Rattle.dvi2_reading.specs.Reached.{pressOf}
+use Rattle.dvi2_reading.specs.Reached.{writingOf}
 use Rattle.dvi2_reading.specs.Standing.{Standing}
 use Rattle.dvi2_reading.specs.StandingLaws.{standing-end}
 use Rattle.dvi2_state.specs.declared.page_state.PageState.{PageState}
@@ -64,9 +64,9 @@ module _ (s before : List ℕ) (at : ℕ) (h : PageState) (t : Tally) (to : ℕ)
     pub going-valid : validItem heightEnd i ≡ true
     going-valid = last-valid (g .items) i (k .reached .writable .all-valid)
 
-    pub going-least : next ≡ pressOf (g .items ++ (i ∷ [])) .at → 45 ≤ next
-    unfolding firstPress
-    going-least e = omega (arith, e, press-at firstPress (g .items ++ (i ∷ [])))
+    pub going-least : next ≡ writingOf (g .items ++ (i ∷ [])) .at → 45 ≤ next
+    unfolding firstWriting
+    going-least e = omega (arith, e, writing-at firstWriting (g .items ++ (i ∷ [])))
 
     pub going-set : (r : Tally) → TallyIs r (g .items ++ (i ∷ [])) → (o : List ℕ) (n : ℕ) → PutIfRoom out to (itemField New i) o n → Going s before next f r n o
     going-set r y o n p =

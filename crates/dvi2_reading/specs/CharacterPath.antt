@@ -23,9 +23,9 @@ use Rattle.galley_file.specs.CharacterLaws.{Valid, valid-parts}
 use Rattle.galley_file.specs.Item.{charactersOf}
 use Rattle.galley_file.specs.Galley.{maxItems}
 use Rattle.extents.specs.FontMarks.{uses}
-use Rattle.dvi.specs.Writer.{Pen}
+use Rattle.dvi.specs.Writer.{Position}
 use Rattle.dvi2.specs.Command.{PUT1, RIGHT1, DOWN1}
-use Rattle.dvi2.specs.Writer.{hOf, vOf, penAt, selects, definition, fontCommands, fontChange, shortest, move, commandsOf}
+use Rattle.dvi2.specs.Writer.{hOf, vOf, positionAt, selects, definition, fontCommands, fontChange, shortest, move, commandsOf}
 use Rattle.dvi2_reading.specs.Reading.{defining, selecting, across, downward, putting, inBytes, Stage, ready, named, chosen, moved, lowered, PageState, beforeRight, beforeDown, beforePut, isMore, isFont, validIn, isDown, mayCome, inPage, heightOf, characterOf, withFont, pageStateAfter}
 use Rattle.dvi2_reading.specs.BytesLaws.{both-true}
 use Rattle.dvi2_reading.specs.SizeLaws.{put-command, definition-command, selects-command, right-command, down-command}
@@ -70,70 +70,70 @@ not-so t e = rw e
 -- ---- the commands of a character, from a page so reached
 
 module _ (is : List Item) (l : length is < maxItems) where
-  abbrev midpage : Stage → Pen → PageState
-  midpage s p = record { items = is; stage = s; pen = p }
+  abbrev midpage : Stage → Position → PageState
+  midpage s p = record { items = is; stage = s; position = p }
 
   is-more : isMore is ≡ true
   is-more = lt-ltb (length is) maxItems l
 
   -- a font that differs
-  select-path : (pen : Pen) (f : ℕ) → f < 120 → isFont (pen .font) f ≡ false
-      → Path (inPage (midpage ready pen)) (fontCommands (uses f (charactersOf is)) f) (inPage (midpage chosen (withFont pen f)))
+  select-path : (position : Position) (f : ℕ) → f < 120 → isFont (position .font) f ≡ false
+      → Path (inPage (midpage ready position)) (fontCommands (uses f (charactersOf is)) f) (inPage (midpage chosen (withFont position f)))
   unfolding fontCommands mayCome pageStateAfter inBytes withFont
-  select-path pen f s n = go (uses f (charactersOf is)) refl
+  select-path position f s n = go (uses f (charactersOf is)) refl
     where
       go : (t : Bool) → uses f (charactersOf is) ≡ t
-          → Path (inPage (midpage ready pen)) (cond t (selects f) (definition f ++ selects f)) (inPage (midpage chosen (withFont pen f)))
+          → Path (inPage (midpage ready position)) (cond t (selects f) (definition f ++ selects f)) (inPage (midpage chosen (withFont position f)))
       go true u =
           path-one
-          (page-next (midpage ready pen) (selecting f) tt
-          (both-true (isMore is) (uses f (charactersOf is) && not (isFont (pen .font) f)) is-more
-          (both-true (uses f (charactersOf is)) (not (isFont (pen .font) f)) u (not-so (isFont (pen .font) f) n))))
+          (page-next (midpage ready position) (selecting f) tt
+          (both-true (isMore is) (uses f (charactersOf is) && not (isFont (position .font) f)) is-more
+          (both-true (uses f (charactersOf is)) (not (isFont (position .font) f)) u (not-so (isFont (position .font) f) n))))
           (selects-command f)
       go false u =
           step
-          (page-next (midpage ready pen) (defining f) tt
+          (page-next (midpage ready position) (defining f) tt
           (both-true (isMore is) (true && (ltb f 120 && not (uses f (charactersOf is)))) is-more
           (both-true (ltb f 120) (not (uses f (charactersOf is))) (lt-ltb f 120 s) (not-so (uses f (charactersOf is)) u))))
           (definition-command f)
           (path-one
-          (page-next (midpage named (withFont pen f)) (selecting f) tt (both-true (isMore is) (eqb f f) is-more (eq-eqb f f refl)))
+          (page-next (midpage named (withFont position f)) (selecting f) tt (both-true (isMore is) (eqb f f) is-more (eq-eqb f f refl)))
           (selects-command f))
 
-  record Fonted (pen : Pen) (f : ℕ) : Type 0 where
+  record Fonted (position : Position) (f : ℕ) : Type 0 where
     pub at-stage : Stage
     pub before : beforeRight at-stage ≡ true
-    pub path : Path (inPage (midpage ready pen)) (fontChange (uses f (charactersOf is)) (pen .font) f) (inPage (midpage at-stage (withFont pen f)))
+    pub path : Path (inPage (midpage ready position)) (fontChange (uses f (charactersOf is)) (position .font) f) (inPage (midpage at-stage (withFont position f)))
 
-  font-path : (pen : Pen) (f : ℕ) → f < 120 → Fonted pen f
+  font-path : (position : Position) (f : ℕ) → f < 120 → Fonted position f
   unfolding fontChange withFont
-  font-path pen f s = go (pen .font) refl
+  font-path position f s = go (position .font) refl
     where
-      other : (o : Option ℕ) → pen .font ≡ o → isFont o f ≡ false → fontChange (uses f (charactersOf is)) o f ≡ fontCommands (uses f (charactersOf is)) f → Fonted pen f
+      other : (o : Option ℕ) → position .font ≡ o → isFont o f ≡ false → fontChange (uses f (charactersOf is)) o f ≡ fontCommands (uses f (charactersOf is)) f → Fonted position f
       other o e n w =
           record {
             at-stage = chosen;
             before = refl;
             path =
-                subst (λ (b : List ℕ). Path (inPage (midpage ready pen)) b (inPage (midpage chosen (withFont pen f))))
+                subst (λ (b : List ℕ). Path (inPage (midpage ready position)) b (inPage (midpage chosen (withFont position f))))
                 (sym (ap (λ (p : Option ℕ). fontChange (uses f (charactersOf is)) p f) e ∙ w))
-                (select-path pen f s (ap (λ (p : Option ℕ). isFont p f) e ∙ n));
+                (select-path position f s (ap (λ (p : Option ℕ). isFont p f) e ∙ n));
           }
 
-      go : (o : Option ℕ) → pen .font ≡ o → Fonted pen f
+      go : (o : Option ℕ) → position .font ≡ o → Fonted position f
       go none e = other none e refl refl
       go (some g) e = by-font (eqb g f) refl
         where
-          by-font : (t : Bool) → eqb g f ≡ t → Fonted pen f
+          by-font : (t : Bool) → eqb g f ≡ t → Fonted position f
           by-font true q =
-              let p : pen .font ≡ some f = e ∙ ap (λ (n : ℕ). some n) (eqb-true g f q) in
+              let p : position .font ≡ some f = e ∙ ap (λ (n : ℕ). some n) (eqb-true g f q) in
               record {
                 at-stage = ready;
                 before = refl;
                 path =
-                    subst (λ (b : List ℕ). Path (inPage (midpage ready pen)) b (inPage (midpage ready (withFont pen f))))
+                    subst (λ (b : List ℕ). Path (inPage (midpage ready position)) b (inPage (midpage ready (withFont position f))))
                     (sym (ap (λ (o : Option ℕ). fontChange (uses f (charactersOf is)) o f) e ∙ rw q))
-                    (subst (λ (o : Option ℕ). Path (inPage (midpage ready pen)) [] (inPage (midpage ready (record { font = o; x = pen .x; y = pen .y })))) p stop);
+                    (subst (λ (o : Option ℕ). Path (inPage (midpage ready position)) [] (inPage (midpage ready (record { font = o; x = position .x; y = position .y })))) p stop);
               }
           by-font false q = other (some g) e q (rw q)
 
@@ -240,28 +240,28 @@ module _ (is : List Item) (l : length is < maxItems) where
           }
 
   put-path : (s : Stage) (c : Character) → beforePut s ≡ true → Valid heightEnd c → heightOf (vOf c) ≡ c .height .0
-      → Path (inPage (midpage s (penAt c))) (PUT1 ∷ c .code ∷ []) (inPage (record { items = is ++ (Placed c ∷ []); stage = ready; pen = penAt c }))
-  unfolding mayCome pageStateAfter inBytes characterOf penAt
+      → Path (inPage (midpage s (positionAt c))) (PUT1 ∷ c .code ∷ []) (inPage (record { items = is ++ (Placed c ∷ []); stage = ready; position = positionAt c }))
+  unfolding mayCome pageStateAfter inBytes characterOf positionAt
   put-path s c b v e =
-      subst (λ (h : ℤ). Path (inPage (midpage s (penAt c))) (PUT1 ∷ c .code ∷ [])
-      (inPage (record { items = is ++ (Placed (record { x = c .x; height = record { 0 = h }; font = c .font; code = c .code }) ∷ []); stage = ready; pen = penAt c }))) e
+      subst (λ (h : ℤ). Path (inPage (midpage s (positionAt c))) (PUT1 ∷ c .code ∷ [])
+      (inPage (record { items = is ++ (Placed (record { x = c .x; height = record { 0 = h }; font = c .font; code = c .code }) ∷ []); stage = ready; position = positionAt c }))) e
       (path-one
-      (page-next (midpage s (penAt c)) (putting (c .code)) tt
+      (page-next (midpage s (positionAt c)) (putting (c .code)) tt
       (both-true (isMore is) (beforePut s && (validIn (some (c .font)) (c .x .0) && (leb 1 (c .code) && leb (c .code) 108))) is-more
       (both-true (beforePut s) (validIn (some (c .font)) (c .x .0) && (leb 1 (c .code) && leb (c .code) 108)) b
       (both-true (validIn (some (c .font)) (c .x .0)) (leb 1 (c .code) && leb (c .code) 108) (v .across)
       (both-true (leb 1 (c .code)) (leb (c .code) 108) (le-leb 1 (c .code) (v .first)) (le-leb (c .code) 108 (v .last)))))))
       (put-command (c .code)))
 
-  pub character-path : (pen : Pen) (c : Character) → mag (pen .x) < 4000 → isDown (pen .y) ≡ true → valid heightEnd c ≡ true
-      → Path (inPage (midpage ready pen)) (commandsOf (uses (c .font) (charactersOf is)) pen c) (inPage (record { items = is ++ (Placed c ∷ []); stage = ready; pen = penAt c }))
-  unfolding commandsOf penAt withFont
-  character-path pen c kx ky u =
+  pub character-path : (position : Position) (c : Character) → mag (position .x) < 4000 → isDown (position .y) ≡ true → valid heightEnd c ≡ true
+      → Path (inPage (midpage ready position)) (commandsOf (uses (c .font) (charactersOf is)) position c) (inPage (record { items = is ++ (Placed c ∷ []); stage = ready; position = positionAt c }))
+  unfolding commandsOf positionAt withFont
+  character-path position c kx ky u =
       let v = valid-parts {c = c} u in
       let f = c .font in
       let h = both (leZ (pos 0) (c .height .0)) (leZ (c .height .0) heightEnd) (v .height) in
       let t = thrice-down (c .height .0) (h .0) (h .1) in
-      let a = font-path pen f (v .font) in
-      let r = right-path (a .at-stage) f (pen .x) (pen .y) (hOf c) (a .before) kx (v .across) in
-      let d = down-path (r .at-stage) f (hOf c) (pen .y) (vOf c) (r .before) ky (v .across) (t .0) in
+      let a = font-path position f (v .font) in
+      let r = right-path (a .at-stage) f (position .x) (position .y) (hOf c) (a .before) kx (v .across) in
+      let d = down-path (r .at-stage) f (hOf c) (position .y) (vOf c) (r .before) ky (v .across) (t .0) in
       path-append (a .path) (path-append (r .path) (path-append (d .path) (put-path (d .at-stage) c (d .before) v (t .1))))

@@ -26,7 +26,7 @@ use Rattle.dvi2.specs.Writer.{preambleBytes}
 use Rattle.dvi2_reading.specs.Reading.{begins, someBelow, PageCommand, ending, defining, selecting, across, downward, putting, inBytes, PageState, isReady, beforeRight, beforeDown, beforePut, isMore, validIn, isDown, mayCome, State, start, opened, inPage, between, closing, withFont, pageStateAfter, newPageState, firstBop, furtherBop, postOf, closingOf, next, mayBeginAs, mayBeginIn, mayBegin}
 use Rattle.dvi2_reading.specs.BytesLaws.{both-true, either, left-true, right-true, Longer, begins-is, is-begins, some-found, found-some}
 use Rattle.dvi2_reading.specs.CommandLaws.{Small, page-next, next-page, only-is, is-only}
-use Rattle.dvi2_reading.specs.Reached.{pressOf, PageReached, Reached}
+use Rattle.dvi2_reading.specs.Reached.{writingOf, PageReached, Reached}
 use Rattle.dvi2_reading.specs.PieceLaws.{there-and-back}
 use Rattle.dvi2_reading.specs.WayLaws.{font-there}
 use Rattle.dvi2_reading.specs.PageLaws.{page-reached}
@@ -90,30 +90,30 @@ module _ (h : PageState) (s : List ℕ) where
       right-true (someBelow 120 (λ f. mayBeginAs h s (defining f))) _
       (left-true (someBelow 120 (λ f. mayBeginAs h s (selecting f))) _ (found-some 120 (λ f. mayBeginAs h s (selecting f)) f l e))
 
-  pub way₃ : (n : ℕ) → n < 3295 → mayBeginAs h s (across ((pos n -ℤ pos 55) -ℤ h .pen .x)) ≡ true → mayBeginIn h s ≡ true
+  pub way₃ : (n : ℕ) → n < 3295 → mayBeginAs h s (across ((pos n -ℤ pos 55) -ℤ h .position .x)) ≡ true → mayBeginIn h s ≡ true
   unfolding mayBeginIn
   way₃ n l e =
       right-true (someBelow 120 (λ f. mayBeginAs h s (defining f))) _
       (right-true (someBelow 120 (λ f. mayBeginAs h s (selecting f))) _
-      (left-true (someBelow 3295 (λ n. mayBeginAs h s (across ((pos n -ℤ pos 55) -ℤ h .pen .x)))) _
-      (found-some 3295 (λ n. mayBeginAs h s (across ((pos n -ℤ pos 55) -ℤ h .pen .x))) n l e)))
+      (left-true (someBelow 3295 (λ n. mayBeginAs h s (across ((pos n -ℤ pos 55) -ℤ h .position .x)))) _
+      (found-some 3295 (λ n. mayBeginAs h s (across ((pos n -ℤ pos 55) -ℤ h .position .x))) n l e)))
 
-  pub way₄ : (n : ℕ) → n < 1000001 → mayBeginAs h s (downward (pos (3 * n) -ℤ h .pen .y)) ≡ true → mayBeginIn h s ≡ true
+  pub way₄ : (n : ℕ) → n < 1000001 → mayBeginAs h s (downward (pos (3 * n) -ℤ h .position .y)) ≡ true → mayBeginIn h s ≡ true
   unfolding mayBeginIn
   way₄ n l e =
       right-true (someBelow 120 (λ f. mayBeginAs h s (defining f))) _
       (right-true (someBelow 120 (λ f. mayBeginAs h s (selecting f))) _
-      (right-true (someBelow 3295 (λ n. mayBeginAs h s (across ((pos n -ℤ pos 55) -ℤ h .pen .x)))) _
-      (left-true (someBelow 1000001 (λ n. mayBeginAs h s (downward (pos (3 * n) -ℤ h .pen .y)))) _
-      (found-some 1000001 (λ n. mayBeginAs h s (downward (pos (3 * n) -ℤ h .pen .y))) n l e))))
+      (right-true (someBelow 3295 (λ n. mayBeginAs h s (across ((pos n -ℤ pos 55) -ℤ h .position .x)))) _
+      (left-true (someBelow 1000001 (λ n. mayBeginAs h s (downward (pos (3 * n) -ℤ h .position .y)))) _
+      (found-some 1000001 (λ n. mayBeginAs h s (downward (pos (3 * n) -ℤ h .position .y))) n l e))))
 
   pub way₅ : mayBeginAs h s (putting 1) ≡ true → mayBeginIn h s ≡ true
   unfolding mayBeginIn
   way₅ e =
       right-true (someBelow 120 (λ f. mayBeginAs h s (defining f))) _
       (right-true (someBelow 120 (λ f. mayBeginAs h s (selecting f))) _
-      (right-true (someBelow 3295 (λ n. mayBeginAs h s (across ((pos n -ℤ pos 55) -ℤ h .pen .x)))) _
-      (right-true (someBelow 1000001 (λ n. mayBeginAs h s (downward (pos (3 * n) -ℤ h .pen .y)))) _ e)))
+      (right-true (someBelow 3295 (λ n. mayBeginAs h s (across ((pos n -ℤ pos 55) -ℤ h .position .x)))) _
+      (right-true (someBelow 1000001 (λ n. mayBeginAs h s (downward (pos (3 * n) -ℤ h .position .y)))) _ e)))
 
   pub as-such : (d : PageCommand) (z : List ℕ) → inBytes d ≡ s ++ z → mayCome h d ≡ true → mayBeginAs h s d ≡ true
   unfolding mayBeginAs
@@ -142,17 +142,17 @@ module _ (h : PageState) (bs : List ℕ) (k : PageReached h bs) (s : List ℕ) w
       either (someBelow 120 (λ f. mayBeginAs h s (selecting f))) _ e₂ (Leads (inPage h) s)
       (λ a. let b = some-found 120 (λ f. mayBeginAs h s (selecting f)) a in by-command (selecting (b .found)) tt (b .holds))
       (λ e₃.
-      either (someBelow 3295 (λ n. mayBeginAs h s (across ((pos n -ℤ pos 55) -ℤ h .pen .x)))) _ e₃ (Leads (inPage h) s)
+      either (someBelow 3295 (λ n. mayBeginAs h s (across ((pos n -ℤ pos 55) -ℤ h .position .x)))) _ e₃ (Leads (inPage h) s)
       (λ a.
-      let b = some-found 3295 (λ n. mayBeginAs h s (across ((pos n -ℤ pos 55) -ℤ h .pen .x))) a in
+      let b = some-found 3295 (λ n. mayBeginAs h s (across ((pos n -ℤ pos 55) -ℤ h .position .x))) a in
       let x = k .x-small in
-      by-command (across ((pos (b .found) -ℤ pos 55) -ℤ h .pen .x)) (mag-dif (pos (b .found) -ℤ pos 55) (h .pen .x) (x-dif (b .found) (b .is-below)) (omega arith)) (b .holds))
+      by-command (across ((pos (b .found) -ℤ pos 55) -ℤ h .position .x)) (mag-dif (pos (b .found) -ℤ pos 55) (h .position .x) (x-dif (b .found) (b .is-below)) (omega arith)) (b .holds))
       (λ e₄.
-      either (someBelow 1000001 (λ n. mayBeginAs h s (downward (pos (3 * n) -ℤ h .pen .y)))) _ e₄ (Leads (inPage h) s)
+      either (someBelow 1000001 (λ n. mayBeginAs h s (downward (pos (3 * n) -ℤ h .position .y)))) _ e₄ (Leads (inPage h) s)
       (λ a.
-      let b = some-found 1000001 (λ n. mayBeginAs h s (downward (pos (3 * n) -ℤ h .pen .y))) a in
+      let b = some-found 1000001 (λ n. mayBeginAs h s (downward (pos (3 * n) -ℤ h .position .y))) a in
       let l = b .is-below in
-      by-command (downward (pos (3 * b .found) -ℤ h .pen .y)) (mag-dif (pos (3 * b .found)) (h .pen .y) (omega arith) (down-mag (h .pen .y) (k .y-down))) (b .holds))
+      by-command (downward (pos (3 * b .found) -ℤ h .position .y)) (mag-dif (pos (3 * b .found)) (h .position .y) (omega arith) (down-mag (h .position .y) (k .y-down))) (b .holds))
       (λ a. by-command (putting 1) tt a))))
 
   lead-page : (d : PageCommand) (z : List ℕ) → inBytes d ≡ s ++ z → mayCome h d ≡ true → 0 < length s → length s < length (inBytes d) → mayBeginIn h s ≡ true
@@ -172,33 +172,33 @@ module _ (h : PageState) (bs : List ℕ) (k : PageReached h bs) (s : List ℕ) w
       same-some : (a b : ℕ) → some a ≡ some b → a ≡ b
       same-some a b e = cc
   lead-page (across m) z b e p l =
-      let b₁ = both (isMore (h .items)) (beforeRight (h .stage) && (not (eqZ m (pos 0)) && validIn (h .pen .font) (h .pen .x +ℤ m))) e in
-      let b₂ = both (beforeRight (h .stage)) (not (eqZ m (pos 0)) && validIn (h .pen .font) (h .pen .x +ℤ m)) (b₁ .1) in
-      let b₃ = both (not (eqZ m (pos 0))) (validIn (h .pen .font) (h .pen .x +ℤ m)) (b₂ .1) in
-      let t = font-there (h .pen .font) (h .pen .x +ℤ m) (b₃ .1) in
-      let n = counted (isDouble (sizeIndex (t .font))) (h .pen .x +ℤ m) (t .x-valid) in
-      let q : (pos (n .count) -ℤ pos 55) -ℤ h .pen .x ≡ m = ap (λ (a : ℤ). a -ℤ h .pen .x) (n .place-is) ∙ there-and-back (h .pen .x) m in
+      let b₁ = both (isMore (h .items)) (beforeRight (h .stage) && (not (eqZ m (pos 0)) && validIn (h .position .font) (h .position .x +ℤ m))) e in
+      let b₂ = both (beforeRight (h .stage)) (not (eqZ m (pos 0)) && validIn (h .position .font) (h .position .x +ℤ m)) (b₁ .1) in
+      let b₃ = both (not (eqZ m (pos 0))) (validIn (h .position .font) (h .position .x +ℤ m)) (b₂ .1) in
+      let t = font-there (h .position .font) (h .position .x +ℤ m) (b₃ .1) in
+      let n = counted (isDouble (sizeIndex (t .font))) (h .position .x +ℤ m) (t .x-valid) in
+      let q : (pos (n .count) -ℤ pos 55) -ℤ h .position .x ≡ m = ap (λ (a : ℤ). a -ℤ h .position .x) (n .place-is) ∙ there-and-back (h .position .x) m in
       way₃ h s (n .count) (n .is-below) (subst (λ (a : ℤ). mayBeginAs h s (across a) ≡ true) (sym q) (as-such h s (across m) z b e))
   lead-page (downward m) z b e p l =
-      let T₄ = validIn (h .pen .font) (h .pen .x) && isDown (h .pen .y +ℤ m) in
+      let T₄ = validIn (h .position .font) (h .position .x) && isDown (h .position .y +ℤ m) in
       let b₁ = both (isMore (h .items)) (beforeDown (h .stage) && (not (eqZ m (pos 0)) && T₄)) e in
       let b₂ = both (beforeDown (h .stage)) (not (eqZ m (pos 0)) && T₄) (b₁ .1) in
       let b₃ = both (not (eqZ m (pos 0))) T₄ (b₂ .1) in
-      let b₄ = both (validIn (h .pen .font) (h .pen .x)) (isDown (h .pen .y +ℤ m)) (b₃ .1) in
-      let n = down-counted (h .pen .y +ℤ m) (b₄ .1) in
-      let q : pos (3 * n .count) -ℤ h .pen .y ≡ m = ap (λ (a : ℤ). a -ℤ h .pen .y) (n .place-is) ∙ there-and-back (h .pen .y) m in
+      let b₄ = both (validIn (h .position .font) (h .position .x)) (isDown (h .position .y +ℤ m)) (b₃ .1) in
+      let n = down-counted (h .position .y +ℤ m) (b₄ .1) in
+      let q : pos (3 * n .count) -ℤ h .position .y ≡ m = ap (λ (a : ℤ). a -ℤ h .position .y) (n .place-is) ∙ there-and-back (h .position .y) m in
       way₄ h s (n .count) (n .is-below) (subst (λ (a : ℤ). mayBeginAs h s (downward a) ≡ true) (sym q) (as-such h s (downward m) z b e))
   lead-page (putting c) z b e p l =
-      let T₃ = validIn (h .pen .font) (h .pen .x) && (leb 1 c && leb c 108) in
+      let T₃ = validIn (h .position .font) (h .position .x) && (leb 1 c && leb c 108) in
       let b₁ = both (isMore (h .items)) (beforePut (h .stage) && T₃) e in
       let b₂ = both (beforePut (h .stage)) T₃ (b₁ .1) in
-      let b₃ = both (validIn (h .pen .font) (h .pen .x)) (leb 1 c && leb c 108) (b₂ .1) in
+      let b₃ = both (validIn (h .position .font) (h .position .x)) (leb 1 c && leb c 108) (b₂ .1) in
       let o = opcode s z b p l in
       way₅ h s
       (as-such h s (putting 1) (1 ∷ []) (ap (λ (t : List ℕ). t ++ (1 ∷ [])) (sym o))
-      (both-true (isMore (h .items)) (beforePut (h .stage) && (validIn (h .pen .font) (h .pen .x) && true)) (b₁ .0)
-      (both-true (beforePut (h .stage)) (validIn (h .pen .font) (h .pen .x) && true) (b₂ .0)
-      (both-true (validIn (h .pen .font) (h .pen .x)) true (b₃ .0) refl))))
+      (both-true (isMore (h .items)) (beforePut (h .stage) && (validIn (h .position .font) (h .position .x) && true)) (b₁ .0)
+      (both-true (beforePut (h .stage)) (validIn (h .position .font) (h .position .x) && true) (b₂ .0)
+      (both-true (validIn (h .position .font) (h .position .x)) true (b₃ .0) refl))))
     where
       opcode : (s z : List ℕ) → PUT1 ∷ c ∷ [] ≡ s ++ z → 0 < length s → length s < 2 → s ≡ PUT1 ∷ []
       opcode [] z b p l = absurd (omega arith)
@@ -216,11 +216,11 @@ may-lead start bs s k e = only-lead start opened s preambleBytes e start-path
 may-lead opened bs s k e = only-lead opened (inPage (newPageState [])) s firstBop e opened-path
 may-lead (inPage h) bs s k e = page-lead h bs k s e
 may-lead (between is) bs s k e =
-    either (begins s (postOf is)) (isMore is && begins s (furtherBop (pressOf is))) e (Leads (between is) s)
+    either (begins s (postOf is)) (isMore is && begins s (furtherBop (writingOf is))) e (Leads (between is) s)
     (λ a. only-lead (between is) (closing is (closingOf is)) s (postOf is) a (post-path is))
     (λ a.
-    let b = both (isMore is) (begins s (furtherBop (pressOf is))) a in
-    only-lead (between is) (inPage (newPageState (is ++ (Cut ∷ [])))) s (furtherBop (pressOf is)) (b .1) (page-path is (ltb-true (length is) maxItems (b .0))))
+    let b = both (isMore is) (begins s (furtherBop (writingOf is))) a in
+    only-lead (between is) (inPage (newPageState (is ++ (Cut ∷ [])))) s (furtherBop (writingOf is)) (b .1) (page-path is (ltb-true (length is) maxItems (b .0))))
 may-lead (closing is []) bs s k e = let z : _≡_ {A = ℕ} 0 1 = cc in absurd (omega arith)
 may-lead (closing is (c ∷ es)) bs s k e = only-lead (closing is (c ∷ es)) (closing is es) s c e (is-only c (closing is es))
 
@@ -233,10 +233,10 @@ lead-may (inPage h) r bs s z c k n b p l =
     lead-page h bs k s (w .which) z (sym (w .bytes-are) ∙ b) (w .may) p (subst (λ (d : List ℕ). length s < length d) (w .bytes-are) l)
 lead-may (between is) r bs s z c k n b p l = go (onward is c r n)
   where
-    go : Onward is c r → (begins s (postOf is) || isMore is && begins s (furtherBop (pressOf is))) ≡ true
-    go (to-post e q) = left-true (begins s (postOf is)) (isMore is && begins s (furtherBop (pressOf is))) (is-begins s (postOf is) z (sym e ∙ b))
+    go : Onward is c r → (begins s (postOf is) || isMore is && begins s (furtherBop (writingOf is))) ≡ true
+    go (to-post e q) = left-true (begins s (postOf is)) (isMore is && begins s (furtherBop (writingOf is))) (is-begins s (postOf is) z (sym e ∙ b))
     go (to-page e m q) =
-        right-true (begins s (postOf is)) (isMore is && begins s (furtherBop (pressOf is)))
-        (both-true (isMore is) (begins s (furtherBop (pressOf is))) (lt-ltb (length is) maxItems m) (is-begins s (furtherBop (pressOf is)) z (sym e ∙ b)))
+        right-true (begins s (postOf is)) (isMore is && begins s (furtherBop (writingOf is)))
+        (both-true (isMore is) (begins s (furtherBop (writingOf is))) (lt-ltb (length is) maxItems m) (is-begins s (furtherBop (writingOf is)) z (sym e ∙ b)))
 lead-may (closing is []) r bs s z c k n b p l = let y : _≡_ {A = ℕ} 0 1 = cc in absurd (omega arith)
 lead-may (closing is (d ∷ es)) r bs s z c k n b p l = is-begins s d z (sym (only-is c d (closing is es) r n .bytes-are) ∙ b)

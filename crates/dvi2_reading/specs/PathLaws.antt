@@ -3,7 +3,7 @@
 -- Assumes nothing.
 use mathlib.Core.Path.{_≡_, refl, sym, ap, subst, _∙_}
 use mathlib.Core.Bool.{true}
-use mathlib.Core.List.{List, [], _∷_, _++_, append-assoc, append-nil}
+use mathlib.Core.List.{List, [], _∷_, _++_, append-assoc, append-nil, foldl-append}
 use mathlib.Core.Option.{some}
 use Prim.Native.Nat.{ℕ, _+_, _-_, _<_}
 use native.Mathlib.Omega.{arith}
@@ -11,21 +11,21 @@ use borrow.Author.Tests.{lt-ltb}
 use lib.IntN.{ℤ}
 use lib.ListN.{length, length-append}
 use Rattle.measure.specs.Place.{heightEnd}
+use Rattle.octets.specs.Transducer.{transduced}
 use Rattle.galley_file.specs.declared.item.Item.{Item}
 use Rattle.galley_file.specs.declared.item.Item.the-variants.{Placed, Cut}
 use Rattle.galley_file.specs.Item.{validItem}
 use Rattle.galley_file.specs.Galley.{maxItems, AllValid, more}
 use Rattle.extents.specs.FontMarks.{uses}
-use Rattle.dvi.specs.Writer.{Pen, newPen}
+use Rattle.dvi.specs.Writer.{Position, startPosition}
 use Rattle.dvi2.specs.Command.{EOP}
-use Rattle.dvi2.specs.Writer.{penAt, commandsOf, preambleBytes, bopBytes, Press, firstPress, itemBytes, itemsBytes, pressAll, pagesBytes, dvi2File}
-use Rattle.dvi2.specs.WriterLaws.{pressAll-more}
+use Rattle.dvi2.specs.Writer.{positionAt, commandsOf, preambleBytes, bopBytes, Writing, firstWriting, itemBytes, writingAfter, itemsBytes, writingAfterAll, pagesBytes, dvi2File}
 use Rattle.dvi2_reading.specs.Beginning.{Writable}
 use Rattle.dvi2_reading.specs.Reading.{same, ending, inBytes, ready, mayCome, start, opened, inPage, between, closing, pageStateAfter, newPageState, firstBop, furtherBop, postOf, closingOf, next}
 use Rattle.dvi2_reading.specs.BytesLaws.{same-self}
 use Rattle.dvi2_reading.specs.SizeLaws.{preamble-command, eop-command}
 use Rattle.dvi2_reading.specs.CommandLaws.{page-next, is-only}
-use Rattle.dvi2_reading.specs.Reached.{pressOf, PageReached, joined, Commands, no-more, one-more}
+use Rattle.dvi2_reading.specs.Reached.{writingOf, PageReached, joined, Commands, no-more, one-more}
 use Rattle.dvi2_reading.specs.PieceLaws.{behind-is, file-pages}
 use Rattle.dvi2_reading.specs.StateLaws.{close-joined, closing-commands, first-command, further-command, of-post, first-page}
 use Rattle.dvi2_reading.specs.Path.{Path, stop, step, path-append, path-one, path-reached}
@@ -40,73 +40,73 @@ all-after (i ∷ is) js (more u v) = all-after is js v
 first-valid : {top : ℤ} (j : Item) (js : List Item) → AllValid top (j ∷ js) → validItem top j ≡ true
 first-valid j js (more u v) = u
 
-record ItemPath (is : List Item) (pen : Pen) (j : Item) : Type 0 where
-  pub to-pen : Pen
+record ItemPath (is : List Item) (position : Position) (j : Item) : Type 0 where
+  pub to-position : Position
   pub path :
-      Path (inPage (record { items = is; stage = ready; pen = pen })) (itemBytes (pressOf is) j)
-      (inPage (record { items = is ++ (j ∷ []); stage = ready; pen = to-pen }))
+      Path (inPage (record { items = is; stage = ready; position = position })) (itemBytes (writingOf is) j)
+      (inPage (record { items = is ++ (j ∷ []); stage = ready; position = to-position }))
 
-pub page-path : (is : List Item) → length is < maxItems → next (between is) (furtherBop (pressOf is)) ≡ some (inPage (newPageState (is ++ (Cut ∷ []))))
+pub page-path : (is : List Item) → length is < maxItems → next (between is) (furtherBop (writingOf is)) ≡ some (inPage (newPageState (is ++ (Cut ∷ []))))
 unfolding next furtherBop postOf Rattle.dvi2.specs.Writer.postBytes bopBytes same
-page-path is l = rw (lt-ltb (length is) maxItems l) (is-only (furtherBop (pressOf is)) (inPage (newPageState (is ++ (Cut ∷ [])))))
+page-path is l = rw (lt-ltb (length is) maxItems l) (is-only (furtherBop (writingOf is)) (inPage (newPageState (is ++ (Cut ∷ [])))))
 
-item-path : (is : List Item) (pen : Pen) (bs : List ℕ) → PageReached (record { items = is; stage = ready; pen = pen }) bs → (j : Item) → validItem heightEnd j ≡ true
-    → length is < maxItems → ItemPath is pen j
+item-path : (is : List Item) (position : Position) (bs : List ℕ) → PageReached (record { items = is; stage = ready; position = position }) bs → (j : Item) → validItem heightEnd j ≡ true
+    → length is < maxItems → ItemPath is position j
 unfolding itemBytes newPageState mayCome pageStateAfter inBytes furtherBop
-item-path is pen bs k (Placed c) v l =
+item-path is position bs k (Placed c) v l =
     record {
-      to-pen = penAt c;
+      to-position = positionAt c;
       path =
           subst
           (λ (w : List ℕ).
-          Path (inPage (record { items = is; stage = ready; pen = pen })) w (inPage (record { items = is ++ (Placed c ∷ []); stage = ready; pen = penAt c })))
-          (λ i. commandsOf (uses (c .font) (sym (behind-is is) i)) (k .staged .pen-is i) c)
-          (character-path is l pen c (k .x-small) (k .y-down) v);
+          Path (inPage (record { items = is; stage = ready; position = position })) w (inPage (record { items = is ++ (Placed c ∷ []); stage = ready; position = positionAt c })))
+          (λ i. commandsOf (uses (c .font) (sym (behind-is is) i)) (k .staged .position-is i) c)
+          (character-path is l position c (k .x-small) (k .y-down) v);
     }
-item-path is pen bs k Cut v l =
+item-path is position bs k Cut v l =
     record {
-      to-pen = newPen;
+      to-position = startPosition;
       path =
-          step {c = EOP ∷ []} (page-next (record { items = is; stage = ready; pen = pen }) ending tt refl) eop-command
-          (path-one (page-path is l) (further-command (pressOf is)));
+          step {c = EOP ∷ []} (page-next (record { items = is; stage = ready; position = position }) ending tt refl) eop-command
+          (path-one (page-path is l) (further-command (writingOf is)));
     }
 
-record ItemsPath (is : List Item) (pen : Pen) (js : List Item) : Type 0 where
-  pub to-pen : Pen
+record ItemsPath (is : List Item) (position : Position) (js : List Item) : Type 0 where
+  pub to-position : Position
   pub path :
-      Path (inPage (record { items = is; stage = ready; pen = pen })) (itemsBytes (pressOf is) js)
-      (inPage (record { items = is ++ js; stage = ready; pen = to-pen }))
+      Path (inPage (record { items = is; stage = ready; position = position })) (itemsBytes (writingOf is) js)
+      (inPage (record { items = is ++ js; stage = ready; position = to-position }))
 
-items-path : (js is : List Item) (pen : Pen) (bs : List ℕ) → PageReached (record { items = is; stage = ready; pen = pen }) bs → Writable (is ++ js) → ItemsPath is pen js
-unfolding itemsBytes
-items-path [] is pen bs k w =
+items-path : (js is : List Item) (position : Position) (bs : List ℕ) → PageReached (record { items = is; stage = ready; position = position }) bs → Writable (is ++ js) → ItemsPath is position js
+unfolding transduced
+items-path [] is position bs k w =
     record {
-      to-pen = pen;
+      to-position = position;
       path =
-          subst (λ (l : List Item). Path (inPage (record { items = is; stage = ready; pen = pen })) [] (inPage (record { items = l; stage = ready; pen = pen })))
+          subst (λ (l : List Item). Path (inPage (record { items = is; stage = ready; position = position })) [] (inPage (record { items = l; stage = ready; position = position })))
           (sym (append-nil is)) stop;
     }
-items-path (j ∷ js) is pen bs k w =
+items-path (j ∷ js) is position bs k w =
     let n = length-append is (j ∷ js) in
     let f = w .few in
-    let one = item-path is pen bs k j (first-valid j js (all-after is (j ∷ js) (w .all-valid))) (omega arith) in
+    let one = item-path is position bs k j (first-valid j js (all-after is (j ∷ js) (w .all-valid))) (omega arith) in
     let a : (is ++ (j ∷ [])) ++ js ≡ is ++ (j ∷ js) = append-assoc is (j ∷ []) js in
     let rest =
-    items-path js (is ++ (j ∷ [])) (one .to-pen) (bs ++ itemBytes (pressOf is) j) (path-reached (one .path) bs k)
+    items-path js (is ++ (j ∷ [])) (one .to-position) (bs ++ itemBytes (writingOf is) j) (path-reached (one .path) bs k)
     (subst Writable (sym a) w) in
     record {
-      to-pen = rest .to-pen;
+      to-position = rest .to-position;
       path =
           path-append (one .path)
           (subst
-          (λ (p : Press).
-          Path (inPage (record { items = is ++ (j ∷ []); stage = ready; pen = one .to-pen })) (itemsBytes p js)
-          (inPage (record { items = is ++ (j ∷ js); stage = ready; pen = rest .to-pen })))
-          (pressAll-more firstPress is j)
+          (λ (p : Writing).
+          Path (inPage (record { items = is ++ (j ∷ []); stage = ready; position = one .to-position })) (itemsBytes p js)
+          (inPage (record { items = is ++ (j ∷ js); stage = ready; position = rest .to-position })))
+          (foldl-append writingAfter firstWriting is (j ∷ []))
           (subst
           (λ (l : List Item).
-          Path (inPage (record { items = is ++ (j ∷ []); stage = ready; pen = one .to-pen })) (itemsBytes (pressOf (is ++ (j ∷ []))) js)
-          (inPage (record { items = l; stage = ready; pen = rest .to-pen })))
+          Path (inPage (record { items = is ++ (j ∷ []); stage = ready; position = one .to-position })) (itemsBytes (writingOf (is ++ (j ∷ []))) js)
+          (inPage (record { items = l; stage = ready; position = rest .to-position })))
           a (rest .path)));
     }
 
@@ -127,16 +127,16 @@ pub opened-path : next opened firstBop ≡ some (inPage (newPageState []))
 unfolding next
 opened-path = is-only firstBop (inPage (newPageState []))
 
-end-path : (is : List Item) (pen : Pen) → next (inPage (record { items = is; stage = ready; pen = pen })) (EOP ∷ []) ≡ some (between is)
+end-path : (is : List Item) (position : Position) → next (inPage (record { items = is; stage = ready; position = position })) (EOP ∷ []) ≡ some (between is)
 unfolding mayCome pageStateAfter inBytes
-end-path is pen = page-next (record { items = is; stage = ready; pen = pen }) ending tt refl
+end-path is position = page-next (record { items = is; stage = ready; position = position }) ending tt refl
 
 pub file-path : (is : List Item) → Writable is → Path start (dvi2File is) (closing is [])
-unfolding newPageState firstBop pagesBytes pressAll
+unfolding newPageState firstBop pagesBytes
 file-path is w =
-    let k = items-path is [] newPen (preambleBytes ++ firstBop) first-page w in
+    let k = items-path is [] startPosition (preambleBytes ++ firstBop) first-page w in
     let tail : Path (between is) (postOf is ++ joined (closingOf is)) (closing is []) =
     step (post-path is) (of-post is) (closing-path is (closingOf is) (closing-commands is)) in
     let pages : Path start (pagesBytes is) (between is) =
-    step start-path preamble-command (step opened-path first-command (path-append (k .path) (path-one (end-path is (k .to-pen)) eop-command))) in
+    step start-path preamble-command (step opened-path first-command (path-append (k .path) (path-one (end-path is (k .to-position)) eop-command))) in
     subst (λ (l : List ℕ). Path start l (closing is [])) (sym (file-pages is ∙ ap (λ (l : List ℕ). pagesBytes is ++ l) (close-joined is))) (path-append pages tail)

@@ -14,6 +14,7 @@ use lib.Signed.{mag, leZ}
 use Rattle.integers.specs.Parts.{integers, sum-parts, dif-parts, eqZ, true-eqZ}
 use Rattle.octets.specs.FieldLaws.{both}
 use Rattle.measure.specs.Place.{heightEnd, within}
+use Rattle.octets.specs.TransducerLaws.{transduced-more}
 use Rattle.galley_file.specs.declared.character.Character.{Character}
 use Rattle.galley_file.specs.declared.item.Item.{Item}
 use Rattle.galley_file.specs.declared.item.Item.the-variants.{Placed, Cut}
@@ -23,12 +24,12 @@ use Rattle.galley_file.specs.Item.{validItem, charactersOf}
 use Rattle.galley_file.specs.Galley.{maxItems, AllValid, nil, more}
 use Rattle.extents.specs.FontMarks.{uses}
 use Rattle.dvi2.specs.Command.{EOP}
-use Rattle.dvi2.specs.Writer.{selects, definition, fontCommands, fontChange, shortest, move, preambleBytes, bopBytes, firstPress, itemBytes, itemsBytes, pagesBytes, postambleBytes, commandBytes, bytes223, fillers, dvi2File}
-use Rattle.dvi2.specs.WriterLaws.{itemsBytes-more, press-behind}
+use Rattle.dvi2.specs.Writer.{selects, definition, fontCommands, fontChange, shortest, move, preambleBytes, bopBytes, firstWriting, itemBytes, itemsBytes, pagesBytes, postambleBytes, commandBytes, bytes223, fillers, dvi2File, writingAfter}
+use Rattle.dvi2.specs.WriterLaws.{writing-behind}
 use Rattle.dvi2_reading.specs.Beginning.{Writable}
 use Rattle.dvi2_reading.specs.Reading.{isFont, isDown, heightOf, firstBop}
 use Rattle.dvi2_reading.specs.BytesLaws.{both-true, either}
-use Rattle.dvi2_reading.specs.Reached.{pressOf, openBytes}
+use Rattle.dvi2_reading.specs.Reached.{writingOf, openBytes}
 
 -- ---- lists of items
 
@@ -42,32 +43,32 @@ writable-more is i w v l =
     let n = length-append is (i ∷ []) in
     record { all-valid = all-append (w .all-valid) (more v nil); few = omega arith }
 
-pub behind-is : (is : List Item) → pressOf is .behind ≡ charactersOf is
-unfolding firstPress
-behind-is is = press-behind firstPress is
+pub behind-is : (is : List Item) → writingOf is .behind ≡ charactersOf is
+unfolding firstWriting
+behind-is is = writing-behind firstWriting is
 
-pub open-more : (is : List Item) (i : Item) → openBytes (is ++ (i ∷ [])) ≡ openBytes is ++ itemBytes (pressOf is) i
+pub open-more : (is : List Item) (i : Item) → openBytes (is ++ (i ∷ [])) ≡ openBytes is ++ itemBytes (writingOf is) i
 unfolding openBytes
 open-more is i =
-    ap (λ (l : List ℕ). preambleBytes ++ (firstBop ++ l)) (itemsBytes-more firstPress is i)
-    ∙ ap (λ (l : List ℕ). preambleBytes ++ l) (sym (append-assoc firstBop (itemsBytes firstPress is) (itemBytes (pressOf is) i)))
-    ∙ sym (append-assoc preambleBytes (firstBop ++ itemsBytes firstPress is) (itemBytes (pressOf is) i))
+    ap (λ (l : List ℕ). preambleBytes ++ (firstBop ++ l)) (transduced-more itemBytes writingAfter firstWriting is i)
+    ∙ ap (λ (l : List ℕ). preambleBytes ++ l) (sym (append-assoc firstBop (itemsBytes firstWriting is) (itemBytes (writingOf is) i)))
+    ∙ sym (append-assoc preambleBytes (firstBop ++ itemsBytes firstWriting is) (itemBytes (writingOf is) i))
 
 pub pages-open : (is : List Item) → pagesBytes is ≡ openBytes is ++ (EOP ∷ [])
 unfolding pagesBytes openBytes firstBop
 pages-open is =
-    ap (λ (l : List ℕ). preambleBytes ++ l) (sym (append-assoc (bopBytes 1 (negsuc 0)) (itemsBytes firstPress is) (EOP ∷ [])))
-    ∙ sym (append-assoc preambleBytes (bopBytes 1 (negsuc 0) ++ itemsBytes firstPress is) (EOP ∷ []))
+    ap (λ (l : List ℕ). preambleBytes ++ l) (sym (append-assoc (bopBytes 1 (negsuc 0)) (itemsBytes firstWriting is) (EOP ∷ [])))
+    ∙ sym (append-assoc preambleBytes (bopBytes 1 (negsuc 0) ++ itemsBytes firstWriting is) (EOP ∷ []))
 
 -- what stands in a file after its pages
 unfoldable pub closeBytes : List Item → List ℕ
 closeBytes is =
-    postambleBytes (pressOf is .bop) (pressOf is .page) (length (pagesBytes is)) (charactersOf is) ++ bytes223 (fillers (length (commandBytes is)))
+    postambleBytes (writingOf is .bop) (writingOf is .page) (length (pagesBytes is)) (charactersOf is) ++ bytes223 (fillers (length (commandBytes is)))
 
 pub file-pages : (is : List Item) → dvi2File is ≡ pagesBytes is ++ closeBytes is
 unfolding dvi2File commandBytes closeBytes
 file-pages is =
-    append-assoc (pagesBytes is) (postambleBytes (pressOf is .bop) (pressOf is .page) (length (pagesBytes is)) (charactersOf is))
+    append-assoc (pagesBytes is) (postambleBytes (writingOf is .bop) (writingOf is .page) (length (pagesBytes is)) (charactersOf is))
     (bytes223 (fillers (length (commandBytes is))))
 
 pub file-open : (is : List Item) → dvi2File is ≡ openBytes is ++ ((EOP ∷ []) ++ closeBytes is)

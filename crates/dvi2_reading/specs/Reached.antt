@@ -1,8 +1,8 @@
 -- What stands behind a reader that has come to a state: the bytes that the writer has made by then, and that it can go on from there.
---     openBytes      a file through some items
---     wayTo          the commands from a press to a font and a place
---     PageReached         inside a page
---     Reached        in any state
+--     openBytes       a file through some items
+--     wayTo           the commands from a writing to a font and a place
+--     PageReached     inside a page
+--     Reached         in any state
 -- Assumes nothing.
 use mathlib.Core.Path.{_≡_}
 use mathlib.Core.Bool.{true}
@@ -18,75 +18,75 @@ use Rattle.galley_file.specs.declared.item.Item.{Item}
 use Rattle.galley_file.specs.Item.{charactersOf}
 use Rattle.galley_file.specs.Galley.{maxItems}
 use Rattle.extents.specs.FontMarks.{uses}
-use Rattle.dvi.specs.Writer.{Pen}
+use Rattle.dvi.specs.Writer.{Position}
 use Rattle.dvi2.specs.Command.{RIGHT1, DOWN1}
-use Rattle.dvi2.specs.Writer.{selects, definition, fontChange, move, preambleBytes, Press, firstPress, itemsBytes, pressAll, pagesBytes, dvi2File}
+use Rattle.dvi2.specs.Writer.{selects, definition, fontChange, move, preambleBytes, Writing, firstWriting, itemsBytes, writingAfterAll, pagesBytes, dvi2File}
 use Rattle.dvi2_reading.specs.Beginning.{Writable}
 use Rattle.dvi2_reading.specs.SizeLaws.{Command}
 use Rattle.dvi2_reading.specs.Reading.{Stage, ready, named, chosen, moved, lowered, PageState, isDown, withFont, firstBop, State, start, opened, inPage, between, closing}
 
-abbrev pub pressOf : List Item → Press
-pressOf is = pressAll firstPress is
+abbrev pub writingOf : List Item → Writing
+writingOf is = writingAfterAll firstWriting is
 
 unfoldable pub openBytes : List Item → List ℕ
-openBytes is = preambleBytes ++ (firstBop ++ itemsBytes firstPress is)
+openBytes is = preambleBytes ++ (firstBop ++ itemsBytes firstWriting is)
 
-unfoldable pub wayTo : Press → ℕ → Pen → List ℕ
-wayTo p f to = fontChange (uses f (p .behind)) (p .pen .font) f ++ (move RIGHT1 (to .x -ℤ p .pen .x) ++ move DOWN1 (to .y -ℤ p .pen .y))
+unfoldable pub wayTo : Writing → ℕ → Position → List ℕ
+wayTo p f to = fontChange (uses f (p .behind)) (p .position .font) f ++ (move RIGHT1 (to .x -ℤ p .position .x) ++ move DOWN1 (to .y -ℤ p .position .y))
 
 -- ---- inside a page, by what is there of the next character; `rest` are its bytes
 
-pub record AtReady (is : List Item) (pen : Pen) (rest : List ℕ) : Type 0 where
-  pub pen-is : pen ≡ pressOf is .pen
+pub record AtReady (is : List Item) (position : Position) (rest : List ℕ) : Type 0 where
+  pub position-is : position ≡ writingOf is .position
   pub rest-is : rest ≡ []
-  pub fonts : (g : ℕ) → pen .font ≡ some g → (g < 120) × (uses g (charactersOf is) ≡ true)
+  pub fonts : (g : ℕ) → position .font ≡ some g → (g < 120) × (uses g (charactersOf is) ≡ true)
 
-pub record AtNamed (is : List Item) (pen : Pen) (rest : List ℕ) : Type 0 where
+pub record AtNamed (is : List Item) (position : Position) (rest : List ℕ) : Type 0 where
   pub font : ℕ
   pub small : font < 120
   pub more : length is < maxItems
-  pub pen-is : pen ≡ withFont (pressOf is .pen) font
+  pub position-is : position ≡ withFont (writingOf is .position) font
   pub rest-is : rest ≡ definition font
-  pub change : fontChange (uses font (pressOf is .behind)) (pressOf is .pen .font) font ≡ definition font ++ selects font
+  pub change : fontChange (uses font (writingOf is .behind)) (writingOf is .position .font) font ≡ definition font ++ selects font
 
 -- the font and the moves
-pub record Way (is : List Item) (pen : Pen) (rest : List ℕ) : Type 0 where
+pub record Way (is : List Item) (position : Position) (rest : List ℕ) : Type 0 where
   pub font : ℕ
-  pub font-is : pen .font ≡ some font
+  pub font-is : position .font ≡ some font
   pub small : font < 120
-  pub rest-is : rest ≡ wayTo (pressOf is) font pen
+  pub rest-is : rest ≡ wayTo (writingOf is) font position
 
-pub record AtChosen (is : List Item) (pen : Pen) (rest : List ℕ) : Type 0 where
-  pub way : Way is pen rest
+pub record AtChosen (is : List Item) (position : Position) (rest : List ℕ) : Type 0 where
+  pub way : Way is position rest
   pub more : length is < maxItems
-  pub x-is : pen .x ≡ pressOf is .pen .x
-  pub y-is : pen .y ≡ pressOf is .pen .y
+  pub x-is : position .x ≡ writingOf is .position .x
+  pub y-is : position .y ≡ writingOf is .position .y
 
-pub record AtMoved (is : List Item) (pen : Pen) (rest : List ℕ) : Type 0 where
-  pub way : Way is pen rest
+pub record AtMoved (is : List Item) (position : Position) (rest : List ℕ) : Type 0 where
+  pub way : Way is position rest
   pub more : length is < maxItems
-  pub x-valid : validX (isDouble (sizeIndex (way .font))) (pen .x) ≡ true
-  pub y-is : pen .y ≡ pressOf is .pen .y
+  pub x-valid : validX (isDouble (sizeIndex (way .font))) (position .x) ≡ true
+  pub y-is : position .y ≡ writingOf is .position .y
 
-pub record AtLowered (is : List Item) (pen : Pen) (rest : List ℕ) : Type 0 where
-  pub way : Way is pen rest
+pub record AtLowered (is : List Item) (position : Position) (rest : List ℕ) : Type 0 where
+  pub way : Way is position rest
   pub more : length is < maxItems
-  pub x-valid : validX (isDouble (sizeIndex (way .font))) (pen .x) ≡ true
+  pub x-valid : validX (isDouble (sizeIndex (way .font))) (position .x) ≡ true
 
-abbrev pub Staged : Stage → List Item → Pen → List ℕ → Type 0
-Staged ready is pen rest = AtReady is pen rest
-Staged named is pen rest = AtNamed is pen rest
-Staged chosen is pen rest = AtChosen is pen rest
-Staged moved is pen rest = AtMoved is pen rest
-Staged lowered is pen rest = AtLowered is pen rest
+abbrev pub Staged : Stage → List Item → Position → List ℕ → Type 0
+Staged ready is position rest = AtReady is position rest
+Staged named is position rest = AtNamed is position rest
+Staged chosen is position rest = AtChosen is position rest
+Staged moved is position rest = AtMoved is position rest
+Staged lowered is position rest = AtLowered is position rest
 
 pub record PageReached (h : PageState) (bs : List ℕ) : Type 0 where
   pub writable : Writable (h .items)
-  pub x-small : mag (h .pen .x) < 4000
-  pub y-down : isDown (h .pen .y) ≡ true
+  pub x-small : mag (h .position .x) < 4000
+  pub y-down : isDown (h .position .y) ≡ true
   pub rest : List ℕ
   pub bytes-are : bs ≡ openBytes (h .items) ++ rest
-  pub staged : Staged (h .stage) (h .items) (h .pen) rest
+  pub staged : Staged (h .stage) (h .items) (h .position) rest
 
 -- ---- in any state
 

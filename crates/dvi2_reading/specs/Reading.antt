@@ -14,7 +14,7 @@
 use Prim.Native.Nat.{ℕ, zero, suc, _+_, _-_, _*_, _/_, _%_}
 use mathlib.Core.Bool.{Bool, true, false, not, cond, _&&_, _||_}
 use mathlib.Core.List.{List, [], _∷_, _++_, map}
-use mathlib.Core.Option.{Option, none, some}
+use mathlib.Core.Option.{Option, none, some, Option·getD}
 use lib.Dec.{ltb, leb, eqb}
 use lib.IntN.{ℤ, pos, negsuc, _+ℤ_, _-ℤ_}
 use lib.ListN.{length, getD, take}
@@ -30,10 +30,10 @@ use Rattle.galley_file.specs.Character.{validX}
 use Rattle.galley_file.specs.Item.{charactersOf}
 use Rattle.galley_file.specs.Galley.{maxItems, galley}
 use Rattle.extents.specs.FontMarks.{uses, usedFonts}
-use Rattle.dvi.specs.Writer.{Pen, newPen}
+use Rattle.dvi.specs.Writer.{Position, startPosition}
 use Rattle.dvi2.specs.Command.{PUT1, EOP, RIGHT1, DOWN1, FNTNUM0, FNT1, FNTDEF1, POSTPOST}
 use Rattle.dvi2.specs.File.{maxDvi2}
-use Rattle.dvi2.specs.Writer.{selects, definition, shortest, preambleBytes, bopBytes, Press, firstPress, pressAll, pagesBytes, postBytes, commandBytes, fillers}
+use Rattle.dvi2.specs.Writer.{selects, definition, shortest, preambleBytes, bopBytes, Writing, firstWriting, writingAfterAll, pagesBytes, postBytes, commandBytes, fillers}
 use Rattle.dvi2_reading.specs.Beginning.{parameters}
 
 -- ---- lists of bytes
@@ -99,7 +99,7 @@ pub record PageState : Type 0 where
   pub items : List Item
   pub stage : Stage
   -- the font and the place to which the commands so far lead
-  pub pen : Pen
+  pub position : Position
 
 abbrev pub isReady : Stage → Bool
 isReady ready = true
@@ -159,11 +159,11 @@ isDown (negsuc n) = false
 unfoldable pub mayCome : PageState → PageCommand → Bool
 mayCome h ending = isReady (h .stage)
 mayCome h (defining f) = isMore (h .items) && (isReady (h .stage) && (ltb f 120 && not (uses f (charactersOf (h .items)))))
-mayCome h (selecting f) = isMore (h .items) && mayChoose (h .stage) (charactersOf (h .items)) (h .pen .font) f
-mayCome h (across m) = isMore (h .items) && (beforeRight (h .stage) && (not (eqZ m (pos 0)) && validIn (h .pen .font) (h .pen .x +ℤ m)))
+mayCome h (selecting f) = isMore (h .items) && mayChoose (h .stage) (charactersOf (h .items)) (h .position .font) f
+mayCome h (across m) = isMore (h .items) && (beforeRight (h .stage) && (not (eqZ m (pos 0)) && validIn (h .position .font) (h .position .x +ℤ m)))
 mayCome h (downward m) =
-    isMore (h .items) && (beforeDown (h .stage) && (not (eqZ m (pos 0)) && (validIn (h .pen .font) (h .pen .x) && isDown (h .pen .y +ℤ m))))
-mayCome h (putting c) = isMore (h .items) && (beforePut (h .stage) && (validIn (h .pen .font) (h .pen .x) && (leb 1 c && leb c 108)))
+    isMore (h .items) && (beforeDown (h .stage) && (not (eqZ m (pos 0)) && (validIn (h .position .font) (h .position .x) && isDown (h .position .y +ℤ m))))
+mayCome h (putting c) = isMore (h .items) && (beforePut (h .stage) && (validIn (h .position .font) (h .position .x) && (leb 1 c && leb c 108)))
 
 -- ---- the file
 
@@ -177,44 +177,40 @@ pub data State : Type 0 where
   -- post, and these commands are to come
   closing : List Item → List (List ℕ) → State
 
-abbrev pub fontIn : Option ℕ → ℕ
-fontIn none = 0
-fontIn (some f) = f
-
 unfoldable pub heightOf : ℤ → ℤ
 heightOf (pos n) = pos (n / 3)
 heightOf (negsuc n) = pos 0
 
 -- the character that is put
-unfoldable pub characterOf : Pen → ℕ → Character
-characterOf p c = record { x = record { 0 = p .x }; height = record { 0 = heightOf (p .y) }; font = fontIn (p .font); code = c }
+unfoldable pub characterOf : Position → ℕ → Character
+characterOf p c = record { x = record { 0 = p .x }; height = record { 0 = heightOf (p .y) }; font = Option·getD (p .font) 0; code = c }
 
-unfoldable pub withFont : Pen → ℕ → Pen
+unfoldable pub withFont : Position → ℕ → Position
 withFont p f = record { font = some f; x = p .x; y = p .y }
 
 unfoldable pub pageStateAfter : PageState → PageCommand → State
 pageStateAfter h ending = between (h .items)
-pageStateAfter h (defining f) = inPage (record { items = h .items; stage = named; pen = withFont (h .pen) f })
-pageStateAfter h (selecting f) = inPage (record { items = h .items; stage = chosen; pen = withFont (h .pen) f })
+pageStateAfter h (defining f) = inPage (record { items = h .items; stage = named; position = withFont (h .position) f })
+pageStateAfter h (selecting f) = inPage (record { items = h .items; stage = chosen; position = withFont (h .position) f })
 pageStateAfter h (across m) =
-    inPage (record { items = h .items; stage = moved; pen = record { font = h .pen .font; x = h .pen .x +ℤ m; y = h .pen .y } })
+    inPage (record { items = h .items; stage = moved; position = record { font = h .position .font; x = h .position .x +ℤ m; y = h .position .y } })
 pageStateAfter h (downward m) =
-    inPage (record { items = h .items; stage = lowered; pen = record { font = h .pen .font; x = h .pen .x; y = h .pen .y +ℤ m } })
-pageStateAfter h (putting c) = inPage (record { items = h .items ++ (Placed (characterOf (h .pen) c) ∷ []); stage = ready; pen = h .pen })
+    inPage (record { items = h .items; stage = lowered; position = record { font = h .position .font; x = h .position .x; y = h .position .y +ℤ m } })
+pageStateAfter h (putting c) = inPage (record { items = h .items ++ (Placed (characterOf (h .position) c) ∷ []); stage = ready; position = h .position })
 
 -- at the start of a page
 unfoldable pub newPageState : List Item → PageState
-newPageState is = record { items = is; stage = ready; pen = newPen }
+newPageState is = record { items = is; stage = ready; position = startPosition }
 
 -- the bop that may come, of the first page and of a further one
 unfoldable pub firstBop : List ℕ
 firstBop = bopBytes 1 (negsuc 0)
 
-unfoldable pub furtherBop : Press → List ℕ
+unfoldable pub furtherBop : Writing → List ℕ
 furtherBop p = bopBytes (suc (p .page)) (pos (p .bop))
 
 unfoldable pub postOf : List Item → List ℕ
-postOf is = postBytes (pressAll firstPress is .bop) (pressAll firstPress is .page) (charactersOf is)
+postOf is = postBytes (writingAfterAll firstWriting is .bop) (writingAfterAll firstWriting is .page) (charactersOf is)
 
 unfoldable pub fill : ℕ → List (List ℕ)
 fill zero = []
@@ -241,7 +237,7 @@ next opened c = only c firstBop (inPage (newPageState []))
 next (inPage h) c = pageNext h c (commandOf c)
 next (between is) c =
     cond (same c (postOf is)) (some (closing is (closingOf is)))
-    (cond (isMore is) (only c (furtherBop (pressAll firstPress is)) (inPage (newPageState (is ++ (Cut ∷ []))))) none)
+    (cond (isMore is) (only c (furtherBop (writingAfterAll firstWriting is)) (inPage (newPageState (is ++ (Cut ∷ []))))) none)
 next (closing is []) c = none
 next (closing is (e ∷ es)) c = only c e (closing is es)
 
@@ -254,14 +250,14 @@ unfoldable pub mayBeginIn : PageState → List ℕ → Bool
 mayBeginIn h s =
     someBelow 120 (λ f. mayBeginAs h s (defining f))
     || (someBelow 120 (λ f. mayBeginAs h s (selecting f))
-    || (someBelow 3295 (λ k. mayBeginAs h s (across ((pos k -ℤ pos 55) -ℤ h .pen .x)))
-    || (someBelow 1000001 (λ k. mayBeginAs h s (downward (pos (3 * k) -ℤ h .pen .y))) || mayBeginAs h s (putting 1))))
+    || (someBelow 3295 (λ k. mayBeginAs h s (across ((pos k -ℤ pos 55) -ℤ h .position .x)))
+    || (someBelow 1000001 (λ k. mayBeginAs h s (downward (pos (3 * k) -ℤ h .position .y))) || mayBeginAs h s (putting 1))))
 
 unfoldable pub mayBegin : State → List ℕ → Bool
 mayBegin start s = begins s preambleBytes
 mayBegin opened s = begins s firstBop
 mayBegin (inPage h) s = mayBeginIn h s
-mayBegin (between is) s = begins s (postOf is) || isMore is && begins s (furtherBop (pressAll firstPress is))
+mayBegin (between is) s = begins s (postOf is) || isMore is && begins s (furtherBop (writingAfterAll firstWriting is))
 mayBegin (closing is []) s = false
 mayBegin (closing is (e ∷ es)) s = begins s e
 

@@ -26,7 +26,7 @@ use Rattle.dvi2_reading.specs.Reading.{begins, isMore, State, start, ope
 use Rattle.dvi2_reading.specs.BytesLaws.{both-true, left-true, right-true, is-begins}
 use Rattle.dvi2_reading.specs.SizeLaws.{Command, preamble-command}
 use Rattle.dvi2_reading.specs.CommandLaws.{is-only}
-use Rattle.dvi2_reading.specs.Reached.{pressOf, Reached}
+use Rattle.dvi2_reading.specs.Reached.{writingOf, Reached}
 use Rattle.dvi2_reading.specs.StateLaws.{further-command, first-command, of-post, next-reached}
 use Rattle.dvi2_reading.specs.StepLaws.{Alike, begins-it, holds-it, step-go, step-short, start-refuse, opened-refuse, closing-refuse, between-refuse}
 use Rattle.dvi2_reading.specs.PathLaws.{page-path, post-path, start-path, opened-path}
@@ -165,7 +165,7 @@ module _ (s : List ℕ) where
     first-byte b x ps xs (begins-it z e) = let q : x ≡ b = cc in sym q
     first-byte b x ps xs (holds-it w e) = cc
 
-    not-bop : (b : ℕ) (ps : List ℕ) → b ≡ 248 → Alike (b ∷ ps) (furtherBop (pressOf is)) → ⊥
+    not-bop : (b : ℕ) (ps : List ℕ) → b ≡ 248 → Alike (b ∷ ps) (furtherBop (writingOf is)) → ⊥
     unfolding furtherBop bopBytes
     not-bop b ps e a = let q = first-byte b 139 ps _ a in omega arith
 
@@ -180,21 +180,21 @@ module _ (s : List ℕ) where
         record {
           command = of-post is;
           leads = post-path is;
-          begun = λ z d. left-true (begins s (postOf is)) (isMore is && begins s (furtherBop (pressOf is))) (is-begins s (postOf is) z d);
+          begun = λ z d. left-true (begins s (postOf is)) (isMore is && begins s (furtherBop (writingOf is))) (is-begins s (postOf is) z d);
           refused = λ b ps d n. between-refuse is b ps n (λ m. not-bop b ps (f b ps d));
           ended = λ at. refl;
         }
 
     -- bop, before another byte
-    pub sole-page : length is < maxItems → ((b : ℕ) (ps : List ℕ) → s ≡ b ∷ ps → b ≡ 248 → ⊥) → Sole (between is) s (furtherBop (pressOf is)) (inPage (newPageState (is ++ (Cut ∷ []))))
+    pub sole-page : length is < maxItems → ((b : ℕ) (ps : List ℕ) → s ≡ b ∷ ps → b ≡ 248 → ⊥) → Sole (between is) s (furtherBop (writingOf is)) (inPage (newPageState (is ++ (Cut ∷ []))))
     unfolding mayBegin atEnd
     sole-page l f =
         record {
-          command = further-command (pressOf is);
+          command = further-command (writingOf is);
           leads = page-path is l;
           begun = λ z d.
-              right-true (begins s (postOf is)) (isMore is && begins s (furtherBop (pressOf is)))
-              (both-true (isMore is) (begins s (furtherBop (pressOf is))) (lt-ltb (length is) maxItems l) (is-begins s (furtherBop (pressOf is)) z d));
+              right-true (begins s (postOf is)) (isMore is && begins s (furtherBop (writingOf is)))
+              (both-true (isMore is) (begins s (furtherBop (writingOf is))) (lt-ltb (length is) maxItems l) (is-begins s (furtherBop (writingOf is)) z d));
           refused = λ b ps d n. between-refuse is b ps (not-post b ps (f b ps d)) (λ m. n);
           ended = λ at. refl;
         }

@@ -5,7 +5,7 @@
 -- Assumes nothing.
 use mathlib.Core.Path.{_≡_, refl, sym, ap, subst, _∙_}
 use mathlib.Core.Bool.{Bool, true, false, cond}
-use mathlib.Core.List.{List, [], _∷_, _++_, map, append-assoc, append-nil}
+use mathlib.Core.List.{List, [], _∷_, _++_, map, append-assoc, append-nil, foldl-append}
 use mathlib.Core.Option.{none, some}
 use Prim.Native.Nat.{ℕ, zero, suc, _+_, _<_}
 use native.Mathlib.Omega.{arith}
@@ -13,21 +13,21 @@ use borrow.Author.Tests.{ltb-true}
 use lib.IntN.{pos, negsuc}
 use lib.ListN.{length}
 use Rattle.octets.specs.Octets.{bytes}
+use Rattle.octets.specs.Transducer.{transduced}
 use Rattle.galley_file.specs.declared.item.Item.{Item}
 use Rattle.galley_file.specs.declared.item.Item.the-variants.{Cut}
 use Rattle.galley_file.specs.Item.{charactersOf}
 use Rattle.galley_file.specs.Galley.{maxItems, nil}
 use Rattle.extents.specs.FontMarks.{usedFonts}
-use Rattle.dvi.specs.Writer.{newPen}
+use Rattle.dvi.specs.Writer.{startPosition}
 use Rattle.dvi2.specs.Command.{EOP, POSTPOST}
-use Rattle.dvi2.specs.Writer.{definition, preambleBytes, Press, firstPress, itemBytes, pressAfter, itemsBytes, pressAll, pagesBytes, definitionBytes, postBytes, postambleBytes, commandBytes, fillers, bytes223, dvi2File}
-use Rattle.dvi2.specs.WriterLaws.{pressAll-more}
+use Rattle.dvi2.specs.Writer.{definition, preambleBytes, Writing, firstWriting, itemBytes, writingAfter, itemsBytes, writingAfterAll, pagesBytes, definitionBytes, postBytes, postambleBytes, commandBytes, fillers, bytes223, dvi2File}
 use Rattle.dvi2_reading.specs.Beginning.{Writable, Begins}
 use Rattle.dvi2_reading.specs.Reading.{same, inBytes, isDown, isMore, State, start, opened, inPage, between, closing, pageStateAfter, newPageState, firstBop, furtherBop, postOf, fill, closingOf, only, next}
 use Rattle.dvi2_reading.specs.BytesLaws.{same-is}
 use Rattle.dvi2_reading.specs.SizeLaws.{Command, preamble-command, bop-command, post-command, postpost-command, fill-command, definition-command}
 use Rattle.dvi2_reading.specs.CommandLaws.{inBytes-command, next-page, only-is}
-use Rattle.dvi2_reading.specs.Reached.{pressOf, openBytes, PageReached, joined, Between, Commands, no-more, one-more, Closing, Reached}
+use Rattle.dvi2_reading.specs.Reached.{writingOf, openBytes, PageReached, joined, Between, Commands, no-more, one-more, Closing, Reached}
 use Rattle.dvi2_reading.specs.PieceLaws.{writable-more, open-more, pages-open, closeBytes, file-pages, file-open}
 use Rattle.dvi2_reading.specs.PageLaws.{page-reached}
 use Rattle.dvi2_reading.specs.LiveLaws.{page-live}
@@ -52,7 +52,7 @@ joined-fill (suc n) = ap (λ (l : List ℕ). 223 ∷ l) (joined-fill n)
 pub close-joined : (is : List Item) → closeBytes is ≡ postOf is ++ joined (closingOf is)
 unfolding closeBytes postambleBytes postOf closingOf joined
 close-joined is =
-    let A = postBytes (pressOf is .bop) (pressOf is .page) (charactersOf is) in
+    let A = postBytes (writingOf is .bop) (writingOf is .page) (charactersOf is) in
     let D = definitionBytes (usedFonts 120 (charactersOf is)) in
     let Q = POSTPOST ∷ bytes 4 (length (pagesBytes is)) ++ (2 ∷ []) in
     let N = fillers (length (commandBytes is)) in
@@ -85,7 +85,7 @@ closing-commands is =
 
 pub data Onward (is : List Item) (c : List ℕ) (r : State) : Type 0 where
   to-post : c ≡ postOf is → closing is (closingOf is) ≡ r → Onward is c r
-  to-page : c ≡ furtherBop (pressOf is) → length is < maxItems → inPage (newPageState (is ++ (Cut ∷ []))) ≡ r → Onward is c r
+  to-page : c ≡ furtherBop (writingOf is) → length is < maxItems → inPage (newPageState (is ++ (Cut ∷ []))) ≡ r → Onward is c r
 
 pub onward : (is : List Item) (c : List ℕ) (r : State) → next (between is) c ≡ some r → Onward is c r
 unfolding next
@@ -95,17 +95,17 @@ onward is c r = go (same c (postOf is)) refl (isMore is) refl
     nothing e = let z : _≡_ {A = ℕ} 0 1 = cc in absurd (omega arith)
 
     go : (t : Bool) → same c (postOf is) ≡ t → (u : Bool) → isMore is ≡ u
-        → cond t (some (closing is (closingOf is))) (cond u (only c (furtherBop (pressOf is)) (inPage (newPageState (is ++ (Cut ∷ []))))) none) ≡ some r
+        → cond t (some (closing is (closingOf is))) (cond u (only c (furtherBop (writingOf is)) (inPage (newPageState (is ++ (Cut ∷ []))))) none) ≡ some r
         → Onward is c r
     go true p u q e = to-post (same-is c (postOf is) p) cc
     go false p true q e =
-        let o = only-is c (furtherBop (pressOf is)) (inPage (newPageState (is ++ (Cut ∷ [])))) r e in
+        let o = only-is c (furtherBop (writingOf is)) (inPage (newPageState (is ++ (Cut ∷ [])))) r e in
         to-page (o .bytes-are) (ltb-true (length is) maxItems q) (o .leads)
     go false p false q e = nothing e
 
 -- ---- commands
 
-pub further-command : (p : Press) → Command (furtherBop p)
+pub further-command : (p : Writing) → Command (furtherBop p)
 unfolding furtherBop
 further-command p = bop-command (suc (p .page)) (pos (p .bop))
 
@@ -115,7 +115,7 @@ first-command = bop-command 1 (negsuc 0)
 
 pub of-post : (is : List Item) → Command (postOf is)
 unfolding postOf
-of-post is = post-command (pressOf is .bop) (pressOf is .page) (charactersOf is)
+of-post is = post-command (writingOf is .bop) (writingOf is .page) (charactersOf is)
 
 pub next-command : (q r : State) (bs c : List ℕ) → Reached q bs → next q c ≡ some r → Command c
 unfolding next
@@ -126,7 +126,7 @@ next-command (between is) r bs c k e = go (onward is c r e)
   where
     go : Onward is c r → Command c
     go (to-post b l) = subst Command (sym b) (of-post is)
-    go (to-page b m l) = subst Command (sym b) (further-command (pressOf is))
+    go (to-page b m l) = subst Command (sym b) (further-command (writingOf is))
 next-command (closing is []) r bs c k e = let z : _≡_ {A = ℕ} 0 1 = cc in absurd (omega arith)
 next-command (closing is (e₁ ∷ es)) r bs c k e = subst Command (sym (only-is c e₁ (closing is es) r e .bytes-are)) (head (k .commands))
   where
@@ -138,8 +138,8 @@ next-command (closing is (e₁ ∷ es)) r bs c k e = subst Command (sym (only-is
 none-writable : Writable []
 none-writable = record { all-valid = nil; few = omega arith }
 
-new-page : (is : List Item) (bs : List ℕ) → Writable is → bs ≡ openBytes is → newPen ≡ pressOf is .pen → PageReached (newPageState is) bs
-unfolding newPageState newPen isDown
+new-page : (is : List Item) (bs : List ℕ) → Writable is → bs ≡ openBytes is → startPosition ≡ writingOf is .position → PageReached (newPageState is) bs
+unfolding newPageState startPosition isDown
 new-page is bs w b p =
     record {
       writable = w;
@@ -147,36 +147,36 @@ new-page is bs w b p =
       y-down = refl;
       rest = [];
       bytes-are = b ∙ sym (append-nil (openBytes is));
-      staged = record { pen-is = p; rest-is = refl; fonts = λ g e. let z : _≡_ {A = ℕ} 0 1 = cc in absurd (omega arith) };
+      staged = record { position-is = p; rest-is = refl; fonts = λ g e. let z : _≡_ {A = ℕ} 0 1 = cc in absurd (omega arith) };
     }
 
 open-none : openBytes [] ≡ preambleBytes ++ firstBop
-unfolding openBytes itemsBytes
+unfolding openBytes transduced
 open-none = ap (λ (l : List ℕ). preambleBytes ++ l) (append-nil firstBop)
 
-pen-none : newPen ≡ pressOf [] .pen
-unfolding pressAll firstPress
-pen-none = refl
+position-none : startPosition ≡ writingOf [] .position
+unfolding firstWriting
+position-none = refl
 
 pub first-page : PageReached (newPageState []) (preambleBytes ++ firstBop)
-first-page = new-page [] (preambleBytes ++ firstBop) none-writable (sym open-none) pen-none
+first-page = new-page [] (preambleBytes ++ firstBop) none-writable (sym open-none) position-none
 
-cut-bytes : (p : Press) → (EOP ∷ []) ++ furtherBop p ≡ itemBytes p Cut
+cut-bytes : (p : Writing) → (EOP ∷ []) ++ furtherBop p ≡ itemBytes p Cut
 unfolding furtherBop itemBytes
 cut-bytes p = refl
 
-cut-pen : (p : Press) → newPen ≡ pressAfter p Cut .pen
-unfolding pressAfter
-cut-pen p = refl
+cut-position : (p : Writing) → startPosition ≡ writingAfter p Cut .position
+unfolding writingAfter
+cut-position p = refl
 
-cut-page : (is : List Item) (bs : List ℕ) → Between is bs → length is < maxItems → PageReached (newPageState (is ++ (Cut ∷ []))) (bs ++ furtherBop (pressOf is))
+cut-page : (is : List Item) (bs : List ℕ) → Between is bs → length is < maxItems → PageReached (newPageState (is ++ (Cut ∷ []))) (bs ++ furtherBop (writingOf is))
 cut-page is bs k m =
-    new-page (is ++ (Cut ∷ [])) (bs ++ furtherBop (pressOf is)) (writable-more is Cut (k .writable) refl m)
-    (ap (λ (l : List ℕ). l ++ furtherBop (pressOf is)) (k .bytes-are ∙ pages-open is)
-    ∙ append-assoc (openBytes is) (EOP ∷ []) (furtherBop (pressOf is))
-    ∙ ap (λ (l : List ℕ). openBytes is ++ l) (cut-bytes (pressOf is))
+    new-page (is ++ (Cut ∷ [])) (bs ++ furtherBop (writingOf is)) (writable-more is Cut (k .writable) refl m)
+    (ap (λ (l : List ℕ). l ++ furtherBop (writingOf is)) (k .bytes-are ∙ pages-open is)
+    ∙ append-assoc (openBytes is) (EOP ∷ []) (furtherBop (writingOf is))
+    ∙ ap (λ (l : List ℕ). openBytes is ++ l) (cut-bytes (writingOf is))
     ∙ sym (open-more is Cut))
-    (cut-pen (pressOf is) ∙ sym (ap (λ (p : Press). p .pen) (pressAll-more firstPress is Cut)))
+    (cut-position (writingOf is) ∙ sym (ap (λ (p : Writing). p .position) (foldl-append writingAfter firstWriting is (Cut ∷ []))))
 
 post-closing : (is : List Item) (bs : List ℕ) → Between is bs → Closing is (closingOf is) (bs ++ postOf is)
 post-closing is bs k =
@@ -216,7 +216,7 @@ module _ (bs c : List ℕ) where
     where
       go : Onward is c r → Reached r (bs ++ c)
       go (to-post b l) = to (closing is (closingOf is)) r (postOf is) b l (post-closing is bs k)
-      go (to-page b m l) = to (inPage (newPageState (is ++ (Cut ∷ [])))) r (furtherBop (pressOf is)) b l (cut-page is bs k m)
+      go (to-page b m l) = to (inPage (newPageState (is ++ (Cut ∷ [])))) r (furtherBop (writingOf is)) b l (cut-page is bs k m)
   next-reached (closing is []) r k e = let z : _≡_ {A = ℕ} 0 1 = cc in absurd (omega arith)
   next-reached (closing is (e₁ ∷ es)) r k e =
       let o = only-is c e₁ (closing is es) r e in

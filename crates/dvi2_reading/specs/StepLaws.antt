@@ -26,7 +26,7 @@ use Rattle.dvi2_reading.specs.BytesLaws.{either, begins-is, some-found}
 use Rattle.dvi2_reading.specs.SizeLaws.{Command}
 use Rattle.dvi2_reading.specs.StableLaws.{parameters-kept}
 use Rattle.dvi2_reading.specs.CommandLaws.{next-page, only-is}
-use Rattle.dvi2_reading.specs.Reached.{pressOf}
+use Rattle.dvi2_reading.specs.Reached.{writingOf}
 use Rattle.dvi2_reading.specs.StateLaws.{Onward, to-post, to-page, onward}
 
 pub data Alike (s c : List ℕ) : Type 0 where
@@ -101,11 +101,11 @@ module _ (h : PageState) (s : List ℕ) where
       either (someBelow 120 (λ f. mayBeginAs h s (selecting f))) _ e₂ Which
       (λ a. let b = some-found 120 (λ f. mayBeginAs h s (selecting f)) a in which (selecting (b .found)) (b .holds))
       (λ e₃.
-      either (someBelow 3295 (λ n. mayBeginAs h s (across ((pos n -ℤ pos 55) -ℤ h .pen .x)))) _ e₃ Which
-      (λ a. let b = some-found 3295 (λ n. mayBeginAs h s (across ((pos n -ℤ pos 55) -ℤ h .pen .x))) a in which (across ((pos (b .found) -ℤ pos 55) -ℤ h .pen .x)) (b .holds))
+      either (someBelow 3295 (λ n. mayBeginAs h s (across ((pos n -ℤ pos 55) -ℤ h .position .x)))) _ e₃ Which
+      (λ a. let b = some-found 3295 (λ n. mayBeginAs h s (across ((pos n -ℤ pos 55) -ℤ h .position .x))) a in which (across ((pos (b .found) -ℤ pos 55) -ℤ h .position .x)) (b .holds))
       (λ e₄.
-      either (someBelow 1000001 (λ n. mayBeginAs h s (downward (pos (3 * n) -ℤ h .pen .y)))) _ e₄ Which
-      (λ a. let b = some-found 1000001 (λ n. mayBeginAs h s (downward (pos (3 * n) -ℤ h .pen .y))) a in which (downward (pos (3 * b .found) -ℤ h .pen .y)) (b .holds))
+      either (someBelow 1000001 (λ n. mayBeginAs h s (downward (pos (3 * n) -ℤ h .position .y)))) _ e₄ Which
+      (λ a. let b = some-found 1000001 (λ n. mayBeginAs h s (downward (pos (3 * n) -ℤ h .position .y))) a in which (downward (pos (3 * b .found) -ℤ h .position .y)) (b .holds))
       (λ a. which (putting 1) a))))
 
 pub page-refuse : (h : PageState) (b : ℕ) (ps : List ℕ) → ((d : PageCommand) → mayCome h d ≡ true → Alike (b ∷ ps) (inBytes d) → ⊥) → step (inPage h) b ps ≡ refuse
@@ -143,18 +143,18 @@ unfolding next mayBegin
 ended-refuse is b ps =
     none-refuse (closing is []) b ps (λ c w r e n. let z : _≡_ {A = ℕ} 0 1 = cc in omega arith) (λ m. let z : _≡_ {A = ℕ} 0 1 = cc in omega arith)
 
-pub between-refuse : (is : List Item) (b : ℕ) (ps : List ℕ) → (Alike (b ∷ ps) (postOf is) → ⊥) → (length is < maxItems → Alike (b ∷ ps) (furtherBop (pressOf is)) → ⊥)
+pub between-refuse : (is : List Item) (b : ℕ) (ps : List ℕ) → (Alike (b ∷ ps) (postOf is) → ⊥) → (length is < maxItems → Alike (b ∷ ps) (furtherBop (writingOf is)) → ⊥)
     → step (between is) b ps ≡ refuse
 unfolding mayBegin
 between-refuse is b ps f g =
     none-refuse (between is) b ps
     (λ c w r e n. on c w r e (onward is c r n))
     (λ m.
-    either (begins (b ∷ ps) (postOf is)) (isMore is && begins (b ∷ ps) (furtherBop (pressOf is))) m ⊥
+    either (begins (b ∷ ps) (postOf is)) (isMore is && begins (b ∷ ps) (furtherBop (writingOf is))) m ⊥
     (λ k. let l = begins-is (b ∷ ps) (postOf is) k in f (begins-it (l .more) (l .whole-is)))
     (λ k.
-    let t = both (isMore is) (begins (b ∷ ps) (furtherBop (pressOf is))) k in
-    let l = begins-is (b ∷ ps) (furtherBop (pressOf is)) (t .1) in
+    let t = both (isMore is) (begins (b ∷ ps) (furtherBop (writingOf is))) k in
+    let l = begins-is (b ∷ ps) (furtherBop (writingOf is)) (t .1) in
     g (ltb-true (length is) maxItems (t .0)) (begins-it (l .more) (l .whole-is))))
   where
     on : (c w : List ℕ) (r : State) → b ∷ ps ≡ c ++ w → Onward is c r → ⊥

@@ -13,38 +13,38 @@ use Rattle.galley_file.specs.declared.item.Item.{Item}
 use Rattle.galley_file.specs.declared.item.Item.the-variants.{Placed}
 use Rattle.galley_file.specs.Character.{validX}
 use Rattle.extents.specs.FontMarks.{uses}
-use Rattle.dvi.specs.Writer.{Pen}
+use Rattle.dvi.specs.Writer.{Position}
 use Rattle.dvi2.specs.Command.{PUT1, RIGHT1, DOWN1}
-use Rattle.dvi2.specs.Writer.{hOf, vOf, fontChange, move, commandsOf, Press, itemBytes}
+use Rattle.dvi2.specs.Writer.{hOf, vOf, fontChange, move, commandsOf, Writing, itemBytes}
 use Rattle.dvi2_reading.specs.Reading.{Stage, ready, named, chosen, moved, lowered, isReady, beforeRight, beforeDown, beforePut, validIn}
-use Rattle.dvi2_reading.specs.Reached.{pressOf, wayTo, AtReady, Way, Staged}
+use Rattle.dvi2_reading.specs.Reached.{writingOf, wayTo, AtReady, Way, Staged}
 use Rattle.dvi2_reading.specs.PieceLaws.{nowhere, move-none, change-none}
 
 -- ---- ways
 
-module _ (p : Press) (f : ℕ) (to : Pen) where
-  pub way-across : to .y ≡ p .pen .y → wayTo p f to ≡ fontChange (uses f (p .behind)) (p .pen .font) f ++ move RIGHT1 (to .x -ℤ p .pen .x)
+module _ (p : Writing) (f : ℕ) (to : Position) where
+  pub way-across : to .y ≡ p .position .y → wayTo p f to ≡ fontChange (uses f (p .behind)) (p .position .font) f ++ move RIGHT1 (to .x -ℤ p .position .x)
   unfolding wayTo
   way-across e =
-      ap (λ (l : List ℕ). fontChange (uses f (p .behind)) (p .pen .font) f ++ (move RIGHT1 (to .x -ℤ p .pen .x) ++ l))
-      (move-none DOWN1 (to .y -ℤ p .pen .y) (nowhere (to .y) (p .pen .y) e))
-      ∙ ap (λ (l : List ℕ). fontChange (uses f (p .behind)) (p .pen .font) f ++ l) (append-nil (move RIGHT1 (to .x -ℤ p .pen .x)))
+      ap (λ (l : List ℕ). fontChange (uses f (p .behind)) (p .position .font) f ++ (move RIGHT1 (to .x -ℤ p .position .x) ++ l))
+      (move-none DOWN1 (to .y -ℤ p .position .y) (nowhere (to .y) (p .position .y) e))
+      ∙ ap (λ (l : List ℕ). fontChange (uses f (p .behind)) (p .position .font) f ++ l) (append-nil (move RIGHT1 (to .x -ℤ p .position .x)))
 
-  pub way-here : to .x ≡ p .pen .x → to .y ≡ p .pen .y → wayTo p f to ≡ fontChange (uses f (p .behind)) (p .pen .font) f
+  pub way-here : to .x ≡ p .position .x → to .y ≡ p .position .y → wayTo p f to ≡ fontChange (uses f (p .behind)) (p .position .font) f
   way-here d e =
       way-across e
-      ∙ ap (λ (l : List ℕ). fontChange (uses f (p .behind)) (p .pen .font) f ++ l)
-      (move-none RIGHT1 (to .x -ℤ p .pen .x) (nowhere (to .x) (p .pen .x) d))
-      ∙ append-nil (fontChange (uses f (p .behind)) (p .pen .font) f)
+      ∙ ap (λ (l : List ℕ). fontChange (uses f (p .behind)) (p .position .font) f ++ l)
+      (move-none RIGHT1 (to .x -ℤ p .position .x) (nowhere (to .x) (p .position .x) d))
+      ∙ append-nil (fontChange (uses f (p .behind)) (p .position .font) f)
 
 -- the way to a character, and the put
-pub way-put : (p : Press) (to : Pen) (c : Character) → hOf c ≡ to .x → vOf c ≡ to .y → itemBytes p (Placed c) ≡ wayTo p (c .font) to ++ (PUT1 ∷ c .code ∷ [])
+pub way-put : (p : Writing) (to : Position) (c : Character) → hOf c ≡ to .x → vOf c ≡ to .y → itemBytes p (Placed c) ≡ wayTo p (c .font) to ++ (PUT1 ∷ c .code ∷ [])
 unfolding itemBytes commandsOf wayTo
 way-put p to c a b =
-    let F = fontChange (uses (c .font) (p .behind)) (p .pen .font) (c .font) in
-    let R = move RIGHT1 (to .x -ℤ p .pen .x) in
-    let D = move DOWN1 (to .y -ℤ p .pen .y) in
-    (λ i. F ++ (move RIGHT1 (a i -ℤ p .pen .x) ++ (move DOWN1 (b i -ℤ p .pen .y) ++ (PUT1 ∷ c .code ∷ []))))
+    let F = fontChange (uses (c .font) (p .behind)) (p .position .font) (c .font) in
+    let R = move RIGHT1 (to .x -ℤ p .position .x) in
+    let D = move DOWN1 (to .y -ℤ p .position .y) in
+    (λ i. F ++ (move RIGHT1 (a i -ℤ p .position .x) ++ (move DOWN1 (b i -ℤ p .position .y) ++ (PUT1 ∷ c .code ∷ []))))
     ∙ ap (λ (l : List ℕ). F ++ l) (sym (append-assoc R D (PUT1 ∷ c .code ∷ [])))
     ∙ sym (append-assoc F (R ++ D) (PUT1 ∷ c .code ∷ []))
 
@@ -80,12 +80,12 @@ down-put chosen e = e
 down-put moved e = e
 down-put lowered e = let z : _≡_ {A = ℕ} 0 1 = cc in absurd (omega arith)
 
-module _ (is : List Item) (pen : Pen) (rest : List ℕ) where
-  ready-way : AtReady is pen rest → (f : ℕ) → pen .font ≡ some f → Way is pen rest
+module _ (is : List Item) (position : Position) (rest : List ℕ) where
+  ready-way : AtReady is position rest → (f : ℕ) → position .font ≡ some f → Way is position rest
   ready-way a f e =
-      let x-is : pen .x ≡ pressOf is .pen .x = ap (λ (p : Pen). p .x) (a .pen-is) in
-      let y-is : pen .y ≡ pressOf is .pen .y = ap (λ (p : Pen). p .y) (a .pen-is) in
-      let o-is : pressOf is .pen .font ≡ some f = sym (ap (λ (p : Pen). p .font) (a .pen-is)) ∙ e in
+      let x-is : position .x ≡ writingOf is .position .x = ap (λ (p : Position). p .x) (a .position-is) in
+      let y-is : position .y ≡ writingOf is .position .y = ap (λ (p : Position). p .y) (a .position-is) in
+      let o-is : writingOf is .position .font ≡ some f = sym (ap (λ (p : Position). p .font) (a .position-is)) ∙ e in
       record {
         font = f;
         font-is = e;
@@ -93,33 +93,33 @@ module _ (is : List Item) (pen : Pen) (rest : List ℕ) where
         rest-is =
             a .rest-is
             ∙ sym
-            (way-here (pressOf is) f pen x-is y-is
-            ∙ ap (λ (o : Option ℕ). fontChange (uses f (pressOf is .behind)) o f) o-is
-            ∙ change-none (pressOf is .behind) f);
+            (way-here (writingOf is) f position x-is y-is
+            ∙ ap (λ (o : Option ℕ). fontChange (uses f (writingOf is .behind)) o f) o-is
+            ∙ change-none (writingOf is .behind) f);
       }
 
-  pub staged-way : (s : Stage) → Staged s is pen rest → beforePut s ≡ true → (f : ℕ) → pen .font ≡ some f → Way is pen rest
+  pub staged-way : (s : Stage) → Staged s is position rest → beforePut s ≡ true → (f : ℕ) → position .font ≡ some f → Way is position rest
   staged-way ready a b f e = ready-way a f e
   staged-way named a b f e = let z : _≡_ {A = ℕ} 0 1 = cc in absurd (omega arith)
   staged-way chosen a b f e = a .way
   staged-way moved a b f e = a .way
   staged-way lowered a b f e = a .way
 
-  pub staged-x : (s : Stage) → Staged s is pen rest → beforeRight s ≡ true → pen .x ≡ pressOf is .pen .x
-  staged-x ready a b = ap (λ (p : Pen). p .x) (a .pen-is)
+  pub staged-x : (s : Stage) → Staged s is position rest → beforeRight s ≡ true → position .x ≡ writingOf is .position .x
+  staged-x ready a b = ap (λ (p : Position). p .x) (a .position-is)
   staged-x named a b = let z : _≡_ {A = ℕ} 0 1 = cc in absurd (omega arith)
   staged-x chosen a b = a .x-is
   staged-x moved a b = let z : _≡_ {A = ℕ} 0 1 = cc in absurd (omega arith)
   staged-x lowered a b = let z : _≡_ {A = ℕ} 0 1 = cc in absurd (omega arith)
 
-  pub staged-y : (s : Stage) → Staged s is pen rest → beforeDown s ≡ true → pen .y ≡ pressOf is .pen .y
-  staged-y ready a b = ap (λ (p : Pen). p .y) (a .pen-is)
+  pub staged-y : (s : Stage) → Staged s is position rest → beforeDown s ≡ true → position .y ≡ writingOf is .position .y
+  staged-y ready a b = ap (λ (p : Position). p .y) (a .position-is)
   staged-y named a b = let z : _≡_ {A = ℕ} 0 1 = cc in absurd (omega arith)
   staged-y chosen a b = a .y-is
   staged-y moved a b = a .y-is
   staged-y lowered a b = let z : _≡_ {A = ℕ} 0 1 = cc in absurd (omega arith)
 
-  pub staged-ready : (s : Stage) → isReady s ≡ true → Staged s is pen rest → AtReady is pen rest
+  pub staged-ready : (s : Stage) → isReady s ≡ true → Staged s is position rest → AtReady is position rest
   staged-ready ready b a = a
   staged-ready named b a = let z : _≡_ {A = ℕ} 0 1 = cc in absurd (omega arith)
   staged-ready chosen b a = let z : _≡_ {A = ℕ} 0 1 = cc in absurd (omega arith)
@@ -127,5 +127,5 @@ module _ (is : List Item) (pen : Pen) (rest : List ℕ) where
   staged-ready lowered b a = let z : _≡_ {A = ℕ} 0 1 = cc in absurd (omega arith)
 
 -- the font of a way
-pub font-same : {is : List Item} {pen : Pen} {rest : List ℕ} (w : Way is pen rest) {x : ℤ} (t : There (pen .font) x) → t .font ≡ w .font
+pub font-same : {is : List Item} {position : Position} {rest : List ℕ} (w : Way is position rest) {x : ℤ} (t : There (position .font) x) → t .font ≡ w .font
 font-same w t = let e : some (t .font) ≡ some (w .font) = sym (t .font-is) ∙ w .font-is in cc

@@ -18,7 +18,7 @@ use Rattle.dvi2.specs.Writer.{widthOf, shortest}
 use Rattle.galley_file.specs.Font.{sizeIndex, isDouble}
 use Rattle.galley_file.specs.Character.{validX}
 use Rattle.dvi2_reading.specs.Reading.{begins, validIn}
-use Rattle.dvi2_commands.specs.Pen.{fontIn}
+use Rattle.dvi.specs.FontOrNone.{fontOrNone, font-some}
 
 -- ---- beginnings, byte by byte
 
@@ -41,23 +41,19 @@ begins-out s e i l = rw (drop-of-length-le s {i = i} l)
 
 -- ---- numbers
 
-pub no-font : (x : ℤ) (f : ℕ) → f ≡ 255 → false ≡ validIn (fontIn f) x
-unfolding fontIn
+pub no-font : (x : ℤ) (f : ℕ) → f ≡ 255 → false ≡ validIn (fontOrNone f) x
+unfolding fontOrNone
 no-font x f e = rw (eq-eqb f 255 e)
 
-pub some-font : (f : ℕ) → (f ≡ 255 → ⊥) → fontIn f ≡ some f
-unfolding fontIn
-some-font f n = rw (ne-eqb f 255 n)
-
-pub valid-double : (x : ℤ) (f i : ℕ) (d : Bool) → (f ≡ 255 → ⊥) → i ≡ sizeIndex f → d ≡ isDouble i → d ≡ true → (leZ (negsuc 54) x && leZ x (pos 3184)) ≡ validIn (fontIn f) x
+pub valid-double : (x : ℤ) (f i : ℕ) (d : Bool) → (f ≡ 255 → ⊥) → i ≡ sizeIndex f → d ≡ isDouble i → d ≡ true → (leZ (negsuc 54) x && leZ x (pos 3184)) ≡ validIn (fontOrNone f) x
 valid-double x f i d n a b e =
     let k : isDouble (sizeIndex f) ≡ true = ap isDouble (sym a) ∙ sym b ∙ e in
-    sym (ap (λ (o : Option ℕ). validIn o x) (some-font f n) ∙ ap (λ (t : Bool). validX t x) k)
+    sym (ap (λ (o : Option ℕ). validIn o x) (font-some f n) ∙ ap (λ (t : Bool). validX t x) k)
 
-pub valid-single : (x : ℤ) (f i : ℕ) (d : Bool) → (f ≡ 255 → ⊥) → i ≡ sizeIndex f → d ≡ isDouble i → d ≡ false → (leZ (pos 0) x && leZ x (pos 3239)) ≡ validIn (fontIn f) x
+pub valid-single : (x : ℤ) (f i : ℕ) (d : Bool) → (f ≡ 255 → ⊥) → i ≡ sizeIndex f → d ≡ isDouble i → d ≡ false → (leZ (pos 0) x && leZ x (pos 3239)) ≡ validIn (fontOrNone f) x
 valid-single x f i d n a b e =
     let k : isDouble (sizeIndex f) ≡ false = ap isDouble (sym a) ∙ sym b ∙ e in
-    sym (ap (λ (o : Option ℕ). validIn o x) (some-font f n) ∙ ap (λ (t : Bool). validX t x) k)
+    sym (ap (λ (o : Option ℕ). validIn o x) (font-some f n) ∙ ap (λ (t : Bool). validX t x) k)
 
 pub four-left : (k : ℕ) → 1 ≤ k → k ≤ 4 → (k ≡ 1 → ⊥) → (k ≡ 2 → ⊥) → (k ≡ 3 → ⊥) → 4 ≡ k
 four-left zero l h a b c = absurd (omega arith)

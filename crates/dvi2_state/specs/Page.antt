@@ -1,7 +1,7 @@
 -- The code's types as those of the definitions.
---     stageOf, penOf, pageStateOf             a state of a page, after some items
---     Near                               the place is not far
---     stepOf                             a step
+--     stageOf, positionOf, pageStateOf     a state of a page, after some items
+--     Near                                 the place is not far
+--     stepOf                               a step
 use Prim.Native.Nat.{ℕ, _*_, _<_}
 use mathlib.Core.Path.{_≡_}
 use mathlib.Core.Bool.{Bool, not, _&&_}
@@ -11,12 +11,12 @@ use lib.IntN.{ℤ, pos, _-ℤ_}
 use Rattle.integers.specs.Parts.{eqZ}
 use Rattle.dvi2.specs.Command.{RIGHT1, DOWN1}
 use Rattle.dvi2.specs.Writer.{shortest}
-use Rattle.dvi2_commands.specs.Pen.{fontIn}
+use Rattle.dvi.specs.FontOrNone.{fontOrNone}
 use Rattle.dvi2_reading.specs.Reading.{begins}
 use lib.Signed.{mag}
 use Rattle.galley_file.specs.declared.item.Item.{Item}
 use Rattle.galley_file.specs.declared.item.Item.the-variants.{Placed}
-use Rattle.dvi.specs.Writer.{Pen}
+use Rattle.dvi.specs.Writer.{Position}
 use Rattle.dvi2_reading.specs.Reading as R
 use Rattle.dvi2_state.specs.declared.page_state.Stage.{Stage}
 use Rattle.dvi2_state.specs.declared.page_state.Stage.the-variants.{Ready, Named, Chosen, Moved, Lowered}
@@ -31,23 +31,23 @@ stageOf Chosen = R.chosen
 stageOf Moved = R.moved
 stageOf Lowered = R.lowered
 
-abbrev pub penOf : PageState → Pen
-penOf h = record { font = fontIn (h .font); x = h .x; y = h .y }
+abbrev pub positionOf : PageState → Position
+positionOf h = record { font = fontOrNone (h .font); x = h .x; y = h .y }
 
 abbrev pub pageStateOf : List Item → PageState → R.PageState
-pageStateOf is h = record { items = is; stage = stageOf (h .stage); pen = penOf h }
+pageStateOf is h = record { items = is; stage = stageOf (h .stage); position = positionOf h }
 
 -- the place is not far
 pub record Near (h : PageState) : Type 0 where
   pub x-near : mag (h .x) < 4000
   pub y-near : mag (h .y) < 4000000
-  pub font-near : (f : ℕ) → fontIn (h .font) ≡ some f → f < 120
+  pub font-near : (f : ℕ) → fontOrNone (h .font) ≡ some f → f < 120
 
 abbrev pub stepOf : List Item → PageState → Stepped → R.Step
 stepOf is h Bad = R.refuse
 stepOf is h Short = R.short
 stepOf is h End = R.go (R.between is) 0
-stepOf is h (Put c) = R.go (R.inPage (record { items = is ++ (Placed (R.characterOf (penOf h) c) ∷ []); stage = R.ready; pen = penOf h })) 1
+stepOf is h (Put c) = R.go (R.inPage (record { items = is ++ (Placed (R.characterOf (positionOf h) c) ∷ []); stage = R.ready; position = positionOf h })) 1
 stepOf is h (Go g n) = R.go (R.inPage (pageStateOf is g)) n
 
 -- these bytes begin a move right from x to the place k - 55, where a character of this font may stand

@@ -10,7 +10,7 @@ ghost use lib.ListN.{length, drop};
 ghost use lib.Signed.{mag};
 ghost use Rattle.integers.specs.Parts.{eqZ};
 ghost use Rattle.dvi2.specs.Writer as W;
-ghost use Rattle.dvi2_commands.specs.Pen.{fontIn};
+ghost use Rattle.dvi.specs.FontOrNone.{fontOrNone};
 ghost use Rattle.dvi2_reading.specs.Reading as R;
 ghost use Rattle.dvi2_state.specs.Page.{rightBegins, downBegins};
 
@@ -51,7 +51,7 @@ fn begins_move(s: &[u8], at: usize, op: u8, m: i32) -> bool
 // Whether s, from `at` to its end, begins a move right from x to a place where a character of font f may stand.
 fn right_begins(s: &[u8], at: usize, f: u8, x: i32, to: i32) -> bool
     requires { ⌜ (at < length (now s)) × ((mag x < 4000) × (mag to < 4000)) ⌝ }
-    ensures { λ r. ⌜ r ≡ (R.begins (drop at (now (s .entry))) (W.shortest 143 (to -ℤ x)) && (not (eqZ (to -ℤ x) (pos 0)) && R.validIn (fontIn f) to)) ⌝ }
+    ensures { λ r. ⌜ r ≡ (R.begins (drop at (now (s .entry))) (W.shortest 143 (to -ℤ x)) && (not (eqZ (to -ℤ x) (pos 0)) && R.validIn (fontOrNone f) to)) ⌝ }
 {
     if x == to {
         return false;
@@ -65,7 +65,7 @@ fn right_begins(s: &[u8], at: usize, f: u8, x: i32, to: i32) -> bool
 // The same of any such place.
 pub fn may_begin_right(s: &[u8], at: usize, f: u8, x: i32) -> bool
     requires { ⌜ (at < length (now s)) × (mag x < 4000) ⌝ }
-    ensures { λ r. ⌜ r ≡ R.someBelow 3295 (rightBegins (drop at (now (s .entry))) (fontIn f) x) ⌝ }
+    ensures { λ r. ⌜ r ≡ R.someBelow 3295 (rightBegins (drop at (now (s .entry))) (fontOrNone f) x) ⌝ }
 {
     let mut k: u32 = 0;
     while k < 3295 {

@@ -1,14 +1,12 @@
 // What is there of the next character of a page, and what a command leads to.
+use dvi::font_byte;
 use galley_file::font;
 ghost use mathlib.Core.Path.{_≡_};
 ghost use mathlib.Core.Bool.{_&&_};
 ghost use lib.Signed.{leZ};
-ghost use Rattle.dvi2_commands.specs.Pen.{fontIn};
+ghost use Rattle.dvi.specs.FontOrNone.{fontOrNone};
 ghost use Rattle.dvi2_reading.specs.Reading as R;
 ghost use Rattle.dvi2_state.specs.Page.{stageOf};
-
-// No font is chosen yet.
-pub const NO_FONT: u8 = 255;
 
 // What is there of the next character.
 pub enum Stage {
@@ -97,9 +95,9 @@ fn between(low: i32, x: i32, high: i32) -> bool
 
 // Whether a character of font f may stand at x.
 pub fn valid_in(f: u8, x: i32) -> bool
-    ensures { λ r. ⌜ r ≡ R.validIn (fontIn f) x ⌝ }
+    ensures { λ r. ⌜ r ≡ R.validIn (fontOrNone f) x ⌝ }
 {
-    if f == NO_FONT {
+    if f == font_byte::NO_FONT {
         return false;
     }
     if font::is_double(font::size_index(f)) {

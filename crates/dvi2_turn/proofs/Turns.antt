@@ -11,16 +11,16 @@ use Rattle.galley_file.specs.declared.character.Character.{Character}
 use Rattle.galley_file.specs.declared.item.Item.{Item}
 use Rattle.galley_file.specs.declared.item.Item.the-variants.{Placed, Cut}
 use Rattle.dvi2.specs.Writer.{bopBytes}
-use Rattle.dvi2_commands.specs.Pen.{fontIn}
+use Rattle.dvi.specs.FontOrNone.{fontOrNone}
 use Rattle.dvi2_frame.specs.Frame.{postOf}
 use Rattle.dvi2_reading.specs.Reading as R
 use Rattle.dvi2_reading.specs.Reading.{inPage, between, closing, closingOf, newPageState, characterOf, furtherBop}
-use Rattle.dvi2_reading.specs.Reached.{pressOf}
+use Rattle.dvi2_reading.specs.Reached.{writingOf}
 use Rattle.dvi2_reading.specs.Standing.{Standing}
 use Rattle.dvi2_reading.specs.StandingLaws.{here, sole-post, sole-page}
 use Rattle.dvi2_state.specs.declared.page_state.PageState.{PageState}
 use Rattle.dvi2_state.specs.declared.page_state.Stage.the-variants.{Ready}
-use Rattle.dvi2_state.specs.Page.{penOf, pageStateOf}
+use Rattle.dvi2_state.specs.Page.{positionOf, pageStateOf}
 use Rattle.dvi2_close.specs.declared.expect.Reading.{Reading}
 use Rattle.dvi2_turn.specs.declared.tally.Tally.{Tally}
 use Rattle.dvi2_turn.specs.declared.turn.Turn.{Turn}
@@ -44,7 +44,7 @@ module _ (s : List ℕ) (at : ℕ) (t : Tally) (is : List Item) (k : TallyIs t i
   pub page-led : (getD s at 0 ≡ 248 → ⊥) → length is < 1048576 → (e : List ℕ) → e ≡ bopBytes (t .cuts + 2) (pos (t .bop)) → (r : Reading) → r ≡ expected s at e → Led s (inPage (newPageState (is ++ (Cut ∷ [])))) r
   page-led o m e q r h =
       subst (Led s (inPage (newPageState (is ++ (Cut ∷ []))))) (ap (expected s at) (sym (q ∙ bop-is t is k (st .reached .writable))) ∙ sym h)
-      (expect-led s (between is) (inPage (newPageState (is ++ (Cut ∷ [])))) at (furtherBop (pressOf is)) st (sole-page (drop at s) is m (λ b ps d f. o (sym (first-is b ps d) ∙ f))))
+      (expect-led s (between is) (inPage (newPageState (is ++ (Cut ∷ [])))) at (furtherBop (writingOf is)) st (sole-page (drop at s) is m (λ b ps d f. o (sym (first-is b ps d) ∙ f))))
 
 pub cut-turned : (s : List ℕ) (is : List Item) (at to : ℕ) (h : PageState) → Standing s (between is) at → pageStateOf (is ++ (Cut ∷ [])) h ≡ newPageState (is ++ (Cut ∷ [])) → Standing s (inPage (newPageState (is ++ (Cut ∷ [])))) to
     → Turned s is at (Set Cut h to)
@@ -54,14 +54,14 @@ cut-turned s is at to h st e k =
     (cut-after s is at to st p, (p, subst (λ (g : R.PageState). Standing s (inPage g) to) (sym e) k))
 
 pub put-turned : (s : List ℕ) (is : List Item) (at : ℕ) (h g : PageState) (code : ℕ) (c : Character)
-    → Standing s (inPage (record { items = is ++ (Placed (characterOf (penOf h) code) ∷ []); stage = R.ready; pen = penOf h })) (at + 2)
-    → ((f : ℕ) → fontIn (h .font) ≡ some f → c ≡ characterOf (penOf h) code) → g ≡ record { stage = Ready; font = h .font; x = h .x; y = h .y } → Turned s is at (Set (Placed c) g (at + 2))
+    → Standing s (inPage (record { items = is ++ (Placed (characterOf (positionOf h) code) ∷ []); stage = R.ready; position = positionOf h })) (at + 2)
+    → ((f : ℕ) → fontOrNone (h .font) ≡ some f → c ≡ characterOf (positionOf h) code) → g ≡ record { stage = Ready; font = h .font; x = h .x; y = h .y } → Turned s is at (Set (Placed c) g (at + 2))
 put-turned s is at h g code c k f e =
-    let d = characterOf (penOf h) code in
-    let q : d ≡ c = sym (f (d .font) (put-font s is d (penOf h) (at + 2) k)) in
-    let j : Standing s (inPage (record { items = is ++ (Placed c ∷ []); stage = R.ready; pen = penOf h })) (at + 2) =
-    subst (λ (x : Character). Standing s (inPage (record { items = is ++ (Placed x ∷ []); stage = R.ready; pen = penOf h })) (at + 2)) q k in
-    (omega arith, (ready-place s (is ++ (Placed c ∷ [])) (penOf h) (at + 2) j, subst (λ (x : PageState). Standing s (inPage (pageStateOf (is ++ (Placed c ∷ [])) x)) (at + 2)) (sym e) j))
+    let d = characterOf (positionOf h) code in
+    let q : d ≡ c = sym (f (d .font) (put-font s is d (positionOf h) (at + 2) k)) in
+    let j : Standing s (inPage (record { items = is ++ (Placed c ∷ []); stage = R.ready; position = positionOf h })) (at + 2) =
+    subst (λ (x : Character). Standing s (inPage (record { items = is ++ (Placed x ∷ []); stage = R.ready; position = positionOf h })) (at + 2)) q k in
+    (omega arith, (ready-place s (is ++ (Placed c ∷ [])) (positionOf h) (at + 2) j, subst (λ (x : PageState). Standing s (inPage (pageStateOf (is ++ (Placed c ∷ [])) x)) (at + 2)) (sym e) j))
 
 pub turned-before : (s : List ℕ) (is : List Item) (at to : ℕ) (r : Turn) → at ≤ to → Turned s is to r → Turned s is at r
 turned-before s is at to (Bad place) l k = k

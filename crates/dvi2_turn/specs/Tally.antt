@@ -10,14 +10,14 @@ use Rattle.galley_file.specs.Item.{charactersOf, cutsOf}
 use Rattle.galley_file.specs.Galley.{maxItems}
 use Rattle.extents.specs.Extents.{extentsOf}
 use Rattle.dvi2_frame.specs.Frame.{Ranged}
-use Rattle.dvi2_reading.specs.Reached.{pressOf}
+use Rattle.dvi2_reading.specs.Reached.{writingOf}
 use Rattle.dvi2_turn.specs.declared.tally.Tally.{Tally}
 
 pub record TallyIs (t : Tally) (is : List Item) : Type 0 where
   pub characters-are : t .characters ≡ length (charactersOf is)
   pub cuts-are : t .cuts ≡ cutsOf is
   pub extents-are : t .extents ≡ extentsOf (charactersOf is)
-  pub bop-is : t .bop ≡ pressOf is .bop
+  pub bop-is : t .bop ≡ writingOf is .bop
 
 pub record Small (t : Tally) : Type 0 where
   pub few : t .characters ≤ maxItems

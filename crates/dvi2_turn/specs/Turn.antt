@@ -6,7 +6,7 @@ use mathlib.Core.List.{List, [], _∷_, _++_}
 use Prim.Native.Nat.{ℕ, _<_}
 use Rattle.galley_file.specs.declared.item.Item.{Item}
 use Rattle.dvi2_reading.specs.Reading.{inPage, gives, bad, readFile}
-use Rattle.dvi2_reading.specs.Reached.{pressOf}
+use Rattle.dvi2_reading.specs.Reached.{writingOf}
 use Rattle.dvi2_reading.specs.Standing.{Standing}
 use Rattle.dvi2_state.specs.declared.page_state.PageState.{PageState}
 use Rattle.dvi2_state.specs.Page.{pageStateOf}
@@ -25,4 +25,4 @@ abbrev pub Turned : List ℕ → List Item → ℕ → Turn → Type 0
 Turned s is at (Bad place) = readFile s ≡ bad place
 Turned s is at Whole = readFile s ≡ gives is
 Turned s is at (On g next) = (at < next) × Standing s (inPage (pageStateOf is g)) next
-Turned s is at (Set i g next) = (at < next) × ((next ≡ pressOf (is ++ (i ∷ [])) .at) × Standing s (inPage (pageStateOf (is ++ (i ∷ [])) g)) next)
+Turned s is at (Set i g next) = (at < next) × ((next ≡ writingOf (is ++ (i ∷ [])) .at) × Standing s (inPage (pageStateOf (is ++ (i ∷ [])) g)) next)

@@ -9,7 +9,7 @@ ghost use Prim.Native.Nat.{_+_, _-_, _≤_, _<_};
 ghost use Rattle.measure.specs.Place.{heightEnd};
 ghost use Rattle.galley_file.specs.declared.item.Item.{Item as ItemOf};
 ghost use Rattle.galley_file.specs.Item.{validItem};
-ghost use Rattle.dvi2_reading.specs.Reached.{pressOf};
+ghost use Rattle.dvi2_reading.specs.Reached.{writingOf};
 ghost use Rattle.dvi2_turn.specs.Tally.{TallyIs};
 
 pub struct Tally {
@@ -39,7 +39,7 @@ pub fn none() -> Tally
 // With one item more, after whose commands the file is at `at`.
 pub fn with_item(t: Tally, i: Item, at: usize) -> Tally
     requires { ⌜ ((t .characters < 2097152) × (t .cuts < 2097152)) × ((45 ≤ at) × (validItem heightEnd i ≡ true)) ⌝ }
-    ensures { λ r. ⌜ ((is : List ItemOf) → TallyIs t is → at ≡ pressOf (is ++ (i ∷ [])) .at → TallyIs r (is ++ (i ∷ []))) ⌝ }
+    ensures { λ r. ⌜ ((is : List ItemOf) → TallyIs t is → at ≡ writingOf (is ++ (i ∷ [])) .at → TallyIs r (is ++ (i ∷ []))) ⌝ }
 {
     let extents = extents::with_item(t.extents, i);
     match i {

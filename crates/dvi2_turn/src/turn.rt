@@ -1,5 +1,6 @@
 // One turn: a command of a page, or what stands between two pages and after the last.
 use crate::tally::Tally;
+use dvi::font_byte;
 use dvi2_close::close;
 use dvi2_close::expect;
 use dvi2_close::expect::Reading;
@@ -19,10 +20,10 @@ ghost use Prim.Native.Nat.{ℕ, _≤_, _<_};
 ghost use lib.ListN.{length, getD};
 ghost use Rattle.galley_file.specs.declared.item.Item.{Item as ItemOf};
 ghost use Rattle.galley_file.specs.declared.item.Item.the-variants.{Cut};
-ghost use Rattle.dvi2_commands.specs.Pen.{fontIn};
+ghost use Rattle.dvi.specs.FontOrNone.{fontOrNone};
 ghost use Rattle.dvi2_reading.specs.Reading.{isDown, heightOf, characterOf, inPage, between, newPageState};
 ghost use Rattle.dvi2_reading.specs.Standing.{Standing};
-ghost use Rattle.dvi2_state.specs.Page.{penOf, pageStateOf, Near};
+ghost use Rattle.dvi2_state.specs.Page.{positionOf, pageStateOf, Near};
 ghost use Rattle.dvi2_turn.specs.Tally.{TallyIs, Small};
 ghost use Rattle.dvi2_close.specs.Reading.{Led, Ended};
 ghost use Rattle.dvi2_turn.specs.Turn.{Turning, Turned};
@@ -46,7 +47,7 @@ pub fn new_page() -> PageState
 {
     PageState {
         stage: Stage::Ready,
-        font: page_state::NO_FONT,
+        font: font_byte::NO_FONT,
         x: 0,
         y: 0,
     }
@@ -63,7 +64,7 @@ fn height_at(y: i32) -> i32
 // The character that is put.
 fn character(h: PageState, code: u8) -> Character
     requires { ⌜ isDown (h .y) ≡ true ⌝ }
-    ensures { λ r. ⌜ ((f : ℕ) → fontIn (h .font) ≡ some f → r ≡ characterOf (penOf h) code) ⌝ }
+    ensures { λ r. ⌜ ((f : ℕ) → fontOrNone (h .font) ≡ some f → r ≡ characterOf (positionOf h) code) ⌝ }
 {
     let x = h.x;
     let y = h.y;

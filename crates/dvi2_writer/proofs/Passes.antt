@@ -1,4 +1,4 @@
--- One turn of the pass over a checked galley: the items behind are written as far as they have room, and the press is that after them.
+-- One turn of the pass over a checked galley: the items behind are written as far as they have room, and the writing is that after them.
 -- Assumes nothing.
 use mathlib.Core.Path.{_≡_, sym, ap, subst}
 use mathlib.Core.Bool.{true}
@@ -8,6 +8,8 @@ use native.Mathlib.Omega.{arith}
 use lib.ListN.{length, length-append}
 use Rattle.octets.specs.Answer.{accepted}
 use Rattle.measure.specs.Place.{heightEnd}
+use Rattle.octets.specs.Transducer.{transduced}
+use Rattle.octets.specs.TransducerLaws.{transduced-more}
 use Rattle.galley_file.specs.declared.form.Form.the-variants.{New}
 use Rattle.galley_file.specs.declared.item.Item.{Item}
 use Rattle.galley_file.specs.Form.{maxGalley}
@@ -16,11 +18,11 @@ use Rattle.galley_file.specs.Galley.{maxItems, AllValid, readGalley, itemsOf}
 use Rattle.galley_file.specs.GalleyLaws.{checked, read-as, reading-valid}
 use Rattle.galley_file.specs.Outcome.{checkOutcome}
 use Rattle.galley_file.specs.Walk.{Midway, Onward, midway-start, midway-inside, midway-end, midway-next, midway-whole}
-use Rattle.dvi2.specs.Writer.{firstPress, itemBytes, itemsBytes, pressAll}
-use Rattle.dvi2.specs.WriterLaws.{itemsBytes-more, press-small}
-use Rattle.dvi2_writer.specs.declared.press.Press.{Press}
+use Rattle.dvi2.specs.Writer.{firstWriting, itemBytes, itemsBytes, writingAfterAll, writingAfter}
+use Rattle.dvi2.specs.WriterLaws.{writing-small}
+use Rattle.dvi2_writer.specs.declared.writing.Writing.{Writing}
 use Rattle.octets.specs.PutIfRoom.{PutIfRoom}
-use Rattle.dvi2_writer.specs.Press.{PressIs, Ready}
+use Rattle.dvi2_writer.specs.Writing.{WritingIs, Ready}
 use Rattle.octets.specs.PutIfRoomLaws.{putIfRoom-none, putIfRoom-then, putIfRoom-named}
 
 -- ---- a checked galley
@@ -43,17 +45,17 @@ module _ (g : List ℕ) (count : ℕ) (a : accepted count ≡ checkOutcome New g
 -- ---- the pass
 
 -- the galley g up to `at`
-pub record Printed (g : List ℕ) (at : ℕ) (first out : List ℕ) (p : Press) : Type 0 where
+pub record Printed (g : List ℕ) (at : ℕ) (first out : List ℕ) (p : Writing) : Type 0 where
   pub done : List Item
   pub midway : Midway New g (itemsOf New g) done at
-  pub puts : PutIfRoom first 60 (itemsBytes firstPress done) out (p .at)
-  pub press : PressIs p done
+  pub puts : PutIfRoom first 60 (itemsBytes firstWriting done) out (p .at)
+  pub writing : WritingIs p done
 
-pub printed-start : (g : List ℕ) (count : ℕ) → accepted count ≡ checkOutcome New g → (first : List ℕ) (p : Press) → PressIs p [] → Printed g 0 first first p
-unfolding itemsBytes pressAll firstPress
-printed-start g count a first p n = record { done = []; midway = begun g count a; puts = rw (n .at-is) (putIfRoom-none first 60); press = n }
+pub printed-start : (g : List ℕ) (count : ℕ) → accepted count ≡ checkOutcome New g → (first : List ℕ) (p : Writing) → WritingIs p [] → Printed g 0 first first p
+unfolding transduced firstWriting
+printed-start g count a first p n = record { done = []; midway = begun g count a; puts = rw (n .at-is) (putIfRoom-none first 60); writing = n }
 
-module _ (g : List ℕ) (at : ℕ) (first out : List ℕ) (p : Press) (m : Printed g at first out p) where
+module _ (g : List ℕ) (at : ℕ) (first out : List ℕ) (p : Writing) (m : Printed g at first out p) where
   pub printed-whole : at + 7 < length g → WholeAt New g at
   printed-whole h = midway-whole New g (itemsOf New g) (m .done) at (m .midway) h
 
@@ -68,31 +70,31 @@ module _ (g : List ℕ) (at : ℕ) (first out : List ℕ) (p : Press) (m : Print
   printed-asks h f i q =
       let d = m .done in
       let n = subst (Onward New g (itemsOf New g) d at) (sym q) (midway-next New g (itemsOf New g) d at (m .midway) h) in
-      let small = press-small d 1 (omega (arith, f, ap length (n .next .all), length-append (d ++ (i ∷ [])) (n .next .rest), length-append d (i ∷ []))) in
-      let x = m .press .tallied in (
+      let small = writing-small d 1 (omega (arith, f, ap length (n .next .all), length-append (d ++ (i ∷ [])) (n .next .rest), length-append d (i ∷ []))) in
+      let x = m .writing .tallied in (
         record {
-          on-page = m .press .pen .on-page;
+          on-page = m .writing .position .on-page;
           page-small = omega (arith, x .page-is, small .page-small);
           bop-small = omega (arith, x .bop-is, small .bop-before, small .at-small);
-          at-small = omega (arith, m .press .at-is, small .at-small);
+          at-small = omega (arith, m .writing .at-is, small .at-small);
         },
         n .is-valid,
       )
 
-  pub printed-next : at + 7 < length g → (i : Item) → i ≡ itemAt New g at → (later : List ℕ) (r : Press)
-      → ((is : List Item) → PressIs p is → (PutIfRoom out (p .at) (itemBytes (pressAll firstPress is) i) later (r .at)) × PressIs r (is ++ (i ∷ [])))
+  pub printed-next : at + 7 < length g → (i : Item) → i ≡ itemAt New g at → (later : List ℕ) (r : Writing)
+      → ((is : List Item) → WritingIs p is → (PutIfRoom out (p .at) (itemBytes (writingAfterAll firstWriting is) i) later (r .at)) × WritingIs r (is ++ (i ∷ [])))
       → Printed g (at + itemSize New i) first later r
   printed-next h i q later r w =
       let d = m .done in
-      let v = w d (m .press) in
+      let v = w d (m .writing) in
       record {
         done = d ++ (i ∷ []);
         midway = subst (Onward New g (itemsOf New g) d at) (sym q) (midway-next New g (itemsOf New g) d at (m .midway) h) .next;
-        puts = putIfRoom-named (sym (itemsBytes-more firstPress d i)) (putIfRoom-then (m .puts) (v .0));
-        press = v .1;
+        puts = putIfRoom-named (sym (transduced-more itemBytes writingAfter firstWriting d i)) (putIfRoom-then (m .puts) (v .0));
+        writing = v .1;
       }
 
-  pub printed-end : length g ≤ at + 7 → (PutIfRoom first 60 (itemsBytes firstPress (itemsOf New g)) out (p .at)) × PressIs p (itemsOf New g)
+  pub printed-end : length g ≤ at + 7 → (PutIfRoom first 60 (itemsBytes firstWriting (itemsOf New g)) out (p .at)) × WritingIs p (itemsOf New g)
   printed-end h =
       let e = sym (midway-end New g (itemsOf New g) (m .done) at (m .midway) h) in
-      subst (λ (is : List Item). (PutIfRoom first 60 (itemsBytes firstPress is) out (p .at)) × PressIs p is) e (m .puts, m .press)
+      subst (λ (is : List Item). (PutIfRoom first 60 (itemsBytes firstWriting is) out (p .at)) × WritingIs p is) e (m .puts, m .writing)

@@ -1,4 +1,4 @@
--- The definitions of marked fonts, one font more at a time; bytes 223, one more at a time; and the postamble of a press.
+-- The definitions of marked fonts, one font more at a time; bytes 223, one more at a time; and the postamble of a writing.
 -- Assumes nothing.
 use mathlib.Core.Path.{_≡_, refl, ap, _∙_}
 use mathlib.Core.Bool.{cond}
@@ -12,11 +12,11 @@ use Rattle.galley_file.specs.declared.item.Item.{Item}
 use Rattle.galley_file.specs.Item.{charactersOf}
 use Rattle.extents.specs.FontMarks.{usedFonts, isMarked, markedFonts}
 use Rattle.extents.specs.FontMarksLaws.{fonts-marked}
-use Rattle.dvi2.specs.Writer.{firstPress, pressAll, pagesBytes, definitionBytes, postambleBytes, fillers, bytes223}
+use Rattle.dvi2.specs.Writer.{firstWriting, writingAfterAll, pagesBytes, definitionBytes, postambleBytes, fillers, bytes223}
 use Rattle.dvi2.specs.WriterLaws.{length-definitions, definitions-append, length-223}
-use Rattle.dvi2_writer.specs.declared.press.Press.{Press}
+use Rattle.dvi2_writer.specs.declared.writing.Writing.{Writing}
 use Rattle.octets.specs.PutIfRoom.{PutIfRoom}
-use Rattle.dvi2_writer.specs.Press.{Tallied}
+use Rattle.dvi2_writer.specs.Writing.{Tallied}
 use Rattle.dvi2_writer.specs.Postamble.{postambleOf}
 use Rattle.dvi2_frame.specs.Frame.{postOf, postPostOf}
 use Rattle.dvi2_frame.specs.FrameLaws.{post-is as frame-post}
@@ -70,9 +70,9 @@ filled-end first at out to f h =
 
 -- ---- the postamble
 
--- that of the press after the items is that of their characters
-pub post-is : (p : Press) (is : List Item) → Tallied p is → p .at ≡ length (pagesBytes is)
-    → postambleOf p ≡ postambleBytes (pressAll firstPress is .bop) (pressAll firstPress is .page) (length (pagesBytes is)) (charactersOf is)
+-- that of the writing after the items is that of their characters
+pub post-is : (p : Writing) (is : List Item) → Tallied p is → p .at ≡ length (pagesBytes is)
+    → postambleOf p ≡ postambleBytes (writingAfterAll firstWriting is .bop) (writingAfterAll firstWriting is .page) (length (pagesBytes is)) (charactersOf is)
 unfolding postambleOf postPostOf postambleBytes
 post-is p is x e =
     let fonts = fonts-marked (p .extents .fonts .low) (p .extents .fonts .high) (charactersOf is) (x .extents-are .fonts-are) 120 (omega arith) in

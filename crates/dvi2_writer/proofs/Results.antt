@@ -17,11 +17,11 @@ use Rattle.galley_file.specs.Galley.{maxItems, AllValid, itemsOf}
 use Rattle.galley_file.specs.Outcome.{checkOutcome}
 use Rattle.galley_check.specs.ResultLaws.{result-refused, result-made}
 use Rattle.dvi.specs.WriterLaws.{usedFonts-most}
-use Rattle.dvi2.specs.Writer.{firstPress, pressAll, pagesBytes, postambleBytes, commandBytes, fillers, bytes223, dvi2File}
+use Rattle.dvi2.specs.Writer.{firstWriting, writingAfterAll, pagesBytes, postambleBytes, commandBytes, fillers, bytes223, dvi2File}
 use Rattle.dvi2.specs.WriterLaws.{length-pages, itemsBytes-most, length-postamble}
-use Rattle.dvi2_writer.specs.declared.press.Press.{Press}
+use Rattle.dvi2_writer.specs.declared.writing.Writing.{Writing}
 use Rattle.octets.specs.PutIfRoom.{PutIfRoom}
-use Rattle.dvi2_writer.specs.Press.{Tallied}
+use Rattle.dvi2_writer.specs.Writing.{Tallied}
 use Rattle.dvi2_writer.specs.Postamble.{Sized, postambleOf}
 use Rattle.dvi2.specs.Result.{dvi2Result}
 use Rattle.octets.specs.PutIfRoomLaws.{putIfRoom-then, putIfRoom-named}
@@ -30,16 +30,16 @@ use Rattle.dvi2_writer.proofs.Postambles.{post-is}
 
 -- ---- the file
 
-module _ (is : List Item) (few : length is ≤ maxItems) (p : Press) (o₀ o₁ : List ℕ) (pages : PutIfRoom o₀ 0 (pagesBytes is) o₁ (p .at)) (v : AllValid heightEnd is) (x : Tallied p is) where
+module _ (is : List Item) (few : length is ≤ maxItems) (p : Writing) (o₀ o₁ : List ℕ) (pages : PutIfRoom o₀ 0 (pagesBytes is) o₁ (p .at)) (v : AllValid heightEnd is) (x : Tallied p is) where
   at-is : p .at ≡ length (pagesBytes is)
   at-is = pages .next-is ∙ zero-add (length (pagesBytes is))
 
   pub sized : Sized p
-  sized = record { ranged = ranged (p .extents) is (x .extents-are) v; at-small = omega (arith, at-is, length-pages is, itemsBytes-most firstPress is) }
+  sized = record { ranged = ranged (p .extents) is (x .extents-are) v; at-small = omega (arith, at-is, length-pages is, itemsBytes-most firstWriting is) }
 
   module _ (o₂ : List ℕ) (to : ℕ) (post : PutIfRoom o₁ (p .at) (postambleOf p) o₂ to) where
     postamble : List ℕ
-    postamble = postambleBytes (pressAll firstPress is .bop) (pressAll firstPress is .page) (length (pagesBytes is)) (charactersOf is)
+    postamble = postambleBytes (writingAfterAll firstWriting is .bop) (writingAfterAll firstWriting is .page) (length (pagesBytes is)) (charactersOf is)
 
     commands : PutIfRoom o₀ 0 (commandBytes is) o₂ to
     unfolding commandBytes
@@ -47,7 +47,7 @@ module _ (is : List Item) (few : length is ≤ maxItems) (p : Press) (o₀ o₁ 
 
     pub to-small : to < 2147483648
     to-small =
-        let l = length-postamble (pressAll firstPress is .bop) (pressAll firstPress is .page) (length (pagesBytes is)) (charactersOf is) in
+        let l = length-postamble (writingAfterAll firstWriting is .bop) (writingAfterAll firstWriting is .page) (length (pagesBytes is)) (charactersOf is) in
         omega (arith, post .next-is, ap length (post-is p is x at-is), l, usedFonts-most 120 (charactersOf is), sized .at-small)
 
     pub file-is : (o₃ : List ℕ) (r : ℕ) → PutIfRoom o₂ to (bytes223 (fillers to)) o₃ r → PutIfRoom o₀ 0 (dvi2File is) o₃ r

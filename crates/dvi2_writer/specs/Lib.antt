@@ -1,3 +1,3 @@
 -- The values of the writer's code in terms of the format.
-pub mod Press
+pub mod Writing
 pub mod Postamble

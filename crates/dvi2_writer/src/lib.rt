@@ -2,7 +2,7 @@
 // only counted, so that a first pass, over a buffer of none of it, gives the length.
 mod page;
 mod postamble;
-mod press;
+mod writing;
 
 use octets::answer;
 use octets::answer::Answer;

@@ -1,8 +1,8 @@
 // The preamble and the pages: bop, the commands of characters, eop.
-use crate::press;
-use crate::press::Press;
+use crate::writing;
+use crate::writing::Writing;
 use dvi2_commands::command;
-use dvi2_commands::pen;
+use dvi2_commands::position;
 use dvi2_commands::put;
 use extents::fonts;
 use galley_file::character::Character;
@@ -24,34 +24,34 @@ ghost use Rattle.galley_file.specs.Character.{valid};
 ghost use Rattle.galley_file.specs.Item.{validItem};
 ghost use Rattle.galley_file.specs.Galley.{itemsOf};
 ghost use Rattle.galley_file.specs.Outcome.{checkOutcome};
-ghost use Rattle.dvi2.specs.Writer.{firstPress, itemBytes, itemsBytes, pressAll, pagesBytes};
+ghost use Rattle.dvi2.specs.Writer.{firstWriting, itemBytes, itemsBytes, writingAfterAll, pagesBytes};
 ghost use Rattle.octets.specs.PutIfRoom.{PutIfRoom};
-ghost use Rattle.dvi2_writer.specs.Press.{Tallied, PressIs, Ready};
+ghost use Rattle.dvi2_writer.specs.Writing.{Tallied, WritingIs, Ready};
 
 const EOP: u8 = 140;
 
 // Writes the commands of c.
-fn put_character(out: &mut [u8], p: Press, c: Character) -> Press
+fn put_character(out: &mut [u8], p: Writing, c: Character) -> Writing
     requires { ⌜ Ready p × (valid heightEnd c ≡ true) ⌝ }
-    ensures { λ r. ⌜ ((is : List ItemOf) → PressIs p is → (PutIfRoom (now (out .entry)) (p .at) (itemBytes (pressAll firstPress is) (Placed c)) (now (out .exit)) (r .at)) × PressIs r (is ++ (Placed c ∷ []))) ⌝ }
+    ensures { λ r. ⌜ ((is : List ItemOf) → WritingIs p is → (PutIfRoom (now (out .entry)) (p .at) (itemBytes (writingAfterAll firstWriting is) (Placed c)) (now (out .exit)) (r .at)) × WritingIs r (is ++ (Placed c ∷ []))) ⌝ }
 {
     let known = fonts::has_font(p.extents.fonts, c.font);
-    let to = command::put_commands(out, p.at, known, p.pen, c);
-    press::after_character(p, c, to)
+    let to = command::put_commands(out, p.at, known, p.position, c);
+    writing::after_character(p, c, to)
 }
 
 // Writes a cut: ends the page, and starts the next.
-fn put_cut(out: &mut [u8], p: Press) -> Press
+fn put_cut(out: &mut [u8], p: Writing) -> Writing
     requires { ⌜ Ready p ⌝ }
-    ensures { λ r. ⌜ ((is : List ItemOf) → PressIs p is → (PutIfRoom (now (out .entry)) (p .at) (itemBytes (pressAll firstPress is) Cut) (now (out .exit)) (r .at)) × PressIs r (is ++ (Cut ∷ []))) ⌝ }
+    ensures { λ r. ⌜ ((is : List ItemOf) → WritingIs p is → (PutIfRoom (now (out .entry)) (p .at) (itemBytes (writingAfterAll firstWriting is) Cut) (now (out .exit)) (r .at)) × WritingIs r (is ++ (Cut ∷ []))) ⌝ }
 {
     let bop = put::put_byte(out, p.at, EOP);
     let page = p.page + 1;
     let to = dvi2_frame::put_bop(out, bop, page, p.bop as i32);
-    let pen = pen::new_pen();
+    let position = position::start_position();
     let extents = p.extents;
-    Press {
-        pen: pen,
+    Writing {
+        position: position,
         extents: extents,
         page: page,
         bop: bop as u32,
@@ -60,9 +60,9 @@ fn put_cut(out: &mut [u8], p: Press) -> Press
 }
 
 // Writes an item.
-fn put_item(out: &mut [u8], p: Press, i: Item) -> Press
+fn put_item(out: &mut [u8], p: Writing, i: Item) -> Writing
     requires { ⌜ Ready p × (validItem heightEnd i ≡ true) ⌝ }
-    ensures { λ r. ⌜ ((is : List ItemOf) → PressIs p is → (PutIfRoom (now (out .entry)) (p .at) (itemBytes (pressAll firstPress is) i) (now (out .exit)) (r .at)) × PressIs r (is ++ (i ∷ []))) ⌝ }
+    ensures { λ r. ⌜ ((is : List ItemOf) → WritingIs p is → (PutIfRoom (now (out .entry)) (p .at) (itemBytes (writingAfterAll firstWriting is) i) (now (out .exit)) (r .at)) × WritingIs r (is ++ (i ∷ []))) ⌝ }
 {
     match i {
         Item::Placed(c) => put_character(out, p, c),
@@ -71,11 +71,11 @@ fn put_item(out: &mut [u8], p: Press, i: Item) -> Press
 }
 
 // Writes the items of a checked galley after the first bop.
-fn put_items(g: &[u8], count: usize, out: &mut [u8]) -> Press
+fn put_items(g: &[u8], count: usize, out: &mut [u8]) -> Writing
     requires { ⌜ accepted count ≡ checkOutcome New (now g) ⌝ }
-    ensures { λ r. ⌜ (PutIfRoom (now (out .entry)) 60 (itemsBytes firstPress (itemsOf New (now (g .entry)))) (now (out .exit)) (r .at)) × PressIs r (itemsOf New (now (g .entry))) ⌝ }
+    ensures { λ r. ⌜ (PutIfRoom (now (out .entry)) 60 (itemsBytes firstWriting (itemsOf New (now (g .entry)))) (now (out .exit)) (r .at)) × WritingIs r (itemsOf New (now (g .entry))) ⌝ }
 {
-    let mut p = press::first_press();
+    let mut p = writing::first_writing();
     let mut at: usize = 0;
     while at + field::END_FIELD < g.len() {
         let i = item::item_at(Form::New, g, at);
@@ -85,8 +85,8 @@ fn put_items(g: &[u8], count: usize, out: &mut [u8]) -> Press
     p
 }
 
-// Writes the preamble and the pages of a checked galley; gives the press after the last eop.
-pub fn put_pages(g: &[u8], count: usize, out: &mut [u8]) -> Press
+// Writes the preamble and the pages of a checked galley; gives the writing after the last eop.
+pub fn put_pages(g: &[u8], count: usize, out: &mut [u8]) -> Writing
     requires { ⌜ accepted count ≡ checkOutcome New (now g) ⌝ }
     ensures { λ r. ⌜ (PutIfRoom (now (out .entry)) 0 (pagesBytes (itemsOf New (now (g .entry)))) (now (out .exit)) (r .at)) × Tallied r (itemsOf New (now (g .entry))) ⌝ }
 {

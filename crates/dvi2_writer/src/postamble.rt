@@ -1,5 +1,5 @@
 // The postamble: post, the font definitions, post_post, and bytes 223.
-use crate::press::Press;
+use crate::writing::Writing;
 use dvi2_commands::font;
 use dvi2_commands::put;
 use extents::fonts;
@@ -44,7 +44,7 @@ fn put_definitions(out: &mut [u8], at: usize, fonts: Fonts) -> usize
 }
 
 // Writes the postamble of a file whose pages are made.
-pub fn put_postamble(out: &mut [u8], p: Press) -> usize
+pub fn put_postamble(out: &mut [u8], p: Writing) -> usize
     requires { ⌜ Sized p ⌝ }
     ensures { λ r. ⌜ PutIfRoom (now (out .entry)) (p .at) (postambleOf p) (now (out .exit)) r ⌝ }
 {

@@ -4,7 +4,7 @@ mod tally;
 use dvi_galley::item;
 use dvi_step::State;
 use dvi_step::Stepped;
-use measure::ruler;
+use measure::target_table;
 use octets::answer;
 use octets::answer::Answer;
 use octets::pass::Reading;
@@ -25,7 +25,7 @@ fn pass(dvi: &[u8], widths: &[i32], out: &mut [u8], writing: bool) -> Reading
     requires { ⌜ (writing ≡ true → Roomy (shownGalley (readPlaced (now widths) (now dvi))) (length (now out))) ⌝ }
     ensures { λ r. ⌜ Passed (shownGalley (readPlaced (now (widths .entry)) (now (dvi .entry)))) writing (now (out .entry)) r (now (out .exit)) ⌝ }
 {
-    let ruler = ruler::targets();
+    let targets = target_table::targets();
     let mut stack = [0i32; 1200];
     let mut q = State::Between(-1);
     let mut at: usize = 0;
@@ -41,7 +41,7 @@ fn pass(dvi: &[u8], widths: &[i32], out: &mut [u8], writing: bool) -> Reading
                 at = at + 1 + n;
             }
             Stepped::Show(t, m, n) => {
-                let i = item::item_of(&ruler, tally::next_page(g), m);
+                let i = item::item_of(&targets, tally::next_page(g), m);
                 tally::show_item(out, g, i, writing);
                 g = tally::with_item(g, at, i);
                 q = t;

@@ -7,7 +7,7 @@ use galley_file::character::Character;
 use galley_file::item::Item;
 use measure::Quanta;
 use measure::Units;
-use measure::ruler::Ruler;
+use measure::target_table::TargetTable;
 use sheet::Mark;
 ghost use mathlib.Core.Path.{_≡_};
 ghost use mathlib.Core.Bool.{true, cond};
@@ -55,11 +55,11 @@ fn valid_at(x: Units, h: Quanta, font: i32, ch: u8) -> Taken
 }
 
 // A character whose targets are x and y.
-fn character_of(ruler: &Ruler, x: i32, y: i32, font: i32, ch: u8) -> Taken
-    requires { ⌜ now ruler ≡ xTargets ⌝ }
+fn character_of(targets: &TargetTable, x: i32, y: i32, font: i32, ch: u8) -> Taken
+    requires { ⌜ now targets ≡ xTargets ⌝ }
     ensures { λ r. ⌜ takenOf r ≡ placedItem (characterOf (xAt x) (heightAt y) font ch) ⌝ }
 {
-    let a = target::x_at(ruler, x);
+    let a = target::x_at(targets, x);
     match a {
         Across::Nowhere => Taken::Not,
         Across::At(u) => {
@@ -83,13 +83,13 @@ fn page_of(next: i64, n: i32) -> Taken
 }
 
 // The item that a mark shows, where page `next` is due.
-pub fn item_of(ruler: &Ruler, next: i64, m: Mark) -> Taken
-    requires { ⌜ now ruler ≡ xTargets ⌝ }
+pub fn item_of(targets: &TargetTable, next: i64, m: Mark) -> Taken
+    requires { ⌜ now targets ≡ xTargets ⌝ }
     ensures { λ r. ⌜ ((n : ℕ) → next ≡ pos (suc n) → takenOf r ≡ itemOf n (markOf m)) ⌝ }
 {
     match m {
         Mark::Start(n) => page_of(next, n),
-        Mark::Char { ch, x, y, font } => character_of(ruler, x, y, font, ch),
+        Mark::Char { ch, x, y, font } => character_of(targets, x, y, font, ch),
         Mark::Rule {
             kind,
             x,

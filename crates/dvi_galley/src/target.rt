@@ -1,14 +1,14 @@
 // The places that targets are of.
 use measure::Quanta;
 use measure::Units;
-use measure::ruler;
-use measure::ruler::Ruler;
+use measure::target_table;
+use measure::target_table::TargetTable;
 ghost use mathlib.Core.Path.{_≡_};
 ghost use Rattle.measure.specs.Target.{xTargets};
 ghost use Rattle.dvi_galley.specs.Target.{xAt, heightAt};
 ghost use Rattle.dvi_galley.specs.Taken.{acrossOf, downOf, InHeights};
 
-// The targets of the first place on the ruler and of the last.
+// The targets of the first place in the table and of the last.
 const LEAST: i32 = -600_747;
 
 const GREATEST: i32 = 35_378_517;
@@ -33,9 +33,9 @@ pub enum Down {
     Nowhere,
 }
 
-// The place nearest to three times the number is the only one that can have it as its target; the ruler decides.
-pub fn x_at(ruler: &Ruler, t: i32) -> Across
-    requires { ⌜ now ruler ≡ xTargets ⌝ }
+// The place nearest to three times the number is the only one that can have it as its target; the table decides.
+pub fn x_at(targets: &TargetTable, t: i32) -> Across
+    requires { ⌜ now targets ≡ xTargets ⌝ }
     ensures { λ r. ⌜ acrossOf r ≡ xAt t ⌝ }
 {
     if t < LEAST {
@@ -45,8 +45,8 @@ pub fn x_at(ruler: &Ruler, t: i32) -> Across
         return Across::Nowhere;
     }
     let k = (3 * t + SHIFT) as u32 / UNIT;
-    let x = Units(k as i32 + ruler::FIRST);
-    let there = x.target(ruler);
+    let x = Units(k as i32 + target_table::FIRST);
+    let there = x.target(targets);
     let found = there.0;
     if found == t {
         return Across::At(x);

@@ -1,4 +1,4 @@
-mod Pens
+mod Positions
 mod Moves
 mod Galleys
 mod Passes

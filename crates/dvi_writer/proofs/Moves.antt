@@ -13,7 +13,7 @@ use Rattle.integers.specs.Parts.{plain, eqZ, true-eqZ, false-eqZ}
 use Rattle.octets.specs.Octets.{signedBytes, widthOf}
 use Rattle.galley_file.specs.declared.character.Character.{Character}
 use Rattle.dvi.specs.Command.{X4, Y4}
-use Rattle.dvi.specs.Writer.{xTargetOf, yTargetOf, Pen, fontChange, shortest, move, commandsOf}
+use Rattle.dvi.specs.Writer.{xTargetOf, yTargetOf, Position, fontChange, shortest, move, commandsOf}
 use Rattle.dvi.specs.WriterLaws.{length-move}
 
 -- a test of a signed number against 0 is on its bits
@@ -35,7 +35,7 @@ module _ (m : ℤ) (f : SFits w32 m) (op : ℕ) where
     move-some w k d e =
         rw not-zero (λ i. (op + (4 - d i)) ∷ signedBytes ((e ∙ d) i) (plain f i))
 
-module _ (p : Pen) (c : Character) where
+module _ (p : Position) (c : Character) where
   pub length-parts : length (commandsOf p c) ≡ length (fontChange (p .font) (c .font)) + (length (move X4 (xTargetOf c -ℤ p .x)) + (length (move Y4 (yTargetOf c -ℤ p .y)) + 2))
   unfolding commandsOf
   length-parts = simp length-append

@@ -17,7 +17,7 @@ use Rattle.galley_file.specs.Item.{charactersOf}
 use Rattle.galley_file.specs.Galley.{AllValid, itemsOf}
 use Rattle.galley_check.specs.Low.{lowOutcome}
 use Rattle.galley_check.specs.LowLaws.{low-made, low-refused}
-use Rattle.dvi.specs.Writer.{firstPress, pressAll, pagesBytes, postambleBytes, dviFile}
+use Rattle.dvi.specs.Writer.{firstWriting, writingAfterAll, pagesBytes, postambleBytes, dviFile}
 use Rattle.dvi.specs.WriterLaws.{length-file}
 use Rattle.measure.specs.Place.{lowEnd}
 use Rattle.extents.specs.declared.Extents.{Extents}
@@ -47,17 +47,17 @@ module _ (e : Extents) (is : List Item) (v : AllValid lowEnd is) (a : e ≡ exte
   pub holds : Held e
   holds = held e is v (are e is v a)
 
-  module _ (o₀ o₁ : List ℕ) (pst last : ℕ) (pages : Wrote o₀ 0 (pagesBytes is) o₁ pst) (l : last ≡ pressAll firstPress is .bop) where
+  module _ (o₀ o₁ : List ℕ) (pst last : ℕ) (pages : Wrote o₀ 0 (pagesBytes is) o₁ pst) (l : last ≡ writingAfterAll firstWriting is .bop) where
     pub pst-is : pst ≡ length (pagesBytes is)
     pst-is = pages .next-is ∙ zero-add (length (pagesBytes is))
 
-    post-bytes : postambleOf last pst e ≡ postambleBytes (pressAll firstPress is .bop) (length (pagesBytes is)) (charactersOf is)
+    post-bytes : postambleOf last pst e ≡ postambleBytes (writingAfterAll firstWriting is .bop) (length (pagesBytes is)) (charactersOf is)
     post-bytes = post-is last pst e (charactersOf is) (are e is v a) ∙ (λ i. postambleBytes (l i) (pst-is i) (charactersOf is))
 
     pub post-room : pst + length (postambleOf last pst e) ≡ length (dviFile is)
     unfolding dviFile
     post-room =
-        omega (arith, pst-is, ap length post-bytes, length-append (pagesBytes is) (postambleBytes (pressAll firstPress is .bop) (length (pagesBytes is)) (charactersOf is)))
+        omega (arith, pst-is, ap length post-bytes, length-append (pagesBytes is) (postambleBytes (writingAfterAll firstWriting is .bop) (length (pagesBytes is)) (charactersOf is)))
 
     pub file-is : (o₂ : List ℕ) (r : ℕ) → Wrote o₁ pst (postambleOf last pst e) o₂ r → o₂ ≡ sets o₀ 0 (dviFile is)
     unfolding dviFile

@@ -1,6 +1,6 @@
 -- What the writer answers and leaves in the buffer, and the values of its code in terms of the format.
 pub mod Result
-pub mod Pen
-pub mod Press
+pub mod Position
+pub mod Writing
 pub mod Plan
 pub mod Postamble

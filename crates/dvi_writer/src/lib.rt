@@ -1,9 +1,9 @@
 // The writer of DVI files (document 01, "DVI (002)"): a galley's characters become pages, one more than there are cuts, and a postamble.
 mod page;
-mod pen;
 mod plan;
+mod position;
 mod postamble;
-mod press;
+mod writing;
 
 use extents::Extents;
 use extents::fonts;

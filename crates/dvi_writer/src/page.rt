@@ -1,16 +1,16 @@
 // The pages: BOP, the commands of characters, EOP.
-use crate::pen;
-use crate::pen::Pen;
-use crate::press;
-use crate::press::Press;
+use crate::position;
+use crate::position::Position;
+use crate::writing;
+use crate::writing::Writing;
 ghost use Rattle.galley_file.specs.declared.form.Form.the-variants.{New};
 use galley_file::character::Character;
 use galley_file::form::Form;
 use galley_file::item;
 use galley_file::item::Item;
 use measure::Rsu;
-use measure::ruler;
-use measure::ruler::Ruler;
+use measure::target_table;
+use measure::target_table::TargetTable;
 use octets::field;
 use octets::number;
 ghost use mathlib.Core.Path.{_≡_};
@@ -25,9 +25,10 @@ ghost use Rattle.galley_file.specs.declared.item.Item.the-variants.{Placed, Cut
 ghost use Rattle.galley_file.specs.Item.{validItem};
 ghost use Rattle.galley_file.specs.Galley.{itemsOf};
 ghost use Rattle.galley_check.specs.Low.{lowOutcome};
-ghost use Rattle.dvi.specs.Writer.{newPen, fontChange, move, commandsOf, bopBytes, firstPress, itemBytes, pressAfter, itemsBytes, pressAll, pagesBytes};
-ghost use Rattle.dvi_writer.specs.Pen.{fontIn, penOf, OnPage, PenIs, PenAt};
-ghost use Rattle.dvi_writer.specs.Press.{pressOf, PressIs};
+ghost use Rattle.dvi.specs.Writer.{startPosition, fontChange, move, commandsOf, bopBytes, firstWriting, itemBytes, writingAfter, itemsBytes, writingAfterAll, pagesBytes};
+ghost use Rattle.dvi.specs.FontOrNone.{fontOrNone};
+ghost use Rattle.dvi_writer.specs.Position.{positionOf, OnPage, PositionIs, PositionAt};
+ghost use Rattle.dvi_writer.specs.Writing.{writingOf, WritingIs};
 
 // The bytes of the first BOP and of the last EOP.
 pub const FRAME: usize = 10;
@@ -66,8 +67,8 @@ fn put_bop(out: &mut [u8], at: usize, page: u32, previous: i32) -> usize
 
 // Writes a font command, if the font differs from the last.
 fn put_font(out: &mut [u8], at: usize, last: u8, font: u8) -> usize
-    requires { ⌜ (at + length (fontChange (fontIn last) font) ≤ length (now out)) × (font < 120) ⌝ }
-    ensures { λ r. ⌜ Wrote (now (out .entry)) at (fontChange (fontIn last) font) (now (out .exit)) r ⌝ }
+    requires { ⌜ (at + length (fontChange (fontOrNone last) font) ≤ length (now out)) × (font < 120) ⌝ }
+    ensures { λ r. ⌜ Wrote (now (out .entry)) at (fontChange (fontOrNone last) font) (now (out .exit)) r ⌝ }
 {
     if last == font {
         at
@@ -99,10 +100,10 @@ fn put_move(out: &mut [u8], at: usize, op: u8, m: Rsu) -> usize
     }
 }
 
-// Writes the commands that set c after the pen `last`; `next` is the pen at c.
-fn put_commands(out: &mut [u8], at: usize, last: Pen, next: Pen, c: Character) -> usize
-    requires { ⌜ (at + length (commandsOf (penOf last) c) ≤ length (now out)) × (OnPage (penOf last) × PenAt next c) ⌝ }
-    ensures { λ r. ⌜ Wrote (now (out .entry)) at (commandsOf (penOf last) c) (now (out .exit)) r ⌝ }
+// Writes the commands that set c after the position `last`; `next` is the position at c.
+fn put_commands(out: &mut [u8], at: usize, last: Position, next: Position, c: Character) -> usize
+    requires { ⌜ (at + length (commandsOf (positionOf last) c) ≤ length (now out)) × (OnPage (positionOf last) × PositionAt next c) ⌝ }
+    ensures { λ r. ⌜ Wrote (now (out .entry)) at (commandsOf (positionOf last) c) (now (out .exit)) r ⌝ }
 {
     let x = next.x.less(last.x);
     let y = next.y.less(last.y);
@@ -114,13 +115,13 @@ fn put_commands(out: &mut [u8], at: usize, last: Pen, next: Pen, c: Character) -
 }
 
 // Writes the commands of c.
-fn put_character(out: &mut [u8], p: Press, next: Pen, c: Character) -> Press
-    requires { ⌜ (p .at + length (commandsOf (penOf (p .pen)) c) ≤ length (now out)) × (OnPage (penOf (p .pen)) × PenAt next c) ⌝ }
-    ensures { λ r. ⌜ (Wrote (now (out .entry)) (p .at) (itemBytes (pressOf p) (Placed c)) (now (out .exit)) (r .at)) × PressIs r (pressAfter (pressOf p) (Placed c)) ⌝ }
+fn put_character(out: &mut [u8], p: Writing, next: Position, c: Character) -> Writing
+    requires { ⌜ (p .at + length (commandsOf (positionOf (p .position)) c) ≤ length (now out)) × (OnPage (positionOf (p .position)) × PositionAt next c) ⌝ }
+    ensures { λ r. ⌜ (Wrote (now (out .entry)) (p .at) (itemBytes (writingOf p) (Placed c)) (now (out .exit)) (r .at)) × WritingIs r (writingAfter (writingOf p) (Placed c)) ⌝ }
 {
-    let to = put_commands(out, p.at, p.pen, next, c);
-    Press {
-        pen: next,
+    let to = put_commands(out, p.at, p.position, next, c);
+    Writing {
+        position: next,
         page: p.page,
         bop: p.bop,
         at: to,
@@ -128,15 +129,15 @@ fn put_character(out: &mut [u8], p: Press, next: Pen, c: Character) -> Press
 }
 
 // Writes a cut: ends the page, and starts the next.
-fn put_cut(out: &mut [u8], p: Press, next: Pen) -> Press
-    requires { ⌜ ((p .at + 10 ≤ length (now out)) × ((p .at < 2147483648) × (p .bop < 2147483648))) × ((p .page < 4294967295) × PenIs next newPen) ⌝ }
-    ensures { λ r. ⌜ (Wrote (now (out .entry)) (p .at) (itemBytes (pressOf p) Cut) (now (out .exit)) (r .at)) × PressIs r (pressAfter (pressOf p) Cut) ⌝ }
+fn put_cut(out: &mut [u8], p: Writing, next: Position) -> Writing
+    requires { ⌜ ((p .at + 10 ≤ length (now out)) × ((p .at < 2147483648) × (p .bop < 2147483648))) × ((p .page < 4294967295) × PositionIs next startPosition) ⌝ }
+    ensures { λ r. ⌜ (Wrote (now (out .entry)) (p .at) (itemBytes (writingOf p) Cut) (now (out .exit)) (r .at)) × WritingIs r (writingAfter (writingOf p) Cut) ⌝ }
 {
     let bop = number::put_byte(out, p.at, EOP);
     let page = p.page + 1;
     let to = put_bop(out, bop, page, p.bop as i32);
-    Press {
-        pen: next,
+    Writing {
+        position: next,
         page: page,
         bop: bop as u32,
         at: to,
@@ -144,12 +145,12 @@ fn put_cut(out: &mut [u8], p: Press, next: Pen) -> Press
 }
 
 // Writes an item.
-fn put_item(out: &mut [u8], p: Press, i: Item, ruler: &Ruler) -> Press
-    requires { ⌜ ((p .at + length (itemBytes (pressOf p) i) ≤ length (now out)) × ((p .at < 2147483648) × (p .bop < 2147483648))) × ((p .page < 4294967295) × (OnPage (penOf (p .pen)) × (validItem lowEnd i ≡ true))) ⌝ }
-    requires { ⌜ now ruler ≡ xTargets ⌝ }
-    ensures { λ r. ⌜ (Wrote (now (out .entry)) (p .at) (itemBytes (pressOf p) i) (now (out .exit)) (r .at)) × PressIs r (pressAfter (pressOf p) i) ⌝ }
+fn put_item(out: &mut [u8], p: Writing, i: Item, targets: &TargetTable) -> Writing
+    requires { ⌜ ((p .at + length (itemBytes (writingOf p) i) ≤ length (now out)) × ((p .at < 2147483648) × (p .bop < 2147483648))) × ((p .page < 4294967295) × (OnPage (positionOf (p .position)) × (validItem lowEnd i ≡ true))) ⌝ }
+    requires { ⌜ now targets ≡ xTargets ⌝ }
+    ensures { λ r. ⌜ (Wrote (now (out .entry)) (p .at) (itemBytes (writingOf p) i) (now (out .exit)) (r .at)) × WritingIs r (writingAfter (writingOf p) i) ⌝ }
 {
-    let next = pen::pen_after(i, ruler);
+    let next = position::position_after(i, targets);
     match i {
         Item::Placed(c) => put_character(out, p, next, c),
         Item::Cut => put_cut(out, p, next),
@@ -157,25 +158,25 @@ fn put_item(out: &mut [u8], p: Press, i: Item, ruler: &Ruler) -> Press
 }
 
 // Writes the items of a checked galley after the first BOP.
-fn put_items(g: &[u8], count: usize, out: &mut [u8]) -> Press
-    requires { ⌜ (accepted count ≡ lowOutcome (now g)) × (9 + length (itemsBytes firstPress (itemsOf New (now g))) ≤ length (now out)) ⌝ }
-    ensures { λ r. ⌜ (Wrote (now (out .entry)) 9 (itemsBytes firstPress (itemsOf New (now (g .entry)))) (now (out .exit)) (r .at)) × PressIs r (pressAll firstPress (itemsOf New (now (g .entry)))) ⌝ }
+fn put_items(g: &[u8], count: usize, out: &mut [u8]) -> Writing
+    requires { ⌜ (accepted count ≡ lowOutcome (now g)) × (9 + length (itemsBytes firstWriting (itemsOf New (now g))) ≤ length (now out)) ⌝ }
+    ensures { λ r. ⌜ (Wrote (now (out .entry)) 9 (itemsBytes firstWriting (itemsOf New (now (g .entry)))) (now (out .exit)) (r .at)) × WritingIs r (writingAfterAll firstWriting (itemsOf New (now (g .entry)))) ⌝ }
 {
-    let ruler = ruler::targets();
-    let mut p = press::first_press();
+    let targets = target_table::targets();
+    let mut p = writing::first_writing();
     let mut at: usize = 0;
     while at + field::END_FIELD < g.len() {
         let i = item::item_at(Form::New, g, at);
-        p = put_item(out, p, i, &ruler);
+        p = put_item(out, p, i, &targets);
         at += item::item_size(Form::New, i);
     }
     p
 }
 
-// Writes the pages of a checked galley; gives the press after the last EOP.
-pub fn put_pages(g: &[u8], count: usize, out: &mut [u8]) -> Press
+// Writes the pages of a checked galley; gives the writing after the last EOP.
+pub fn put_pages(g: &[u8], count: usize, out: &mut [u8]) -> Writing
     requires { ⌜ (accepted count ≡ lowOutcome (now g)) × (length (pagesBytes (itemsOf New (now g))) ≤ length (now out)) ⌝ }
-    ensures { λ r. ⌜ (Wrote (now (out .entry)) 0 (pagesBytes (itemsOf New (now (g .entry)))) (now (out .exit)) (r .at)) × (r .bop ≡ pressAll firstPress (itemsOf New (now (g .entry))) .bop) ⌝ }
+    ensures { λ r. ⌜ (Wrote (now (out .entry)) 0 (pagesBytes (itemsOf New (now (g .entry)))) (now (out .exit)) (r .at)) × (r .bop ≡ writingAfterAll firstWriting (itemsOf New (now (g .entry))) .bop) ⌝ }
 {
     put_bop(out, 0, 1, -1);
     let mut p = put_items(g, count, out);

@@ -1,7 +1,7 @@
 // What a file needs to know of its items before the first of them is written.
 use crate::page;
-use crate::pen;
-use crate::pen::Pen;
+use crate::position;
+use crate::position::Position;
 ghost use Rattle.galley_file.specs.declared.form.Form.the-variants.{New};
 use extents::Extents;
 use galley_file::character::Character;
@@ -9,7 +9,7 @@ use galley_file::form::Form;
 use galley_file::item;
 use galley_file::item::Item;
 use measure::Rsu;
-use measure::ruler;
+use measure::target_table;
 use octets::field;
 use octets::number;
 ghost use mathlib.Core.Path.{_≡_};
@@ -23,7 +23,8 @@ ghost use Rattle.galley_file.specs.Item.{validItem};
 ghost use Rattle.galley_file.specs.Galley.{itemsOf};
 ghost use Rattle.galley_check.specs.Low.{lowOutcome};
 ghost use Rattle.dvi.specs.Writer.{fontChange, move, commandsOf};
-ghost use Rattle.dvi_writer.specs.Pen.{fontIn, penOf, OnPage, PenIs, penPast, PenAt};
+ghost use Rattle.dvi.specs.FontOrNone.{fontOrNone};
+ghost use Rattle.dvi_writer.specs.Position.{positionOf, OnPage, PositionIs, positionAfter, PositionAt};
 ghost use Rattle.extents.specs.Extents.{withItem};
 ghost use Rattle.dvi_writer.specs.Plan.{itemLength, PlanIs};
 
@@ -50,7 +51,7 @@ fn none() -> Plan
 // The bytes of a font change.
 fn font_length(last: u8, font: u8) -> usize
     requires { ⌜ font < 120 ⌝ }
-    ensures { λ r. ⌜ (r ≡ length (fontChange (fontIn last) font)) × (r ≤ 5) ⌝ }
+    ensures { λ r. ⌜ (r ≡ length (fontChange (fontOrNone last) font)) × (r ≤ 5) ⌝ }
 {
     if last == font {
         0
@@ -73,20 +74,20 @@ fn move_length(m: Rsu) -> usize
     }
 }
 
-// The bytes of the commands that set c after the pen `last`; `next` is the pen at c.
-fn commands_length(last: Pen, next: Pen, c: Character) -> usize
-    requires { ⌜ OnPage (penOf last) × PenAt next c ⌝ }
-    ensures { λ r. ⌜ (r ≡ length (commandsOf (penOf last) c)) × (r ≤ 17) ⌝ }
+// The bytes of the commands that set c after the position `last`; `next` is the position at c.
+fn commands_length(last: Position, next: Position, c: Character) -> usize
+    requires { ⌜ OnPage (positionOf last) × PositionAt next c ⌝ }
+    ensures { λ r. ⌜ (r ≡ length (commandsOf (positionOf last) c)) × (r ≤ 17) ⌝ }
 {
     let x = next.x.less(last.x);
     let y = next.y.less(last.y);
     font_length(last.font, c.font) + move_length(x) + move_length(y) + HORZCHAR_LENGTH
 }
 
-// The bytes of an item after the pen `last`; `next` is the pen after it.
-fn item_length(last: Pen, next: Pen, i: Item) -> usize
-    requires { ⌜ (validItem lowEnd i ≡ true) × (OnPage (penOf last) × PenIs next (penPast i)) ⌝ }
-    ensures { λ r. ⌜ (r ≡ itemLength (penOf last) i) × (r ≤ 17) ⌝ }
+// The bytes of an item after the position `last`; `next` is the position after it.
+fn item_length(last: Position, next: Position, i: Item) -> usize
+    requires { ⌜ (validItem lowEnd i ≡ true) × (OnPage (positionOf last) × PositionIs next (positionAfter i)) ⌝ }
+    ensures { λ r. ⌜ (r ≡ itemLength (positionOf last) i) × (r ≤ 17) ⌝ }
 {
     match i {
         Item::Placed(c) => commands_length(last, next, c),
@@ -95,9 +96,9 @@ fn item_length(last: Pen, next: Pen, i: Item) -> usize
 }
 
 // The plan with one item more.
-fn with_item(p: Plan, last: Pen, next: Pen, i: Item) -> Plan
-    requires { ⌜ ((p .length ≤ 33554432) × (validItem lowEnd i ≡ true)) × (OnPage (penOf last) × PenIs next (penPast i)) ⌝ }
-    ensures { λ r. ⌜ (r .length ≡ p .length + itemLength (penOf last) i) × (r .extents ≡ withItem (p .extents) i) ⌝ }
+fn with_item(p: Plan, last: Position, next: Position, i: Item) -> Plan
+    requires { ⌜ ((p .length ≤ 33554432) × (validItem lowEnd i ≡ true)) × (OnPage (positionOf last) × PositionIs next (positionAfter i)) ⌝ }
+    ensures { λ r. ⌜ (r .length ≡ p .length + itemLength (positionOf last) i) × (r .extents ≡ withItem (p .extents) i) ⌝ }
 {
     let length = p.length + item_length(last, next, i);
     let extents = extents::with_item(p.extents, i);
@@ -112,13 +113,13 @@ pub fn plan_of(g: &[u8], count: usize) -> Plan
     requires { ⌜ accepted count ≡ lowOutcome (now g) ⌝ }
     ensures { λ r. ⌜ PlanIs r (itemsOf New (now (g .entry))) ⌝ }
 {
-    let ruler = ruler::targets();
+    let targets = target_table::targets();
     let mut p = none();
-    let mut last = pen::new_pen();
+    let mut last = position::start_position();
     let mut at: usize = 0;
     while at + field::END_FIELD < g.len() {
         let i = item::item_at(Form::New, g, at);
-        let next = pen::pen_after(i, &ruler);
+        let next = position::position_after(i, &targets);
         p = with_item(p, last, next, i);
         last = next;
         at += item::item_size(Form::New, i);

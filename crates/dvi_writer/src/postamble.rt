@@ -4,7 +4,7 @@ use extents::Extents;
 use extents::fonts;
 use extents::fonts::Fonts;
 use measure::Rsu;
-use measure::ruler;
+use measure::target_table;
 use octets::number;
 ghost use mathlib.Core.Path.{_≡_};
 ghost use Prim.Native.Nat.{_+_, _≤_, _<_};
@@ -39,8 +39,8 @@ fn sizes_of(e: Extents) -> Sizes
     requires { ⌜ Held e ⌝ }
     ensures { λ r. ⌜ (r .x .0 ≡ xTarget (e .x .0)) × (r .y .0 ≡ yTarget (e .height .0)) ⌝ }
 {
-    let ruler = ruler::targets();
-    let x = e.x.target(&ruler);
+    let targets = target_table::targets();
+    let x = e.x.target(&targets);
     let y = e.height.target();
     Sizes { x: x, y: y }
 }

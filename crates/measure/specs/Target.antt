@@ -1,7 +1,7 @@
 -- A character's x, and the targets of a place in rsu (document 01, "DVI").
 --     xOf         a character's x: the carriage, less 55 in a double size
 --     xTarget     the whole number nearest to 32,768 x / 3
---     xTargets    the ruler: the targets of the 3,295 places from -55 to 3,239
+--     xTargets    the table: the targets of the 3,295 places from -55 to 3,239
 --     yTarget     32,768 times the height
 --     Near        a number is nearest to a third of another
 use mathlib.Core.Bool.{Bool, true, false}
@@ -22,7 +22,7 @@ third (negsuc n) = negℤ (pos ((suc n + 1) / 3))
 unfoldable pub xTarget : ℤ → ℤ
 xTarget x = third (pos 32768 *ℤ x)
 
--- the place of entry k of the ruler, whose first is -55
+-- the place of entry k of the table, whose first is -55
 abbrev pub placeOf : ℕ → ℤ
 placeOf k = pos k -ℤ pos 55
 

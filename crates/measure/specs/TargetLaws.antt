@@ -68,7 +68,7 @@ target-least x h = omega (integers, target-parts x)
 pub target-greatest : (x : ℤ) → x ≤ℤ pos 3239 → xTarget x ≤ℤ pos 35378517
 target-greatest x h = omega (integers, target-parts x)
 
--- each entry of the ruler is the target of its place
+-- each entry of the table is the target of its place
 pub target-entry : (k : ℕ) → k < 3295 → getD xTargets k (pos 0) ≡ xTarget (placeOf k)
 unfolding xTargets
 target-entry k h = table-entry (λ (k : ℕ). xTarget (placeOf k)) (pos 0) 3295 k h

@@ -10,6 +10,7 @@ use Rattle.octets.specs.Field.{field, endField, startsField, startsEnd}
 use Rattle.octets.specs.Answer.{Result, refusal, written, ifRoom}
 use Rattle.measure.specs.Place.{directedBy, placeAt, carriageAt, heightAt}
 use Rattle.measure.specs.Target.{xOf, xTarget, yTarget}
+use Rattle.octets.specs.Transducer.{transduced}
 use Rattle.galley_file.specs.declared.form.Form.the-variants.{New}
 use Rattle.galley_file.specs.Character.{valid, characterBody, characterField, characterAt, isCharacter}
 use Rattle.galley_file.specs.declared.item.Item.{Item}
@@ -20,7 +21,7 @@ use Rattle.integers.specs.Parts.{eqZ, maxZ}
 use Rattle.extents.specs.FontMarks.{uses, usedFonts}
 use Rattle.extents.specs.Extents.{largest}
 use Rattle.dvi.specs.Command.{Y4}
-use Rattle.dvi.specs.Writer.{newPen, penAt, fontCommand, fontChange, shortest, move, commandsOf, bopBytes, firstPress, itemBytes, pressAfter, itemsBytes, pressAll, pagesBytes, nameOf, definition, definitionBytes, trailerBytes, postambleBytes, dviFile}
+use Rattle.dvi.specs.Writer.{startPosition, positionAt, fontCommand, fontChange, shortest, move, commandsOf, bopBytes, firstWriting, itemBytes, writingAfter, itemsBytes, writingAfterAll, pagesBytes, nameOf, definition, definitionBytes, trailerBytes, postambleBytes, dviFile}
 use Rattle.galley_check.specs.Low.{firstHigh, lowResult}
 use Rattle.dvi_writer.specs.Result.{dviResult}
 use Rattle.typesetter.specs.Code.{codeOf}
@@ -109,5 +110,5 @@ given (fileCase g r) = fileCase g (dviResult g 64)
 given (downCase m bs) = downCase m (move Y4 m)
 
 pub sheet : map given cases ≡ cases
-unfolding eqZ maxZ numberFrom twos signed bytes residue signedBytes widthOf field endField startsField startsEnd ifRoom directedBy placeAt carriageAt heightAt xOf xTarget yTarget valid characterBody characterField characterAt isCharacter fields galley isCut nextItem charactersOf readEnd reading readGalley firstHigh lowResult codeOf flashOf escapeOf leadOf instructionEffect codeEffect effectOf run readResult tapeResult newPen penAt fontCommand fontChange shortest move commandsOf bopBytes firstPress itemBytes pressAfter itemsBytes pressAll pagesBytes largest uses usedFonts nameOf definition definitionBytes trailerBytes postambleBytes dviFile dviResult
+unfolding eqZ maxZ numberFrom twos signed bytes residue signedBytes widthOf field endField startsField startsEnd ifRoom directedBy placeAt carriageAt heightAt xOf xTarget yTarget valid characterBody characterField characterAt isCharacter fields galley isCut nextItem charactersOf readEnd reading readGalley firstHigh lowResult codeOf flashOf escapeOf leadOf instructionEffect codeEffect effectOf run readResult tapeResult startPosition positionAt fontCommand fontChange shortest move commandsOf bopBytes firstWriting itemBytes writingAfter transduced pagesBytes largest uses usedFonts nameOf definition definitionBytes trailerBytes postambleBytes dviFile dviResult
 sheet = refl

@@ -2,7 +2,7 @@
 -- Assumes nothing.
 use mathlib.Core.Path.{_≡_, refl, sym, ap, subst, _∙_}
 use mathlib.Core.Bool.{Bool, true, false, cond}
-use mathlib.Core.List.{List, [], _∷_, _++_, append-assoc, append-nil}
+use mathlib.Core.List.{List, [], _∷_, _++_, foldl-append}
 use Prim.Native.Nat.{ℕ, _+_, _*_, _≤_, _<_}
 use native.Mathlib.Omega.{arith}
 use borrow.Author.Tests.{lt-ltb, le-ltb}
@@ -11,6 +11,8 @@ use lib.Seq.{sets}
 use Rattle.octets.specs.Answer.{accepted, refused, refusal, written, ifRoom, Gives, punchedTooLong, noTapeRoom}
 use Rattle.octets.specs.AnswerLaws.{room-refused, room-short, room-enough, gives}
 use Rattle.measure.specs.Place.{heightEnd}
+use Rattle.octets.specs.Transducer.{transduced}
+use Rattle.octets.specs.TransducerLaws.{transduced-append, transduced-more}
 use Rattle.galley_file.specs.declared.form.Form.the-variants.{New}
 use Rattle.galley_file.specs.declared.item.Item.{Item}
 use Rattle.galley_file.specs.Item.{validItem, itemSize, itemAt, WholeAt}
@@ -29,22 +31,6 @@ use Rattle.punch.specs.Punch.{itemsCodes, stateAfterAll, punched, ifShor
 use Rattle.octets.specs.Write.{sets-start, Put, put-named, put-none, put-then, put-length}
 use Rattle.octets.specs.Space.{Space}
 
--- ---- one item more
-
-pub codes-append : (is js : List Item) (s : State) → itemsCodes s (is ++ js) ≡ itemsCodes s is ++ itemsCodes (stateAfterAll s is) js
-unfolding itemsCodes stateAfterAll
-codes-append [] js s = refl
-codes-append (i ∷ is) js s = ap (λ (l : List ℕ). itemCodes s i ++ l) (codes-append is js (stateAfter s i)) ∙ sym (append-assoc (itemCodes s i) (itemsCodes (stateAfter s i) is) (itemsCodes (stateAfterAll (stateAfter s i) is) js))
-
-codes-more : (is : List Item) (i : Item) (s : State) → itemsCodes s (is ++ (i ∷ [])) ≡ itemsCodes s is ++ itemCodes (stateAfterAll s is) i
-unfolding itemsCodes
-codes-more is i s = codes-append is (i ∷ []) s ∙ ap (λ (l : List ℕ). itemsCodes s is ++ l) (append-nil (itemCodes (stateAfterAll s is) i))
-
-state-more : (is : List Item) (i : Item) (s : State) → stateAfterAll s (is ++ (i ∷ [])) ≡ stateAfter (stateAfterAll s is) i
-unfolding stateAfterAll
-state-more [] i s = refl
-state-more (j ∷ is) i s = state-more is i (stateAfter s j)
-
 -- ---- the pass
 
 pub short-galley : (g : List ℕ) (count : ℕ) → accepted count ≡ checkOutcome New g → length g ≤ 11534343
@@ -62,7 +48,7 @@ module _ (w : Bool) (g : List ℕ) where
     pub small : next ≤ 1100000 * at + 2
 
   pub punching-start : (count : ℕ) → accepted count ≡ checkOutcome New g → (first : List ℕ) (s : State) → s ≡ begun → Punching 0 first first 2 s
-  unfolding itemsCodes stateAfterAll
+  unfolding transduced
   punching-start count e first s q =
       record {
         done = [];
@@ -94,7 +80,7 @@ module _ (w : Bool) (g : List ℕ) where
 
       -- its codes follow those of the items behind
       longer : itemsCodes begun (c .done ++ (i ∷ [])) ≡ itemsCodes begun (c .done) ++ itemCodes s i
-      longer = codes-more (c .done) i begun ∙ ap (λ (x : State). itemsCodes begun (c .done) ++ itemCodes x i) (sym (c .state-is))
+      longer = transduced-more itemCodes stateAfter begun (c .done) i ∙ ap (λ (x : State). itemsCodes begun (c .done) ++ itemCodes x i) (sym (c .state-is))
 
       most : length (itemCodes s i) ≤ 1100000
       most = item-most s i (c .sound) punching-valid
@@ -113,7 +99,7 @@ module _ (w : Bool) (g : List ℕ) where
                   ap length longer,
                   length-append (itemsCodes begun (c .done)) (itemCodes s i),
                   ap (λ (l : List Item). length (itemsCodes begun l)) (onward .next .all),
-                  ap length (codes-append d r begun),
+                  ap length (transduced-append itemCodes stateAfter begun d r),
                   length-append (itemsCodes begun d) (itemsCodes (stateAfterAll begun d) r),
                 );
             counts = omega (arith, most, c .small, punching-inside, short);
@@ -126,7 +112,7 @@ module _ (w : Bool) (g : List ℕ) where
             midway = onward .next;
             same = put-length p ∙ c .same;
             put = put-named (sym longer) (put-then (c .put) p);
-            state-is = q ∙ ap (λ (x : State). stateAfter x i) (c .state-is) ∙ sym (state-more (c .done) i begun);
+            state-is = q ∙ ap (λ (x : State). stateAfter x i) (c .state-is) ∙ sym (foldl-append stateAfter begun (c .done) (i ∷ []));
             sound = subst Sound (sym q) (after-sound s i punching-valid);
             small = omega (arith, p .place, most, c .small, size-least New i);
           }

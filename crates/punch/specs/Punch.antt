@@ -6,10 +6,11 @@
 use Prim.Native.Nat.{ℕ, _≤_}
 use mathlib.Core.Path.{_≡_}
 use mathlib.Core.Bool.{cond}
-use mathlib.Core.List.{List, [], _∷_, _++_}
+use mathlib.Core.List.{List, [], _∷_, _++_, foldl}
 use lib.Dec.{ltb}
 use lib.ListN.{length, take}
 use Rattle.octets.specs.Answer.{Outcome, accepted, Result, refusal, written, ifRoom, punchedTooLong, noTapeRoom}
+use Rattle.octets.specs.Transducer.{transduced}
 use Rattle.galley_file.specs.declared.form.Form.the-variants.{New}
 use Rattle.galley_file.specs.declared.item.Item.{Item}
 use Rattle.galley_check.specs.Result.{checkedResult}
@@ -19,13 +20,11 @@ use Rattle.punch_codes.specs.Codes.{startCodes, begun, itemCodes, stateAfter}
 
 -- ---- the tape
 
-unfoldable pub itemsCodes : State → List Item → List ℕ
-itemsCodes s [] = []
-itemsCodes s (i ∷ is) = itemCodes s i ++ itemsCodes (stateAfter s i) is
+abbrev pub itemsCodes : State → List Item → List ℕ
+itemsCodes s is = transduced itemCodes stateAfter s is
 
-unfoldable pub stateAfterAll : State → List Item → State
-stateAfterAll s [] = s
-stateAfterAll s (i ∷ is) = stateAfterAll (stateAfter s i) is
+abbrev pub stateAfterAll : State → List Item → State
+stateAfterAll s is = foldl stateAfter s is
 
 -- "end with stop"
 unfoldable pub punched : List Item → List ℕ

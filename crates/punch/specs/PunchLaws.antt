@@ -23,6 +23,7 @@ use Rattle.measure.specs.declared.Units.{Units}
 use Rattle.measure.specs.declared.Quanta.{Quanta}
 use Rattle.measure.specs.Place.{carriageEnd, heightEnd}
 use Rattle.measure.specs.PlaceLaws.{InRange}
+use Rattle.octets.specs.Transducer.{transduced}
 use Rattle.galley_file.specs.declared.form.Form.the-variants.{New}
 use Rattle.galley_file.specs.declared.item.Item.{Item}
 use Rattle.galley_file.specs.declared.item.Item.the-variants.{Placed, Cut}
@@ -48,7 +49,7 @@ use Rattle.punch.specs.Punch.{itemsCodes, stateAfterAll, punched, ifShor
 
 pub items-reach : (is : List Item) (m : Modes) (n : ℕ) (u : Units) (h : Quanta) → AllValid heightEnd is → InRange carriageEnd (u .0) → InRange heightEnd (h .0)
     → Reach (ready m n u h) (itemsCodes (ready m n u h) is) is (stateAfterAll (ready m n u h) is)
-unfolding itemsCodes stateAfterAll stateAfter setFor
+unfolding transduced stateAfter setFor
 items-reach [] m n u h nil i j = reach-none
 items-reach (Placed c ∷ is) m n u h (more v vs) i j =
     let p = valid-parts v in
@@ -69,7 +70,7 @@ pub record AtWork (s : State) : Type 0 where
   pub stopped-is : s .stopped ≡ false
 
 at-work : (is : List Item) (m : Modes) (n : ℕ) (u : Units) (h : Quanta) → AtWork (stateAfterAll (ready m n u h) is)
-unfolding stateAfterAll stateAfter setFor
+unfolding stateAfter setFor
 at-work [] m n u h = record { machine-is = refl; initialized-is = refl; cut-is = refl; stopped-is = refl }
 at-work (Placed c ∷ is) m n u h = let t = setFor (ready m n u h) c in at-work is (t .modes) (t .size) (t .carriage) (t .height)
 at-work (Cut ∷ is) m n u h = let t = stateAfter (ready m n u h) Cut in at-work is (t .modes) (t .size) (t .carriage) (t .height)

@@ -11,6 +11,7 @@ use mathlib.Core.Option.{Option, none, some}
 use Prim.Native.Nat.{ℕ}
 use Rattle.octets.specs.Field.{endField}
 use Rattle.measure.specs.Place.{heightEnd}
+use Rattle.octets.specs.Transducer.{transduced}
 use Rattle.galley_file.specs.declared.form.Form.the-variants.{New}
 use Rattle.galley_file.specs.declared.item.Item.{Item}
 use Rattle.galley_file.specs.Item.{charactersOf}
@@ -64,7 +65,7 @@ pub data Since : List Call → Type 0 where
   wrong : {machine : ℕ} {cs : List Call} → machineOf machine ≡ none → Since cs → Since (starting machine ∷ cs)
 
 sent-since : {r : Running} {bs : List ℕ} → Sent r bs → {cs : List Call} → Since cs → Sent (tapeAfter r cs) (bs ++ output r cs)
-unfolding tapeAfter output startOf
+unfolding transduced startOf
 sent-since s done = same-out s
 sent-since {r} {bs} s (later {c} {cs} l ls) =
     subst (Sent (tapeAfter (given r c .tape) cs)) (append-assoc bs (bytesOf (given r c .result)) (output (given r c .tape) cs)) (sent-since (sent-later s l) ls)
@@ -88,6 +89,6 @@ sent-out (closed-with is n v e i) =
 -- "After every piece, accepted or refused, they are those of the characters gone out so far, over all pages"; "starting anew clears them"
 pub extents-out : (r : Running) (machine : ℕ) (kind : Machine) → machineOf machine ≡ some kind → {cs : List Call} → Since cs
     → ExtentsOut (tapeAfter r (starting machine ∷ cs) .extents) (output r (starting machine ∷ cs))
-unfolding tapeAfter output startOf fields charactersOf extentsOf withCharacters
+unfolding transduced startOf fields charactersOf extentsOf withCharacters
 extents-out r machine kind named {cs} s =
     sent-out (subst (λ (x : Replied). Sent (tapeAfter (x .tape) cs) (bytesOf (x .result) ++ output (x .tape) cs)) (sym (ap (startOn r) named)) (sent-since (sent {r = fresh kind} [] nil refl) s))

@@ -20,6 +20,8 @@ use lib.Dec.{ltb}
 use lib.ListN.{length, length-append}
 use Rattle.octets.specs.Answer.{Result, refusal, written, outcome, numberOf, placeOf, tapeTooLong, notStarted}
 use Rattle.octets.specs.Field.{endField}
+use Rattle.octets.specs.Transducer.{transduced}
+use Rattle.octets.specs.TransducerLaws.{transduced-append}
 use Rattle.galley_file.specs.declared.form.Form.the-variants.{New}
 use Rattle.galley_file.specs.declared.character.Character.{Character}
 use Rattle.galley_file.specs.declared.item.Item.{Item}
@@ -44,7 +46,7 @@ use Rattle.running.specs.declared.Phase.the-variants.{AtRest, Open, Failed}
 use Rattle.running.specs.declared.Running.{Running}
 use Rattle.running.specs.Running.{Replied, failing, putting, isSound, fresh, startOn, startOf, grown, pieceEnds, feedWithin, feedOpen, feedOf, atRest, closeOpen, closeOf}
 use Rattle.running.specs.RunningLaws.{SoundTape, tape-sound, feed-phase, feed-long, feed-fits, piece-whole, close-phase, close-cut, close-unstopped, close-whole}
-use Rattle.session_laws.specs.Session.{Call, starting, piece, closing, given, tapeAfter, bytesOf, output, Made, new, by-call, withoutRoom, Piece, joined, pieces, session, RoomFor, Roomy, none, more}
+use Rattle.session_laws.specs.Session.{Call, starting, piece, closing, given, tapeGiven, tapeAfter, bytesOf, bytesGiven, output, Made, new, by-call, withoutRoom, Piece, joined, pieces, session, RoomFor, Roomy, none, more}
 use Rattle.session_laws.specs.SessionLaws.{Later, a-piece, AllLater, Repeated, repeats, Stuck, failed-at, resting, unsound, Kind, roomless, still, keeps, adds, finishes, kind-of, stuck-gives, without-room}
 
 never : {t : State} {n place : ℕ} {X : Type 0} → Fault n place ≡ Reached t → X
@@ -149,7 +151,7 @@ module _ (kind : Machine) where
       go (Fault n place) q = never (sym (ap (λ (x : Run). x .ending) (run-append (start kind) 0 xs ys) ∙ ap (λ (x : Ending). goOn (itemsOn kind xs) x (λ v. run v (0 + length xs) ys) .ending) q) ∙ h)
 
   pub fed-all : {r : Running} {xs : List ℕ} → Stands r xs → (ps : List Piece) → length (xs ++ joined ps) ≤ maxTape → Roomy kind xs ps → FedAll r xs ps
-  unfolding joined pieces tapeAfter output
+  unfolding joined pieces transduced
   fed-all {r} {xs} s [] fits none =
       let q = append-nil xs in
       record { stands = subst (Stands r) (sym q) s; out = λ u. append-nil (fields New (itemsOn kind xs)) ∙ ap (λ (l : List ℕ). fields New (itemsOn kind l)) (sym q) }
@@ -219,13 +221,6 @@ module _ (kind : Machine) where
   stands-open (going {xs} {t = u} e short) {t} h = let q : u ≡ t = (let w : Reached u ≡ Reached t = sym e ∙ h in cc) in ap (goingAt xs) q
   stands-open (broken e h) k = never (sym h ∙ k)
 
-pub output-append : (r : Running) (cs ds : List Call) → output r (cs ++ ds) ≡ output r cs ++ output (tapeAfter r cs) ds
-unfolding output tapeAfter
-output-append r [] ds = refl
-output-append r (c ∷ cs) ds =
-    ap (λ (l : List ℕ). bytesOf (given r c .result) ++ l) (output-append (given r c .tape) cs ds)
-    ∙ sym (append-assoc (bytesOf (given r c .result)) (output (given r c .tape) cs) (output (tapeAfter (given r c .tape) cs) ds))
-
 -- a start on a machine of this number of fonts, and pieces within the limit, with room for each
 module _ (r : Running) (machine : ℕ) (kind : Machine) (named : machineOf machine ≡ some kind) (ps : List Piece) (short : length (joined ps) ≤ maxTape) (roomy : Roomy kind [] ps) where
   abbrev fedTape : Running
@@ -239,12 +234,11 @@ module _ (r : Running) (machine : ℕ) (kind : Machine) (named : machineOf machi
   all-fed = fed-all kind (fresh-stands kind) ps short roomy
 
   pub after-pieces : Stands kind fedTape (joined ps)
-  unfolding tapeAfter
   after-pieces = subst (λ (x : Replied). Stands kind (tapeAfter (x .tape) (pieces ps)) (joined ps)) (sym begun) (all-fed .stands)
 
   -- "On a fault, earlier pieces' fields are out"
   pub earlier-out : {t : State} → run (start kind) 0 (joined ps) .ending ≡ Reached t → output r (starting machine ∷ pieces ps) ≡ fields New (itemsOn kind (joined ps))
-  unfolding output run fields
+  unfolding transduced run fields
   earlier-out h = ap (λ (x : Replied). bytesOf (x .result) ++ output (x .tape) (pieces ps)) begun ∙ all-fed .out h
 
   -- "1 at place 0 as soon as the total passes the limit"
@@ -267,10 +261,10 @@ module _ (r : Running) (machine : ℕ) (kind : Machine) (named : machineOf machi
     pub galley-is : (g : List ℕ) → tapeResult (joined ps) machine whole ≡ written g → output r (session machine ps room) ≡ g
 
   whole-output : (room : ℕ) {y : Result} → Final kind (joined ps) (closeOf fedTape room .result) y → (g : List ℕ) → y ≡ written g → output r (session machine ps room) ≡ g
-  unfolding session output
+  unfolding session transduced
   whole-output room f g e =
       let k = f .galley-is g e in
-      output-append r (starting machine ∷ pieces ps) (closing room ∷ [])
+      transduced-append bytesGiven tapeGiven r (starting machine ∷ pieces ps) (closing room ∷ [])
       ∙ (λ i. earlier-out (k .1 .1) i ++ append-nil (bytesOf (closeOf fedTape room .result)) i)
       ∙ k .0
 

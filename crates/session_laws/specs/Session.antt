@@ -1,8 +1,8 @@
 -- Sessions: calls on a running tape, one after another (document 02, "From the tape drive").
 --     Call          a start, a piece or the close, and given what it gives
---     tapeAfter     the running tape after some calls
+--     tapeAfter     the running tape after some calls, and tapeGiven after one
 --     results       what they give, one after another
---     output        the bytes that they write, joined
+--     output        the bytes that they write, joined, and bytesGiven those of one
 --     Made          a running tape that these calls alone have made
 --     withoutRoom   the calls of a session that were not refused for room
 --     Piece         some bytes of a tape and the room lent with them; joined, the tape that pieces are cut from
@@ -11,10 +11,11 @@
 use Prim.Native.Nat.{ℕ, _+_, _≤_}
 use mathlib.Core.Path.{_≡_}
 use mathlib.Core.Bool.{Bool, false, cond}
-use mathlib.Core.List.{List, [], _∷_, _++_}
+use mathlib.Core.List.{List, [], _∷_, _++_, foldl}
 use lib.Dec.{eqb}
 use lib.ListN.{length}
 use Rattle.octets.specs.Answer.{Result, refusal, written, noGalleyRoom}
+use Rattle.octets.specs.Transducer.{transduced}
 use Rattle.galley_file.specs.declared.form.Form.the-variants.{New}
 use Rattle.galley_file.specs.Galley.{fields}
 use Rattle.typesetter.specs.declared.code.Machine.{Machine}
@@ -36,9 +37,11 @@ given r (starting machine) = startOf r machine
 given r (piece bs room) = feedOf r bs room
 given r (closing room) = closeOf r room
 
-unfoldable pub tapeAfter : Running → List Call → Running
-tapeAfter r [] = r
-tapeAfter r (c ∷ cs) = tapeAfter (given r c .tape) cs
+abbrev pub tapeGiven : Running → Call → Running
+tapeGiven r c = given r c .tape
+
+abbrev pub tapeAfter : Running → List Call → Running
+tapeAfter r cs = foldl tapeGiven r cs
 
 unfoldable pub results : Running → List Call → List Result
 results r [] = []
@@ -48,9 +51,11 @@ abbrev pub bytesOf : Result → List ℕ
 bytesOf (refusal n place) = []
 bytesOf (written bs) = bs
 
-unfoldable pub output : Running → List Call → List ℕ
-output r [] = []
-output r (c ∷ cs) = bytesOf (given r c .result) ++ output (given r c .tape) cs
+abbrev pub bytesGiven : Running → Call → List ℕ
+bytesGiven r c = bytesOf (given r c .result)
+
+abbrev pub output : Running → List Call → List ℕ
+output r cs = transduced bytesGiven tapeGiven r cs
 
 -- "one that these calls alone have made"
 pub data Made : Running → Type 0 where

@@ -17,6 +17,7 @@ use lib.ListN.{length}
 use Rattle.octets.specs.Answer.{Result, refusal, written, after, noGalleyRoom, notStarted}
 use Rattle.octets.specs.Field.{endField}
 use Rattle.measure.specs.Place.{heightEnd}
+use Rattle.octets.specs.Transducer.{transduced}
 use Rattle.galley_file.specs.declared.form.Form.the-variants.{New}
 use Rattle.galley_file.specs.declared.item.Item.{Item}
 use Rattle.galley_file.specs.Galley.{AllValid, fields}
@@ -126,7 +127,7 @@ room-writes (refusal n place) e = refl
 room-writes (written bs) e = no-room e
 
 pub without-room : (r : Running) (cs : List Call) → Without r cs
-unfolding tapeAfter output results withoutRoom withoutRooms
+unfolding transduced results withoutRoom withoutRooms
 without-room r [] = record { tape-is = refl; output-is = refl; results-are = refl }
 without-room r (c ∷ cs) = go (isRoom (given r c .result)) refl (without-room (given r c .tape) cs)
   where
@@ -202,7 +203,7 @@ pub record Repeated (r : Running) (cs : List Call) (n place : ℕ) : Type 0 wher
   pub output-is : output r cs ≡ []
 
 stuck-all : {r : Running} {n place : ℕ} → Stuck r n place → {cs : List Call} → AllLater cs → Repeated r cs n place
-unfolding tapeAfter results output repeated
+unfolding results transduced repeated
 stuck-all s done = record { tape-is = refl; results-are = refl; output-is = refl }
 stuck-all {r} {n} {place} s (then {c} {cs} l ls) =
     let g = stuck-gives s l in

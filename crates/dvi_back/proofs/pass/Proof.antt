@@ -29,11 +29,11 @@ use Rattle.dvi_back.proofs.pass.Statement.{statement}
 use Rattle.dvi_back.proofs.pass.Tie as tie
 
 abbrev Inv-loop : tie.InvT-loop
-Inv-loop dvi widths out₀ writing ruler stack₀ q₀ at₀ g₀ out stack q at g =
+Inv-loop dvi widths out₀ writing targets stack₀ q₀ at₀ g₀ out stack q at g =
     (ps : List PlacedMark) × (Standing placedAt widths dvi stack q at ps × Tallied writing out₀ out (makes nothing ps) g)
 
 abbrev μ-loop : tie.MeasureT-loop
-μ-loop dvi widths out₀ writing ruler stack₀ q₀ at₀ g₀ out stack q at g = length dvi - at
+μ-loop dvi widths out₀ writing targets stack₀ q₀ at₀ g₀ out stack q at g = length dvi - at
 
 -- what one step says of the file
 module _ (c : tie.After-step Inv-loop μ-loop) where

@@ -3,7 +3,7 @@
 use native.Mathlib.Omega.{arith}
 use borrow.Author.Needs.{needs}
 use Rattle.octets.specs.Write.{length-wrote}
-use Rattle.dvi.specs.Writer.{firstPress}
+use Rattle.dvi.specs.Writer.{firstWriting}
 use Rattle.dvi.specs.WriterLaws.{itemsBytes-most, length-pages, length-file}
 use Rattle.galley_file.specs.declared.form.Form.the-variants.{New}
 use Rattle.galley_file.specs.Galley.{itemsOf}
@@ -27,7 +27,7 @@ put-postamble-requires c κs =
       holds _ is v (s .pre .1 .0),
       (
         omega (arith, s .pre .1 .1, post-room _ is v (s .pre .1 .0) _ _ _ _ (p .0) (p .1), length-wrote (p .0)),
-        omega (arith, pst-is _ is v (s .pre .1 .0) _ _ _ _ (p .0) (p .1), length-pages is, itemsBytes-most firstPress is, few _ _ (s .pre .0)),
+        omega (arith, pst-is _ is v (s .pre .1 .0) _ _ _ _ (p .0) (p .1), length-pages is, itemsBytes-most firstWriting is, few _ _ (s .pre .0)),
       ),
     )
 

@@ -6,7 +6,7 @@ use native.Mathlib.Omega.{arith}
 use borrow.Author.Needs.{needs}
 use lib.ListN.{length}
 use Rattle.octets.specs.AnswerLaws.{gives}
-use Rattle.dvi.specs.Writer.{firstPress, dviFile}
+use Rattle.dvi.specs.Writer.{firstWriting, dviFile}
 use Rattle.dvi.specs.WriterLaws.{itemsBytes-most}
 use Rattle.galley_file.specs.declared.form.Form.the-variants.{New}
 use Rattle.galley_file.specs.Galley.{itemsOf}
@@ -18,7 +18,7 @@ use Rattle.dvi_writer.proofs.write_checked.Tie as tie
 small : (c : tie.After-plan-of) → c .plan-of .result .length ≤ 17825792
 small c =
     let s = c .before .before .before in
-    omega (arith, c .plan-of .ensures .length-is, itemsBytes-most firstPress (itemsOf New (s .args .g .now)), few _ _ (s .pre))
+    omega (arith, c .plan-of .ensures .length-is, itemsBytes-most firstWriting (itemsOf New (s .args .g .now)), few _ _ (s .pre))
 
 needed-is : (c : tie.After-count) → 36 + c .before .before .plan-of .result .length + 14 * c .count .result ≡ length (dviFile (itemsOf New (c .before .before .before .before .before .args .g .now)))
 needed-is c = omega (arith, c .count .ensures .0, file-length _ _ (c .before .before .plan-of .ensures) (all-low _ _ (c .before .before .before .before .before .pre)))

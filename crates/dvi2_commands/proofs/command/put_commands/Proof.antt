@@ -10,7 +10,7 @@ use Rattle.galley_file.specs.CharacterLaws.{valid-parts}
 use Rattle.dvi2.specs.Command.{RIGHT1, DOWN1}
 use Rattle.dvi2.specs.Writer.{move, commandsOf}
 use Rattle.dvi2.specs.WriterLaws.{fontChange-most, move-most}
-use Rattle.dvi2_commands.specs.Pen.{penOf}
+use Rattle.dvi2_commands.specs.Position.{positionOf}
 use Rattle.octets.specs.PutIfRoomLaws.{putIfRoom-then, putIfRoom-named, putIfRoom-next}
 use Rattle.dvi2_commands.proofs.command.put_commands.Statement.{statement}
 use Rattle.dvi2_commands.proofs.command.put_commands.Tie as tie
@@ -40,7 +40,7 @@ same-length : tie.Need-same-length
 same-length c = search needs
 
 returns : tie.Need-returns
-unfolding commandsOf penOf
+unfolding commandsOf positionOf
 returns c =
     let f : SFits w32 (c .before .before .before .before .before .before .before .before .before .before .before .before .before .before .before .before .before .right-to .result) = search needs in
     let g : SFits w32 (c .before .before .before .before .before .before .before .before .before .before .before .before .before .before .before .before .down-to .result) = search needs in

@@ -7,7 +7,7 @@ use borrow.Author.Needs.{needs}
 use Rattle.dvi2.specs.Writer.{fontCommands}
 use Rattle.dvi2.specs.WriterLaws.{length-definition}
 use Rattle.octets.specs.PutIfRoomLaws.{putIfRoom-none, putIfRoom-then, putIfRoom-named}
-use Rattle.dvi2_commands.proofs.Pens.{same-font, other-font}
+use Rattle.dvi2_commands.proofs.Positions.{same-font, other-font}
 use Rattle.dvi2_commands.proofs.font.put_font.Statement.{statement}
 use Rattle.dvi2_commands.proofs.font.put_font.Tie as tie
 

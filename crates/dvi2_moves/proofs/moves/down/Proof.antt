@@ -13,7 +13,7 @@ use Rattle.integers.specs.Parts.{plain, same-bits, returned}
 use Rattle.dvi2.specs.Writer.{widthOf}
 use Rattle.dvi2_reading.specs.Reading.{someBelow, validIn, isDown, pageStateAfter, inPage, go}
 use Rattle.dvi2_reading.specs.Reading as R
-use Rattle.dvi2_commands.specs.Pen.{fontIn}
+use Rattle.dvi.specs.FontOrNone.{fontOrNone}
 use Rattle.dvi2_state.specs.Page.{downBegins}
 use Rattle.dvi2_moves.proofs.Rights.{d-not, d-found, d-none, d-bad, d-go, zero-no, some-move, down-fits, clash}
 use borrow.Author.Needs.{needs}
@@ -39,7 +39,7 @@ returns c =
     let p = st .pre in
     let fx : SFits w32 (a .h .x) = search needs in
     let fy : SFits w32 (a .h .y) = search needs in
-    λ is l. d-found (a .s .now) (a .at) (a .k) (a .h) (p .0 .0) (p .1 .0 .0) (p .1 .0 .1) (p .1 .1) is l (p .0 .1) (sym (c .before .before .before .before .before .before .before-down .ensures) ∙ c .before .before .before .before .before .if1 .taken) (sym (c .before .before .before .before .valid-in .ensures ∙ ap (validIn (fontIn (a .h .font))) (plain fx)) ∙ c .before .before .before .if2 .taken) (c .before .before .if3 .taken) (sym (c .before .may-begin-down .ensures ∙ ap (λ (z : ℤ). someBelow 1000001 (downBegins (drop (a .at) (a .s .now)) z)) (plain fy)) ∙ c .if4 .taken)
+    λ is l. d-found (a .s .now) (a .at) (a .k) (a .h) (p .0 .0) (p .1 .0 .0) (p .1 .0 .1) (p .1 .1) is l (p .0 .1) (sym (c .before .before .before .before .before .before .before-down .ensures) ∙ c .before .before .before .before .before .if1 .taken) (sym (c .before .before .before .before .valid-in .ensures ∙ ap (validIn (fontOrNone (a .h .font))) (plain fx)) ∙ c .before .before .before .if2 .taken) (c .before .before .if3 .taken) (sym (c .before .may-begin-down .ensures ∙ ap (λ (z : ℤ). someBelow 1000001 (downBegins (drop (a .at) (a .s .now)) z)) (plain fy)) ∙ c .if4 .taken)
 
 returns-2 : tie.Need-returns-2
 returns-2 c =
@@ -48,7 +48,7 @@ returns-2 c =
     let p = st .pre in
     let fx : SFits w32 (a .h .x) = search needs in
     let fy : SFits w32 (a .h .y) = search needs in
-    λ is l. d-none (a .s .now) (a .at) (a .k) (a .h) (p .0 .0) (p .1 .0 .0) (p .1 .0 .1) (p .1 .1) is l (p .0 .1) (sym (c .before .before .before .before .before .before .before-down .ensures) ∙ c .before .before .before .before .before .if1 .taken) (sym (c .before .before .before .before .valid-in .ensures ∙ ap (validIn (fontIn (a .h .font))) (plain fx)) ∙ c .before .before .before .if2 .taken) (c .before .before .if3 .taken) (sym (c .before .may-begin-down .ensures ∙ ap (λ (z : ℤ). someBelow 1000001 (downBegins (drop (a .at) (a .s .now)) z)) (plain fy)) ∙ c .if4 .left)
+    λ is l. d-none (a .s .now) (a .at) (a .k) (a .h) (p .0 .0) (p .1 .0 .0) (p .1 .0 .1) (p .1 .1) is l (p .0 .1) (sym (c .before .before .before .before .before .before .before-down .ensures) ∙ c .before .before .before .before .before .if1 .taken) (sym (c .before .before .before .before .valid-in .ensures ∙ ap (validIn (fontOrNone (a .h .font))) (plain fx)) ∙ c .before .before .before .if2 .taken) (c .before .before .if3 .taken) (sym (c .before .may-begin-down .ensures ∙ ap (λ (z : ℤ). someBelow 1000001 (downBegins (drop (a .at) (a .s .now)) z)) (plain fy)) ∙ c .if4 .left)
 
 add-signed-at : tie.Need-add-signed-at
 add-signed-at c = search needs
@@ -109,8 +109,8 @@ returns-5 c =
     let d : isDown (a .h .y +ℤ signedAt (a .k) (a .at + 1) (a .s .now)) ≡ true = (sym (c .before .is-down .ensures ∙ ap isDown t) ∙ c .if7 .taken) in
     let ey = ap (λ (z : ℤ). toZ w32 (ofZ w32 z)) t ∙ plain (down-fits (a .h .y +ℤ signedAt (a .k) (a .at + 1) (a .s .now)) d) in
     λ is l.
-    (λ i. go (inPage (record { items = is; stage = R.lowered; pen = record { font = fontIn (a .h .font); x = plain fx i; y = ey i } })) (a .k))
-    ∙ sym (d-go (a .s .now) (a .at) (a .k) (a .h) (p .0 .0) (p .1 .0 .0) (p .1 .0 .1) (p .1 .1) is l (p .0 .1) (sym (c .before .before .before .before .before .before .before .before .before .before .before .before-down .ensures) ∙ c .before .before .before .before .before .before .before .before .before .before .if1 .taken) (sym (c .before .before .before .before .before .before .before .before .before .valid-in .ensures ∙ ap (validIn (fontIn (a .h .font))) (plain fx)) ∙ c .before .before .before .before .before .before .before .before .if2 .taken) (omega (arith, c .before .before .before .before .before .before .before .if3 .left)) (λ i. c .before .before .before .before .before .before .before .before .before .before .before .before .before .before .shared-slice-known .given i .fits)
+    (λ i. go (inPage (record { items = is; stage = R.lowered; position = record { font = fontOrNone (a .h .font); x = plain fx i; y = ey i } })) (a .k))
+    ∙ sym (d-go (a .s .now) (a .at) (a .k) (a .h) (p .0 .0) (p .1 .0 .0) (p .1 .0 .1) (p .1 .1) is l (p .0 .1) (sym (c .before .before .before .before .before .before .before .before .before .before .before .before-down .ensures) ∙ c .before .before .before .before .before .before .before .before .before .before .if1 .taken) (sym (c .before .before .before .before .before .before .before .before .before .valid-in .ensures ∙ ap (validIn (fontOrNone (a .h .font))) (plain fx)) ∙ c .before .before .before .before .before .before .before .before .if2 .taken) (omega (arith, c .before .before .before .before .before .before .before .if3 .left)) (λ i. c .before .before .before .before .before .before .before .before .before .before .before .before .before .before .shared-slice-known .given i .fits)
     (ap widthOf (sym m) ∙ sym (c .before .before .before .before .before .width-of .ensures .0) ∙ c .before .before .before .before .if5 .left)
     (some-move _ (λ e. c .before .before .before .if6 .left (ap (ofZ w32) (c .before .before .before .before .before .before .signed-at .ensures ∙ e)))) d)
 
@@ -132,7 +132,7 @@ returns-7 c =
     let p = st .pre in
     let fx : SFits w32 (a .h .x) = search needs in
     let fy : SFits w32 (a .h .y) = search needs in
-    λ is l. d-not (a .s .now) (a .at) (a .k) (a .h) (p .0 .0) (p .1 .0 .0) (p .1 .0 .1) (p .1 .1) is l (p .0 .1) (λ e v. clash _ v (sym (c .before .valid-in .ensures ∙ ap (validIn (fontIn (a .h .font))) (plain fx)) ∙ c .if2 .left))
+    λ is l. d-not (a .s .now) (a .at) (a .k) (a .h) (p .0 .0) (p .1 .0 .0) (p .1 .0 .1) (p .1 .1) is l (p .0 .1) (λ e v. clash _ v (sym (c .before .valid-in .ensures ∙ ap (validIn (fontOrNone (a .h .font))) (plain fx)) ∙ c .if2 .left))
 
 returns-8 : tie.Need-returns-8
 returns-8 c =

@@ -6,7 +6,7 @@ use mir.Syntax.{w32}
 use mir.Val.{SFits}
 use Rattle.integers.specs.Parts.{plain}
 use Rattle.dvi2_reading.specs.Reading.{validIn, pageStateAfter}
-use Rattle.dvi2_commands.specs.Pen.{fontIn}
+use Rattle.dvi.specs.FontOrNone.{fontOrNone}
 use Rattle.dvi2_moves.proofs.Rights.{p-not, p-bad, p-short, p-go, clash}
 use borrow.Author.Needs.{needs}
 use Rattle.dvi2_moves.proofs.moves.put.Statement.{statement}
@@ -27,7 +27,7 @@ returns c =
     let a = st .args in
     let p = st .pre in
     let fx : SFits w32 (a .h .x) = search needs in
-    λ is l. p-short (a .s .now) (a .at) (a .h) (p .0) (p .1) is l (sym (c .before .before .before .before .before-put .ensures) ∙ c .before .before .before .if1 .taken) (sym (c .before .before .valid-in .ensures ∙ ap (validIn (fontIn (a .h .font))) (plain fx)) ∙ c .before .if2 .taken) (c .if3 .taken)
+    λ is l. p-short (a .s .now) (a .at) (a .h) (p .0) (p .1) is l (sym (c .before .before .before .before .before-put .ensures) ∙ c .before .before .before .if1 .taken) (sym (c .before .before .valid-in .ensures ∙ ap (validIn (fontOrNone (a .h .font))) (plain fx)) ∙ c .before .if2 .taken) (c .if3 .taken)
 
 add-c : tie.Need-add-c
 add-c c = search needs
@@ -58,7 +58,7 @@ returns-4 c =
     let a = st .args in
     let p = st .pre in
     let fx : SFits w32 (a .h .x) = search needs in
-    λ is l. p-go (a .s .now) (a .at) (a .h) (p .0) (p .1) is l (sym (c .before .before .before .before .before .before .before .before-put .ensures) ∙ c .before .before .before .before .before .before .if1 .taken) (sym (c .before .before .before .before .before .valid-in .ensures ∙ ap (validIn (fontIn (a .h .font))) (plain fx)) ∙ c .before .before .before .before .if2 .taken) (omega (arith, c .before .before .before .if3 .left)) (omega (arith, c .before .if4 .left)) (omega (arith, c .if5 .left))
+    λ is l. p-go (a .s .now) (a .at) (a .h) (p .0) (p .1) is l (sym (c .before .before .before .before .before .before .before .before-put .ensures) ∙ c .before .before .before .before .before .before .if1 .taken) (sym (c .before .before .before .before .before .valid-in .ensures ∙ ap (validIn (fontOrNone (a .h .font))) (plain fx)) ∙ c .before .before .before .before .if2 .taken) (omega (arith, c .before .before .before .if3 .left)) (omega (arith, c .before .if4 .left)) (omega (arith, c .if5 .left))
 
 returns-5 : tie.Need-returns-5
 returns-5 c =
@@ -66,7 +66,7 @@ returns-5 c =
     let a = st .args in
     let p = st .pre in
     let fx : SFits w32 (a .h .x) = search needs in
-    λ is l. p-not (a .s .now) (a .at) (a .h) (p .0) (p .1) is l (λ e v. clash _ v (sym (c .before .valid-in .ensures ∙ ap (validIn (fontIn (a .h .font))) (plain fx)) ∙ c .if2 .left))
+    λ is l. p-not (a .s .now) (a .at) (a .h) (p .0) (p .1) is l (λ e v. clash _ v (sym (c .before .valid-in .ensures ∙ ap (validIn (fontOrNone (a .h .font))) (plain fx)) ∙ c .if2 .left))
 
 returns-6 : tie.Need-returns-6
 returns-6 c =

@@ -13,7 +13,7 @@ use Rattle.integers.specs.Parts.{plain, same-bits, returned}
 use Rattle.dvi2.specs.Writer.{widthOf}
 use Rattle.dvi2_reading.specs.Reading.{someBelow, validIn, pageStateAfter, inPage, go}
 use Rattle.dvi2_reading.specs.Reading as R
-use Rattle.dvi2_commands.specs.Pen.{fontIn}
+use Rattle.dvi.specs.FontOrNone.{fontOrNone}
 use Rattle.dvi2_state.specs.Page.{rightBegins}
 use Rattle.dvi2_moves.proofs.Rights.{r-not, r-found, r-none, r-bad, r-go, zero-no, some-move, valid-fits, clash}
 use borrow.Author.Needs.{needs}
@@ -35,7 +35,7 @@ returns c =
     let a = st .args in
     let p = st .pre in
     let fx : SFits w32 (a .h .x) = search needs in
-    λ is l. r-found (a .s .now) (a .at) (a .k) (a .h) (p .0 .0) (p .1 .0 .0) (p .1 .0 .1) (p .1 .1) is l (p .0 .1) (sym (c .before .before .before .before .before-right .ensures) ∙ c .before .before .before .if1 .taken) (c .before .before .if2 .taken) (sym (c .before .may-begin-right .ensures ∙ ap (λ (z : ℤ). someBelow 3295 (rightBegins (drop (a .at) (a .s .now)) (fontIn (a .h .font)) z)) (plain fx)) ∙ c .if3 .taken)
+    λ is l. r-found (a .s .now) (a .at) (a .k) (a .h) (p .0 .0) (p .1 .0 .0) (p .1 .0 .1) (p .1 .1) is l (p .0 .1) (sym (c .before .before .before .before .before-right .ensures) ∙ c .before .before .before .if1 .taken) (c .before .before .if2 .taken) (sym (c .before .may-begin-right .ensures ∙ ap (λ (z : ℤ). someBelow 3295 (rightBegins (drop (a .at) (a .s .now)) (fontOrNone (a .h .font)) z)) (plain fx)) ∙ c .if3 .taken)
 
 returns-2 : tie.Need-returns-2
 returns-2 c =
@@ -43,7 +43,7 @@ returns-2 c =
     let a = st .args in
     let p = st .pre in
     let fx : SFits w32 (a .h .x) = search needs in
-    λ is l. r-none (a .s .now) (a .at) (a .k) (a .h) (p .0 .0) (p .1 .0 .0) (p .1 .0 .1) (p .1 .1) is l (p .0 .1) (sym (c .before .before .before .before .before-right .ensures) ∙ c .before .before .before .if1 .taken) (c .before .before .if2 .taken) (sym (c .before .may-begin-right .ensures ∙ ap (λ (z : ℤ). someBelow 3295 (rightBegins (drop (a .at) (a .s .now)) (fontIn (a .h .font)) z)) (plain fx)) ∙ c .if3 .left)
+    λ is l. r-none (a .s .now) (a .at) (a .k) (a .h) (p .0 .0) (p .1 .0 .0) (p .1 .0 .1) (p .1 .1) is l (p .0 .1) (sym (c .before .before .before .before .before-right .ensures) ∙ c .before .before .before .if1 .taken) (c .before .before .if2 .taken) (sym (c .before .may-begin-right .ensures ∙ ap (λ (z : ℤ). someBelow 3295 (rightBegins (drop (a .at) (a .s .now)) (fontOrNone (a .h .font)) z)) (plain fx)) ∙ c .if3 .left)
 
 add-signed-at : tie.Need-add-signed-at
 add-signed-at c = search needs
@@ -86,7 +86,7 @@ cast-t19 c =
     let fx : SFits w32 (a .h .x) = search needs in
     let m : toZ w32 (ofZ w32 (c .before .before .before .before .before .before .signed-at .result)) ≡ signedAt (a .k) (a .at + 1) (a .s .now) = returned w32 (c .before .before .before .before .before .before .signed-at .ok) (c .before .before .before .before .before .before .signed-at .ensures) in
     let t : toZ w64 (ofZ w64 (c .before .before .sum .result)) ≡ a .h .x +ℤ signedAt (a .k) (a .at + 1) (a .s .now) = returned w64 (c .before .before .sum .ok) (c .before .before .sum .ensures ∙ (λ i. plain fx i +ℤ m i)) in
-    subst (SFits w32) (sym t) (valid-fits (fontIn (a .h .font)) _ (sym (c .before .valid-at .ensures ∙ ap (validIn (fontIn (a .h .font))) t) ∙ c .if6 .taken))
+    subst (SFits w32) (sym t) (valid-fits (fontOrNone (a .h .font)) _ (sym (c .before .valid-at .ensures ∙ ap (validIn (fontOrNone (a .h .font))) t) ∙ c .if6 .taken))
 
 returns-5 : tie.Need-returns-5
 unfolding pageStateAfter
@@ -98,10 +98,10 @@ returns-5 c =
     let m : toZ w32 (ofZ w32 (c .before .before .before .before .before .before .signed-at .result)) ≡ signedAt (a .k) (a .at + 1) (a .s .now) = returned w32 (c .before .before .before .before .before .before .signed-at .ok) (c .before .before .before .before .before .before .signed-at .ensures) in
     let t : toZ w64 (ofZ w64 (c .before .before .sum .result)) ≡ a .h .x +ℤ signedAt (a .k) (a .at + 1) (a .s .now) = returned w64 (c .before .before .sum .ok) (c .before .before .sum .ensures ∙ (λ i. plain fx i +ℤ m i)) in
     let fy : SFits w32 (a .h .y) = search needs in
-    let v : validIn (fontIn (a .h .font)) (a .h .x +ℤ signedAt (a .k) (a .at + 1) (a .s .now)) ≡ true = (sym (c .before .valid-at .ensures ∙ ap (validIn (fontIn (a .h .font))) t) ∙ c .if6 .taken) in
-    let ex = ap (λ (z : ℤ). toZ w32 (ofZ w32 z)) t ∙ plain (valid-fits (fontIn (a .h .font)) _ v) in
+    let v : validIn (fontOrNone (a .h .font)) (a .h .x +ℤ signedAt (a .k) (a .at + 1) (a .s .now)) ≡ true = (sym (c .before .valid-at .ensures ∙ ap (validIn (fontOrNone (a .h .font))) t) ∙ c .if6 .taken) in
+    let ex = ap (λ (z : ℤ). toZ w32 (ofZ w32 z)) t ∙ plain (valid-fits (fontOrNone (a .h .font)) _ v) in
     λ is l.
-    (λ i. go (inPage (record { items = is; stage = R.moved; pen = record { font = fontIn (a .h .font); x = ex i; y = plain fy i } })) (a .k))
+    (λ i. go (inPage (record { items = is; stage = R.moved; position = record { font = fontOrNone (a .h .font); x = ex i; y = plain fy i } })) (a .k))
     ∙ sym (r-go (a .s .now) (a .at) (a .k) (a .h) (p .0 .0) (p .1 .0 .0) (p .1 .0 .1) (p .1 .1) is l (p .0 .1) (omega (arith, c .before .before .before .before .before .before .before .if2 .left)) (λ i. c .before .before .before .before .before .before .before .before .before .before .before .before .shared-slice-known .given i .fits)
     (sym (c .before .before .before .before .before .before .before .before .before .before-right .ensures) ∙ c .before .before .before .before .before .before .before .before .if1 .taken)
     (ap widthOf (sym m) ∙ sym (c .before .before .before .before .before .width-of .ensures .0) ∙ c .before .before .before .before .if4 .left)
@@ -115,7 +115,7 @@ returns-6 c =
     let fx : SFits w32 (a .h .x) = search needs in
     let m : toZ w32 (ofZ w32 (c .before .before .before .before .before .before .signed-at .result)) ≡ signedAt (a .k) (a .at + 1) (a .s .now) = returned w32 (c .before .before .before .before .before .before .signed-at .ok) (c .before .before .before .before .before .before .signed-at .ensures) in
     let t : toZ w64 (ofZ w64 (c .before .before .sum .result)) ≡ a .h .x +ℤ signedAt (a .k) (a .at + 1) (a .s .now) = returned w64 (c .before .before .sum .ok) (c .before .before .sum .ensures ∙ (λ i. plain fx i +ℤ m i)) in
-    λ is l. r-bad (a .s .now) (a .at) (a .k) (a .h) (p .0 .0) (p .1 .0 .0) (p .1 .0 .1) (p .1 .1) is l (p .0 .1) (omega (arith, c .before .before .before .before .before .before .before .if2 .left)) (λ w n v. clash _ v (sym (c .before .valid-at .ensures ∙ ap (validIn (fontIn (a .h .font))) t) ∙ c .if6 .left))
+    λ is l. r-bad (a .s .now) (a .at) (a .k) (a .h) (p .0 .0) (p .1 .0 .0) (p .1 .0 .1) (p .1 .1) is l (p .0 .1) (omega (arith, c .before .before .before .before .before .before .before .if2 .left)) (λ w n v. clash _ v (sym (c .before .valid-at .ensures ∙ ap (validIn (fontOrNone (a .h .font))) t) ∙ c .if6 .left))
 
 returns-7 : tie.Need-returns-7
 returns-7 c =

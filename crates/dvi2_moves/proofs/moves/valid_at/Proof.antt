@@ -4,7 +4,7 @@ use mathlib.Core.Path.{ap, _∙_}
 use mir.Syntax.{w32}
 use mir.Val.{SFits}
 use Rattle.dvi2_reading.specs.Reading.{validIn}
-use Rattle.dvi2_commands.specs.Pen.{fontIn}
+use Rattle.dvi.specs.FontOrNone.{fontOrNone}
 use Rattle.integers.specs.Parts.{integers, plain}
 use Rattle.dvi2_moves.proofs.Rights.{out-left, out-right}
 use borrow.Author.Needs.{needs}
@@ -19,10 +19,10 @@ narrow c =
     omega (integers, low, high)
 
 returns : tie.Need-returns
-returns c = let f = c .before .fits in out-left (fontIn (c .before .args .f)) (c .before .args .t) (rw (plain (f .t)) at (c .if1 .taken))
+returns c = let f = c .before .fits in out-left (fontOrNone (c .before .args .f)) (c .before .args .t) (rw (plain (f .t)) at (c .if1 .taken))
 
 returns-2 : tie.Need-returns-2
-returns-2 c = let f = c .before .before .fits in out-right (fontIn (c .before .before .args .f)) (c .before .before .args .t) (rw (plain (f .t)) at (c .if2 .taken))
+returns-2 c = let f = c .before .before .fits in out-right (fontOrNone (c .before .before .args .f)) (c .before .before .args .t) (rw (plain (f .t)) at (c .if2 .taken))
 
 cast-valid-in : tie.Need-cast-valid-in
 cast-valid-in c = rw (plain (c .before .before .fits .t)) (narrow c)
@@ -31,7 +31,7 @@ valid-in-requires : tie.Need-valid-in-requires
 valid-in-requires c κs = search needs
 
 returns-3 : tie.Need-returns-3
-returns-3 c = let f = c .before .before .before .fits in c .valid-in .ensures ∙ ap (validIn (fontIn (c .before .before .before .args .f))) (rw (plain (f .t)) (plain (narrow (c .before))))
+returns-3 c = let f = c .before .before .before .fits in c .valid-in .ensures ∙ ap (validIn (fontOrNone (c .before .before .before .args .f))) (rw (plain (f .t)) (plain (narrow (c .before))))
 
 pub valid-at-spec : {M : Type 1} → statement M
 valid-at-spec = tie.close (tie.spec returns returns-2 cast-valid-in valid-in-requires returns-3)

@@ -8,7 +8,7 @@ use Rattle.dvi2_reading.specs.Reading.{pageStateAfter, withFont, inPage, go}
 use Rattle.dvi2_reading.specs.Reading as R
 use Rattle.dvi2_state.specs.declared.page_state.PageState.{PageState}
 use Rattle.dvi2_state.specs.Page.{stageOf, pageStateOf}
-use Rattle.dvi2_state.proofs.Bytes.{some-font}
+use Rattle.dvi.specs.FontOrNone.{font-some}
 use Rattle.dvi2_page.proofs.Marks.{choose-big}
 use Rattle.dvi2_moves.proofs.Rights.{clash}
 use Rattle.dvi2_page.proofs.Selects.{s-short, s-none, s-high-bad, s-high-go}
@@ -66,7 +66,7 @@ returns-4 c =
     let v = sym (c .before .before .may-choose .ensures is k) ∙ c .before .if4 .taken in
     let n : f ≡ 255 → ⊥ = λ e. clash _ v (sym (choose-big (a .h .font) f (a .used .low) (a .used .high) is k (stageOf (a .h .stage)) (omega arith) (p .1 .font-near))) in
     ap (λ (g : PageState). go (inPage (pageStateOf is g)) 1) (c .with-font .ensures)
-    ∙ (λ i. go (inPage (record { items = is; stage = R.chosen; pen = record { font = some-font f n i; x = a .h .x; y = a .h .y } })) 1)
+    ∙ (λ i. go (inPage (record { items = is; stage = R.chosen; position = record { font = font-some f n i; x = a .h .x; y = a .h .y } })) 1)
     ∙ s-high-go (a .s .now) (a .at) (a .h) (p .1) is l (a .used .low) (a .used .high) k (p .0 .1) (omega (arith, c .before .before .before .before .before .if1 .left)) (omega (arith, c .before .before .before .if3 .left)) v
 
 returns-5 : tie.Need-returns-5

@@ -10,7 +10,7 @@ use Rattle.dvi2_reading.specs.Reading.{pageStateAfter, withFont, inPage, go}
 use Rattle.dvi2_reading.specs.Reading as R
 use Rattle.dvi2_state.specs.declared.page_state.PageState.{PageState}
 use Rattle.dvi2_state.specs.Page.{pageStateOf}
-use Rattle.dvi2_state.proofs.Bytes.{some-font}
+use Rattle.dvi.specs.FontOrNone.{font-some}
 use Rattle.dvi2_page.proofs.Selects.{s-low-go, s-low-bad}
 use borrow.Author.Needs.{needs}
 use Rattle.dvi2_page.proofs.fonts.select_low.Statement.{statement}
@@ -40,7 +40,7 @@ returns c =
     let n : f ≡ 255 → ⊥ = λ e. omega arith in
     λ is l k.
     ap (λ (g : PageState). go (inPage (pageStateOf is g)) 0) (c .with-font .ensures)
-    ∙ (λ i. go (inPage (record { items = is; stage = R.chosen; pen = record { font = some-font f n i; x = a .h .x; y = a .h .y } })) 0)
+    ∙ (λ i. go (inPage (record { items = is; stage = R.chosen; position = record { font = font-some f n i; x = a .h .x; y = a .h .y } })) 0)
     ∙ s-low-go (a .s .now) (a .at) (a .h) (p .1) is l (a .used .low) (a .used .high) k (p .0 .1 .0) (p .0 .1 .1) (sym (c .before .before .may-choose .ensures is k) ∙ c .before .if1 .taken)
 
 returns-2 : tie.Need-returns-2

@@ -3,14 +3,14 @@
 use mathlib.Core.Path.{_≡_, refl}
 use Prim.Native.Nat.{ℕ}
 use native.Mathlib.Omega.{arith}
-use Rattle.dvi.specs.Writer.{newPen}
-use Rattle.dvi2_commands.specs.Pen.{fontIn}
+use Rattle.dvi.specs.Writer.{startPosition}
+use Rattle.dvi.specs.FontOrNone.{fontOrNone}
 use Rattle.dvi2_reading.specs.Reading.{newPageState}
 use Rattle.dvi2_turn.proofs.turn.new_page.Statement.{statement}
 use Rattle.dvi2_turn.proofs.turn.new_page.Tie as tie
 
 returns : tie.Need-returns
-unfolding newPageState newPen fontIn
+unfolding newPageState startPosition fontOrNone
 returns c = (
   record { x-near = omega arith; y-near = omega arith; font-near = λ f e. let z : _≡_ {A = ℕ} 0 1 = cc in absurd (omega arith) },
   λ is. refl,

@@ -6,9 +6,9 @@ use native.Mathlib.Omega.{arith}
 use borrow.Author.Needs.{needs}
 use Rattle.galley_file.specs.CharacterLaws.{valid-parts}
 use Rattle.dvi2.specs.Writer.{commandsOf}
-use Rattle.dvi2_commands.specs.Pen.{penOf}
+use Rattle.dvi2_commands.specs.Position.{positionOf}
 use Rattle.octets.specs.PutIfRoomLaws.{putIfRoom-named}
-use Rattle.dvi2_writer.proofs.Presses.{commands-are, press-character}
+use Rattle.dvi2_writer.proofs.Writings.{commands-are, writing-character}
 use Rattle.dvi2_writer.proofs.page.put_character.Statement.{statement}
 use Rattle.dvi2_writer.proofs.page.put_character.Tie as tie
 
@@ -28,11 +28,11 @@ returns : tie.Need-returns
 returns c is h =
     let s = c .before .before .before .before .before .before .before in
     let a = s .args in
-    let e = ap (λ (t : Bool). commandsOf t (penOf (a .p .pen)) (a .c)) (c .before .before .before .before .before .has-font .ensures) ∙ commands-are (a .p) is h (a .c) (valid-parts (s .pre .1) .font) in
+    let e = ap (λ (t : Bool). commandsOf t (positionOf (a .p .position)) (a .c)) (c .before .before .before .before .before .has-font .ensures) ∙ commands-are (a .p) is h (a .c) (valid-parts (s .pre .1) .font) in
     let w = putIfRoom-named e (c .before .before .before .put-commands .ensures) in
     let r = c .after-character .ensures in
     let l : c .after-character .result .at ≡ c .before .before .before .put-commands .result = r .at-is in
-    (rw l w, press-character (a .p) is h _ (a .c) _ (s .pre .1) r (w .next-is))
+    (rw l w, writing-character (a .p) is h _ (a .c) _ (s .pre .1) r (w .next-is))
 
 pub put-character-spec : {M : Type 1} → statement M
 put-character-spec = tie.close (tie.spec has-font-requires put-commands-requires after-character-requires same-length returns)

@@ -9,10 +9,10 @@ use lib.IntN.{pos}
 use mir.Syntax.{w32}
 use mir.Val.{SFits, toZ}
 use Rattle.integers.specs.Parts.{integers, plain-pos}
-use Rattle.dvi2.specs.Writer.{bopBytes, firstPress, itemBytes, pressAll}
+use Rattle.dvi2.specs.Writer.{bopBytes, firstWriting, itemBytes, writingAfterAll}
 use Rattle.dvi2.specs.WriterLaws.{length-cut}
 use Rattle.octets.specs.PutIfRoomLaws.{putIfRoom-then, putIfRoom-named}
-use Rattle.dvi2_writer.proofs.Presses.{press-cut}
+use Rattle.dvi2_writer.proofs.Writings.{writing-cut}
 use Rattle.dvi2_writer.proofs.page.put_cut.Statement.{statement}
 use Rattle.dvi2_writer.proofs.page.put_cut.Tie as tie
 
@@ -28,8 +28,8 @@ cast-put-bop c = omega (arith, c .before .before .before .before .before .before
 put-bop-requires : tie.Need-put-bop-requires
 put-bop-requires c κs = omega (arith, c .before .before .before .before .before .before .before .before .pre .at-small, c .before .before .before .before .before .put-byte .ensures .next-is)
 
-new-pen-requires : tie.Need-new-pen-requires
-new-pen-requires c κs = search needs
+start-position-requires : tie.Need-start-position-requires
+start-position-requires c κs = search needs
 
 cast-bop : tie.Need-cast-t13
 cast-bop c = omega (arith, c .before .before .before .before .before .before .before .before .before .before .before .before .before .pre .at-small, c .before .before .before .before .before .before .before .before .before .before .put-byte .ensures .next-is)
@@ -45,10 +45,10 @@ returns c is h =
     let e = c .before .before .before .before .before .before .before .before .before .before .put-byte .ensures in
     let q = h .tallied in
     let f : SFits w32 (pos (a .bop)) = omega (integers, s .pre .bop-small) in
-    let n : a .page + 1 ≡ suc (pressAll firstPress is .page) = add-one (a .page) ∙ ap suc (q .page-is) in
-    let b : toZ w32 (a .bop) ≡ pos (pressAll firstPress is .bop) = plain-pos f ∙ ap pos (q .bop-is) in
+    let n : a .page + 1 ≡ suc (writingAfterAll firstWriting is .page) = add-one (a .page) ∙ ap suc (q .page-is) in
+    let b : toZ w32 (a .bop) ≡ pos (writingAfterAll firstWriting is .bop) = plain-pos f ∙ ap pos (q .bop-is) in
     let w = putIfRoom-then e (putIfRoom-named (λ i. bopBytes (n i) (b i)) (c .before .before .before .before .put-bop .ensures)) in
-    (w, press-cut a is h _ (c .before .new-pen .ensures) refl (add-one (a .page)) (e .next-is) (w .next-is ∙ ap (λ (k : ℕ). a .at + k) (length-cut (pressAll firstPress is))))
+    (w, writing-cut a is h _ (c .before .start-position .ensures) refl (add-one (a .page)) (e .next-is) (w .next-is ∙ ap (λ (k : ℕ). a .at + k) (length-cut (writingAfterAll firstWriting is))))
 
 pub put-cut-spec : {M : Type 1} → statement M
-put-cut-spec = tie.close (tie.spec put-byte-requires add-page cast-put-bop put-bop-requires new-pen-requires cast-bop same-length returns)
+put-cut-spec = tie.close (tie.spec put-byte-requires add-page cast-put-bop put-bop-requires start-position-requires cast-bop same-length returns)

@@ -7,18 +7,18 @@ use borrow.Author.Needs.{needs}
 use Rattle.measure.specs.Place.{heightEnd}
 use Rattle.galley_file.specs.declared.item.Item.{Item}
 use Rattle.galley_file.specs.Item.{validItem}
-use Rattle.dvi2.specs.Writer.{firstPress, itemBytes, pressAll}
-use Rattle.dvi2_writer.specs.declared.press.Press.{Press}
+use Rattle.dvi2.specs.Writer.{firstWriting, itemBytes, writingAfterAll}
+use Rattle.dvi2_writer.specs.declared.writing.Writing.{Writing}
 use Rattle.octets.specs.PutIfRoom.{PutIfRoom}
-use Rattle.dvi2_writer.specs.Press.{PressIs}
+use Rattle.dvi2_writer.specs.Writing.{WritingIs}
 use Rattle.dvi2_writer.proofs.page.put_item.Statement.{statement}
 use Rattle.dvi2_writer.proofs.page.put_item.Tie as tie
 
 -- the same of an item that is another
-of-kind : (o : List ℕ) (p : Press) (o′ : List ℕ) (r : Press) {i j : Item} → i ≡ j
-    → ((is : List Item) → PressIs p is → (PutIfRoom o (p .at) (itemBytes (pressAll firstPress is) i) o′ (r .at)) × PressIs r (is ++ (i ∷ [])))
-    → (is : List Item) → PressIs p is → (PutIfRoom o (p .at) (itemBytes (pressAll firstPress is) j) o′ (r .at)) × PressIs r (is ++ (j ∷ []))
-of-kind o p o′ r e w = subst (λ (k : Item). (is : List Item) → PressIs p is → (PutIfRoom o (p .at) (itemBytes (pressAll firstPress is) k) o′ (r .at)) × PressIs r (is ++ (k ∷ []))) e w
+of-kind : (o : List ℕ) (p : Writing) (o′ : List ℕ) (r : Writing) {i j : Item} → i ≡ j
+    → ((is : List Item) → WritingIs p is → (PutIfRoom o (p .at) (itemBytes (writingAfterAll firstWriting is) i) o′ (r .at)) × WritingIs r (is ++ (i ∷ [])))
+    → (is : List Item) → WritingIs p is → (PutIfRoom o (p .at) (itemBytes (writingAfterAll firstWriting is) j) o′ (r .at)) × WritingIs r (is ++ (j ∷ []))
+of-kind o p o′ r e w = subst (λ (k : Item). (is : List Item) → WritingIs p is → (PutIfRoom o (p .at) (itemBytes (writingAfterAll firstWriting is) k) o′ (r .at)) × WritingIs r (is ++ (k ∷ []))) e w
 
 enum-known-i : tie.Need-enum-known-i
 enum-known-i c = search needs

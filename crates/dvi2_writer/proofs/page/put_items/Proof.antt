@@ -1,4 +1,4 @@
--- `dvi2_writer::page::put_items` meets its contract. Written are the items behind, as far as they have room, and the press is that after them; what is left of the galley falls.
+-- `dvi2_writer::page::put_items` meets its contract. Written are the items behind, as far as they have room, and the writing is that after them; what is left of the galley falls.
 -- Assumes nothing.
 use mathlib.Core.Path.{ap}
 use Prim.Native.Nat.{_+_, _-_, _≤_}
@@ -18,11 +18,11 @@ Inv-loop g count out₀ p₀ at₀ out p at = Printed g at out₀ out p
 abbrev μ-loop : tie.MeasureT-loop
 μ-loop g count out₀ p₀ at₀ out p at = length g - at
 
-first-press-requires : tie.Need-first-press-requires Inv-loop μ-loop
-first-press-requires c κs = search needs
+first-writing-requires : tie.Need-first-writing-requires Inv-loop μ-loop
+first-writing-requires c κs = search needs
 
 loop-holds : tie.Need-loop-holds Inv-loop μ-loop
-loop-holds c = printed-start _ _ (c .before .before .before .pre) _ _ (c .first-press .ensures)
+loop-holds c = printed-start _ _ (c .before .before .before .pre) _ _ (c .first-writing .ensures)
 
 add-loop : tie.Need-add-loop Inv-loop μ-loop
 add-loop c = omega (arith, printed-inside _ _ _ _ _ (c .loop .inv), within _ _ (c .before .before .before .before .pre))
@@ -61,5 +61,5 @@ returns c = printed-end _ _ _ _ _ (c .before .loop .inv) (c .loop-test .left)
 pub put-items-spec : {M : Type 1} → statement M
 put-items-spec =
     tie.close
-    (tie.spec Inv-loop μ-loop first-press-requires loop-holds add-loop item-at-requires put-item-requires item-size-requires add-at loop-less loop-again same-length
+    (tie.spec Inv-loop μ-loop first-writing-requires loop-holds add-loop item-at-requires put-item-requires item-size-requires add-at loop-less loop-again same-length
     returns)

@@ -10,7 +10,7 @@ use lib.ListN.{length}
 use Rattle.octets.specs.Octets.{bytes}
 use Rattle.galley_file.specs.declared.form.Form.the-variants.{New}
 use Rattle.galley_file.specs.Galley.{itemsOf}
-use Rattle.dvi2.specs.Writer.{unitBytes, preambleBytes, firstPress, pagesBytes}
+use Rattle.dvi2.specs.Writer.{unitBytes, preambleBytes, firstWriting, pagesBytes}
 use Rattle.dvi2.specs.WriterLaws.{length-bop, itemsBytes-most}
 use Rattle.octets.specs.PutIfRoom.{PutIfRoom}
 use Rattle.octets.specs.PutIfRoomLaws.{putIfRoom-then}
@@ -38,7 +38,7 @@ put-items-requires c κs = c .before .before .before .before .before .before .be
 put-byte-requires : tie.Need-put-byte-requires
 put-byte-requires c κs =
     let s = c .before .before .before .before .before .before .before .before .before .before .before .before .before .before .before in
-    omega (arith, c .before .before .before .put-items .ensures .0 .next-is, itemsBytes-most firstPress (itemsOf New (s .args .g .now)), few _ _ (s .pre))
+    omega (arith, c .before .before .before .put-items .ensures .0 .next-is, itemsBytes-most firstWriting (itemsOf New (s .args .g .now)), few _ _ (s .pre))
 
 same-length : tie.Need-same-length
 same-length c = search needs

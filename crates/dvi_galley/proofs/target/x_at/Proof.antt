@@ -1,4 +1,4 @@
--- `dvi_galley::target::x_at` meets its contract: outside the ruler there is no place; on it the target of the place nearest to three times
+-- `dvi_galley::target::x_at` meets its contract: outside the table there is no place; in it the target of the place nearest to three times
 -- the number decides (`Targets`).
 -- Assumes nothing.
 use mathlib.Core.Path.{_≡_, sym, ap, _∙_}

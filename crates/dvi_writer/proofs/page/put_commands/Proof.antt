@@ -8,16 +8,16 @@ use lib.ListN.{length}
 use Rattle.octets.specs.Write.{Wrote, then, named, length-wrote}
 use Rattle.dvi.specs.Command.{X4, Y4}
 use Rattle.dvi.specs.Writer.{xTargetOf, yTargetOf, move, commandsOf}
-use Rattle.dvi_writer.specs.Pen.{penOf}
-use Rattle.dvi_writer.proofs.Pens.{font-valid, x-fits, y-fits, x-move, y-move}
+use Rattle.dvi_writer.specs.Position.{positionOf}
+use Rattle.dvi_writer.proofs.Positions.{font-valid, x-fits, y-fits, x-move, y-move}
 use Rattle.dvi_writer.proofs.Moves.{length-parts}
 use Rattle.dvi_writer.proofs.page.put_commands.Statement.{statement}
 use Rattle.dvi_writer.proofs.page.put_commands.Tie as tie
 
-x-wrote : (c : tie.After-put-move) → Wrote (c .before .before .before .before .put-font .last .0) (c .before .before .before .before .put-font .result) (move X4 (xTargetOf (c .before .before .before .before .before .before .before .before .before .args .c) -ℤ penOf (c .before .before .before .before .before .before .before .before .before .args .last) .x)) (c .put-move .last .0) (c .put-move .result)
+x-wrote : (c : tie.After-put-move) → Wrote (c .before .before .before .before .put-font .last .0) (c .before .before .before .before .put-font .result) (move X4 (xTargetOf (c .before .before .before .before .before .before .before .before .before .args .c) -ℤ positionOf (c .before .before .before .before .before .before .before .before .before .args .last) .x)) (c .put-move .last .0) (c .put-move .result)
 x-wrote c = let s = c .before .before .before .before .before .before .before .before .before in named (ap (move X4) (c .before .before .before .before .before .before .before .less .ensures ∙ x-move _ _ (s .pre .1 .1) _ (s .pre .1 .0))) (c .put-move .ensures)
 
-y-wrote : (c : tie.After-put-move2) → Wrote (c .before .before .before .before .put-move .last .0) (c .before .before .before .before .put-move .result) (move Y4 (yTargetOf (c .before .before .before .before .before .before .before .before .before .before .before .before .before .args .c) -ℤ penOf (c .before .before .before .before .before .before .before .before .before .before .before .before .before .args .last) .y)) (c .put-move2 .last .0) (c .put-move2 .result)
+y-wrote : (c : tie.After-put-move2) → Wrote (c .before .before .before .before .put-move .last .0) (c .before .before .before .before .put-move .result) (move Y4 (yTargetOf (c .before .before .before .before .before .before .before .before .before .before .before .before .before .args .c) -ℤ positionOf (c .before .before .before .before .before .before .before .before .before .before .before .before .before .args .last) .y)) (c .put-move2 .last .0) (c .put-move2 .result)
 y-wrote c = let s = c .before .before .before .before .before .before .before .before .before .before .before .before .before in named (ap (move Y4) (c .before .before .before .before .before .before .before .before .before .before .less2 .ensures ∙ y-move _ _ (s .pre .1 .1) _ (s .pre .1 .0))) (c .put-move2 .ensures)
 
 less-requires : tie.Need-less-requires
@@ -27,52 +27,52 @@ less-requires-2 : tie.Need-less-requires-2
 less-requires-2 c κs = y-fits _ _ (c .before .before .pre .1 .1) _ (c .before .before .pre .1 .0)
 
 put-font-requires : tie.Need-put-font-requires
-unfolding penOf
+unfolding positionOf
 put-font-requires c κs =
     let s = c .before .before .before .before in
-    (omega (arith, s .pre .0, length-parts (penOf (s .args .last)) (s .args .c)), font-valid _ (s .pre .1 .1 .is-valid))
+    (omega (arith, s .pre .0, length-parts (positionOf (s .args .last)) (s .args .c)), font-valid _ (s .pre .1 .1 .is-valid))
 
 put-move-requires : tie.Need-put-move-requires
-unfolding penOf
+unfolding positionOf
 put-move-requires c κs =
     let s = c .before .before .before .before .before .before .before .before in
     let m = ap (λ (z : ℤ). length (move X4 z)) (c .before .before .before .before .before .before .less .ensures ∙ x-move _ _ (s .pre .1 .1) _ (s .pre .1 .0)) in
     let w = c .before .before .before .put-font .ensures in
-    (omega (arith, s .pre .0, length-parts (penOf (s .args .last)) (s .args .c), m, w .next-is, length-wrote w), omega arith)
+    (omega (arith, s .pre .0, length-parts (positionOf (s .args .last)) (s .args .c), m, w .next-is, length-wrote w), omega arith)
 
 put-move-requires-2 : tie.Need-put-move-requires-2
-unfolding penOf
+unfolding positionOf
 put-move-requires-2 c κs =
     let s = c .before .before .before .before .before .before .before .before .before .before .before .before in
     let m = ap (λ (z : ℤ). length (move Y4 z)) (c .before .before .before .before .before .before .before .before .before .less2 .ensures ∙ y-move _ _ (s .pre .1 .1) _ (s .pre .1 .0)) in
     let w = c .before .before .before .before .before .before .before .put-font .ensures in
     let x = x-wrote (c .before .before .before) in
-    (omega (arith, s .pre .0, length-parts (penOf (s .args .last)) (s .args .c), m, w .next-is, x .next-is, length-wrote (then w x)), omega arith)
+    (omega (arith, s .pre .0, length-parts (positionOf (s .args .last)) (s .args .c), m, w .next-is, x .next-is, length-wrote (then w x)), omega arith)
 
 put-byte-requires : tie.Need-put-byte-requires
-unfolding penOf
+unfolding positionOf
 put-byte-requires c κs =
     let s = c .before .before .before .before .before .before .before .before .before .before .before .before .before .before .before .before in
     let w = c .before .before .before .before .before .before .before .before .before .before .before .put-font .ensures in
     let x = x-wrote (c .before .before .before .before .before .before .before) in
     let y = y-wrote (c .before .before .before) in
-    omega (arith, s .pre .0, length-parts (penOf (s .args .last)) (s .args .c), w .next-is, x .next-is, y .next-is, length-wrote (then w (then x y)))
+    omega (arith, s .pre .0, length-parts (positionOf (s .args .last)) (s .args .c), w .next-is, x .next-is, y .next-is, length-wrote (then w (then x y)))
 
 put-byte-requires-2 : tie.Need-put-byte-requires-2
-unfolding penOf
+unfolding positionOf
 put-byte-requires-2 c κs =
     let s = c .before .before .before .before .before .before .before .before .before .before .before .before .before .before .before .before .before .before .before .before in
     let w = c .before .before .before .before .before .before .before .before .before .before .before .before .before .before .before .put-font .ensures in
     let x = x-wrote (c .before .before .before .before .before .before .before .before .before .before .before) in
     let y = y-wrote (c .before .before .before .before .before .before .before) in
     let b = c .before .before .before .put-byte .ensures in
-    omega (arith, s .pre .0, length-parts (penOf (s .args .last)) (s .args .c), w .next-is, x .next-is, y .next-is, b .next-is, length-wrote (then w (then x (then y b))))
+    omega (arith, s .pre .0, length-parts (positionOf (s .args .last)) (s .args .c), w .next-is, x .next-is, y .next-is, b .next-is, length-wrote (then w (then x (then y b))))
 
 same-length : tie.Need-same-length
 same-length c = search needs
 
 returns : tie.Need-returns
-unfolding penOf commandsOf
+unfolding positionOf commandsOf
 returns c =
     then (c .before .before .before .before .before .before .before .before .before .before .before .before .before .before .before .before .before .before .put-font .ensures)
     (then (x-wrote (c .before .before .before .before .before .before .before .before .before .before .before .before .before .before)) (then (y-wrote (c .before .before .before .before .before .before .before .before .before .before)) (then (c .before .before .before .before .before .before .put-byte .ensures) (c .before .before .put-byte2 .ensures))))

@@ -15,7 +15,7 @@ use Rattle.octets.specs.Octets.{bytes, signedBytes}
 use Rattle.octets.specs.Write.{then, named}
 use Rattle.dvi.specs.Command.{EOP}
 use Rattle.dvi.specs.Writer as W
-use Rattle.dvi_writer.specs.Press.{pressOf}
+use Rattle.dvi_writer.specs.Writing.{writingOf}
 use Rattle.dvi_writer.proofs.page.put_cut.Statement.{statement}
 use Rattle.dvi_writer.proofs.page.put_cut.Tie as tie
 
@@ -43,7 +43,7 @@ same-length : tie.Need-same-length
 same-length c = search needs
 
 returns : tie.Need-returns
-unfolding pressOf W.itemBytes W.pressAfter
+unfolding writingOf W.itemBytes W.writingAfter
 returns c =
     let s = c .before .before .before .before .before .before .before .before .before .before .before in
     let a = s .args .p in
@@ -52,7 +52,7 @@ returns c =
     let n = s .pre .1 .1 in
     let f : SFits w32 (pos (a .bop)) = omega (integers, s .pre .0 .1 .1) in
     let k = then e (named (λ i. W.bopBytes (add-one (a .page) i) (plain-pos f i)) w) in
-    (k, record { on-page = n .on-page; press-is = (λ i. record { pen = n .pen-is i; page = add-one (a .page) i; bop = e .next-is i; at = (k .next-is ∙ ten (a .page) (pos (a .bop)) (a .at)) i }) })
+    (k, record { on-page = n .on-page; writing-is = (λ i. record { position = n .position-is i; page = add-one (a .page) i; bop = e .next-is i; at = (k .next-is ∙ ten (a .page) (pos (a .bop)) (a .at)) i }) })
 
 pub put-cut-spec : {M : Type 1} → statement M
 put-cut-spec = tie.close (tie.spec put-byte-requires add-page cast-put-bop put-bop-requires cast-bop same-length returns)

@@ -12,17 +12,17 @@ use Rattle.octets.specs.OctetsLaws.{signedBytes-pos}
 use Rattle.octets.specs.Write.{then, named, wrote-none, room-after}
 use Rattle.dvi.specs.Command.{FONT, FONTNUM}
 use Rattle.dvi.specs.Writer.{fontChange, fontCommand}
-use Rattle.dvi_writer.specs.Pen.{fontIn}
-use Rattle.dvi_writer.proofs.Pens.{same-font, other-font}
+use Rattle.dvi.specs.FontOrNone.{fontOrNone}
+use Rattle.dvi_writer.proofs.Positions.{same-font, other-font}
 use Rattle.dvi_writer.proofs.page.put_font.Statement.{statement}
 use Rattle.dvi_writer.proofs.page.put_font.Tie as tie
 
 -- FONTNUM up to 63, and FONT above
-low-font : (last f : ℕ) → (last ≡ f → ⊥) → f < 64 → fontChange (fontIn last) f ≡ (FONTNUM + f) ∷ []
+low-font : (last f : ℕ) → (last ≡ f → ⊥) → f < 64 → fontChange (fontOrNone last) f ≡ (FONTNUM + f) ∷ []
 unfolding fontCommand
 low-font last f ne h = other-font last f ne ∙ rw (lt-ltb f 64 h)
 
-high-font : (last f : ℕ) → (last ≡ f → ⊥) → 64 ≤ f → fontChange (fontIn last) f ≡ FONT ∷ bytes 4 f
+high-font : (last f : ℕ) → (last ≡ f → ⊥) → 64 ≤ f → fontChange (fontOrNone last) f ≡ FONT ∷ bytes 4 f
 unfolding fontCommand
 high-font last f ne h = other-font last f ne ∙ rw (le-ltb f 64 h) (ap (λ (bs : List ℕ). FONT ∷ bs) (signedBytes-pos 4 f))
 

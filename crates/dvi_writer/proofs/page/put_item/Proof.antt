@@ -9,26 +9,26 @@ use Rattle.measure.specs.Place.{lowEnd}
 use Rattle.galley_file.specs.declared.item.Item.{Item}
 use Rattle.galley_file.specs.Item.{validItem}
 use Rattle.dvi.specs.Writer.{itemBytes}
-use Rattle.dvi_writer.specs.Press.{pressOf}
-use Rattle.dvi_writer.proofs.Pens.{pen-kind}
+use Rattle.dvi_writer.specs.Writing.{writingOf}
+use Rattle.dvi_writer.proofs.Positions.{position-kind}
 use Rattle.dvi_writer.proofs.Passes.{length-cut, wrote-kind}
 use Rattle.dvi_writer.proofs.page.put_item.Statement.{statement}
 use Rattle.dvi_writer.proofs.page.put_item.Tie as tie
 
-pen-after-requires : tie.Need-pen-after-requires
-pen-after-requires c κs = search needs
+position-after-requires : tie.Need-position-after-requires
+position-after-requires c κs = search needs
 
 enum-known-i : tie.Need-enum-known-i
 enum-known-i c = search needs
 
 put-character-requires : tie.Need-put-character-requires
-unfolding pressOf itemBytes
+unfolding writingOf itemBytes
 put-character-requires c κs =
     let s = c .before .before .before .before .before .before in
     let e = c .before .before .i .given .1 in
-    let n = pen-kind _ e (c .before .before .before .before .pen-after .ensures) in
-    let l = ap (λ (i : Item). length (itemBytes (pressOf (s .args .p)) i)) e in
-    (omega (arith, l, s .pre .0 .0 .0), (s .pre .0 .1 .1 .0, record { is-valid = sym (ap (validItem lowEnd) e) ∙ s .pre .0 .1 .1 .1; pen-is = n .pen-is }))
+    let n = position-kind _ e (c .before .before .before .before .position-after .ensures) in
+    let l = ap (λ (i : Item). length (itemBytes (writingOf (s .args .p)) i)) e in
+    (omega (arith, l, s .pre .0 .0 .0), (s .pre .0 .1 .1 .0, record { is-valid = sym (ap (validItem lowEnd) e) ∙ s .pre .0 .1 .1 .1; position-is = n .position-is }))
 
 enum-told : tie.Need-enum-told
 enum-told c = search needs
@@ -37,8 +37,8 @@ put-cut-requires : tie.Need-put-cut-requires
 put-cut-requires c κs =
     let s = c .before .before .before .before .before in
     let e = c .before .enum-told .given .1 in
-    let n = pen-kind _ e (c .before .before .before .pen-after .ensures) in
-    let l = ap (λ (i : Item). length (itemBytes (pressOf (s .args .p)) i)) e ∙ length-cut (pressOf (s .args .p)) in
+    let n = position-kind _ e (c .before .before .before .position-after .ensures) in
+    let l = ap (λ (i : Item). length (itemBytes (writingOf (s .args .p)) i)) e ∙ length-cut (writingOf (s .args .p)) in
     ((omega (arith, l, s .pre .0 .0 .0), s .pre .0 .0 .1), (s .pre .0 .1 .0, n))
 
 same-length : tie.Need-same-length
@@ -60,4 +60,4 @@ returns-2 c =
 pub put-item-spec : {M : Type 1} → statement M
 put-item-spec =
     tie.close
-    (tie.spec pen-after-requires enum-known-i put-character-requires enum-told put-cut-requires same-length returns same-length-2 returns-2)
+    (tie.spec position-after-requires enum-known-i put-character-requires enum-told put-cut-requires same-length returns same-length-2 returns-2)

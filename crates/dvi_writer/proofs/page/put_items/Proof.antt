@@ -1,4 +1,4 @@
--- `dvi_writer::page::put_items` meets its contract. Written are the items behind, and the press is that after them; what is left of the
+-- `dvi_writer::page::put_items` meets its contract. Written are the items behind, and the writing is that after them; what is left of the
 -- galley falls.
 -- Assumes nothing.
 use mathlib.Core.Path.{_≡_, refl, sym, ap, _∙_}
@@ -15,19 +15,19 @@ use Rattle.dvi_writer.proofs.page.put_items.Statement.{statement}
 use Rattle.dvi_writer.proofs.page.put_items.Tie as tie
 
 abbrev Inv-loop : tie.InvT-loop
-Inv-loop g count out₀ ruler p₀ at₀ out p at = Printed g at out₀ out p
+Inv-loop g count out₀ targets p₀ at₀ out p at = Printed g at out₀ out p
 
 abbrev μ-loop : tie.MeasureT-loop
-μ-loop g count out₀ ruler p₀ at₀ out p at = length g - at
+μ-loop g count out₀ targets p₀ at₀ out p at = length g - at
 
 targets-requires : tie.Need-targets-requires Inv-loop μ-loop
 targets-requires c κs = search needs
 
-first-press-requires : tie.Need-first-press-requires Inv-loop μ-loop
-first-press-requires c κs = search needs
+first-writing-requires : tie.Need-first-writing-requires Inv-loop μ-loop
+first-writing-requires c κs = search needs
 
 loop-holds : tie.Need-loop-holds Inv-loop μ-loop
-loop-holds c = printed-start _ _ (c .before .before .before .before .pre .0) _ _ (c .first-press .ensures)
+loop-holds c = printed-start _ _ (c .before .before .before .before .pre .0) _ _ (c .first-writing .ensures)
 
 add-loop : tie.Need-add-loop Inv-loop μ-loop
 add-loop c = omega (arith, printed-inside _ _ _ _ _ (c .loop .inv), within _ _ (c .before .before .before .before .before .pre .0))
@@ -69,5 +69,5 @@ returns c = printed-end _ _ _ _ _ (c .before .loop .inv) (c .loop-test .left)
 pub put-items-spec : {M : Type 1} → statement M
 put-items-spec =
     tie.close
-    (tie.spec Inv-loop μ-loop targets-requires first-press-requires loop-holds add-loop item-at-requires put-item-requires item-size-requires add-at loop-less
+    (tie.spec Inv-loop μ-loop targets-requires first-writing-requires loop-holds add-loop item-at-requires put-item-requires item-size-requires add-at loop-less
     loop-again same-length returns)

@@ -9,11 +9,11 @@ use lib.IntN.{ℤ, negsuc}
 use lib.ListN.{length}
 use Rattle.octets.specs.Octets.{bytes, signedBytes}
 use Rattle.octets.specs.Write.{Wrote, then, length-wrote}
-use Rattle.dvi.specs.Writer.{bopBytes, Press, firstPress, itemsBytes, pressAll, pagesBytes}
+use Rattle.dvi.specs.Writer.{bopBytes, Writing, firstWriting, itemsBytes, writingAfterAll, pagesBytes}
 use Rattle.dvi.specs.WriterLaws.{length-pages}
 use Rattle.galley_file.specs.declared.form.Form.the-variants.{New}
 use Rattle.galley_file.specs.Galley.{itemsOf}
-use Rattle.dvi_writer.specs.Press.{pressOf}
+use Rattle.dvi_writer.specs.Writing.{writingOf}
 use Rattle.dvi_writer.proofs.page.put_pages.Statement.{statement}
 use Rattle.dvi_writer.proofs.page.put_pages.Tie as tie
 
@@ -45,12 +45,12 @@ same-length : tie.Need-same-length
 same-length c = search needs
 
 returns : tie.Need-returns
-unfolding pagesBytes pressOf
+unfolding pagesBytes writingOf
 returns c =
     let w = c .before .before .before .before .before .before .before .before .before .before .put-bop .ensures in
     let v = c .before .before .before .before .before .before .put-items .ensures in
     let b = ends-at w (w .next-is ∙ length-bop 1 (negsuc 0)) in
-    (then b (then (v .0) (c .before .before .put-byte .ensures)), ap (λ (p : Press). p .bop) (v .1 .press-is))
+    (then b (then (v .0) (c .before .before .put-byte .ensures)), ap (λ (p : Writing). p .bop) (v .1 .writing-is))
 
 pub put-pages-spec : {M : Type 1} → statement M
 put-pages-spec = tie.close (tie.spec put-bop-requires put-items-requires put-byte-requires same-length returns)

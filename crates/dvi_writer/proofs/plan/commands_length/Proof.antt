@@ -6,8 +6,8 @@ use borrow.Author.Needs.{needs}
 use lib.IntN.{ℤ}
 use lib.ListN.{length}
 use Rattle.dvi.specs.Writer.{move}
-use Rattle.dvi_writer.specs.Pen.{penOf}
-use Rattle.dvi_writer.proofs.Pens.{font-valid, x-fits, y-fits, x-move, y-move}
+use Rattle.dvi_writer.specs.Position.{positionOf}
+use Rattle.dvi_writer.proofs.Positions.{font-valid, x-fits, y-fits, x-move, y-move}
 use Rattle.dvi_writer.proofs.Moves.{length-sum}
 use Rattle.dvi_writer.proofs.plan.commands_length.Statement.{statement}
 use Rattle.dvi_writer.proofs.plan.commands_length.Tie as tie
@@ -37,12 +37,12 @@ add-result-3 : tie.Need-add-result-3
 add-result-3 c = search needs
 
 returns : tie.Need-returns
-unfolding penOf
+unfolding positionOf
 returns c =
     let s = c .before .before .before .before .before in
     let x = c .before .move-length .ensures .0 ∙ ap (λ (z : ℤ). length (move 0 z)) (c .before .before .before .before .less .ensures ∙ x-move _ _ (s .pre .1) _ (s .pre .0)) in
     let y = c .move-length2 .ensures .0 ∙ ap (λ (z : ℤ). length (move 0 z)) (c .before .before .before .less2 .ensures ∙ y-move _ _ (s .pre .1) _ (s .pre .0)) in
-    (length-sum (penOf (s .args .last)) (s .args .c) _ _ _ (c .before .before .font-length .ensures .0) x y, omega (arith, c .before .before .font-length .ensures .1, c .before .move-length .ensures .1, c .move-length2 .ensures .1))
+    (length-sum (positionOf (s .args .last)) (s .args .c) _ _ _ (c .before .before .font-length .ensures .0) x y, omega (arith, c .before .before .font-length .ensures .1, c .before .move-length .ensures .1, c .move-length2 .ensures .1))
 
 pub commands-length-spec : {M : Type 1} → statement M
 commands-length-spec =

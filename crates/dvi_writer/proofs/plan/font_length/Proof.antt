@@ -6,7 +6,7 @@ use borrow.Author.Tests.{lt-ltb, le-ltb}
 use lib.ListN.{length}
 use Rattle.octets.specs.Octets.{bytes, signedBytes}
 use Rattle.dvi.specs.Writer.{fontCommand}
-use Rattle.dvi_writer.proofs.Pens.{same-font, other-font}
+use Rattle.dvi_writer.proofs.Positions.{same-font, other-font}
 use Rattle.dvi_writer.proofs.plan.font_length.Statement.{statement}
 use Rattle.dvi_writer.proofs.plan.font_length.Tie as tie
 

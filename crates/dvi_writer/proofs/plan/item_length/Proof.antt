@@ -5,9 +5,9 @@ use mathlib.Core.Bool.{true}
 use borrow.Author.Needs.{needs}
 use Rattle.measure.specs.Place.{lowEnd}
 use Rattle.galley_file.specs.Item.{validItem}
-use Rattle.dvi_writer.specs.Pen.{penOf}
+use Rattle.dvi_writer.specs.Position.{positionOf}
 use Rattle.dvi_writer.specs.Plan.{itemLength}
-use Rattle.dvi_writer.proofs.Pens.{pen-kind}
+use Rattle.dvi_writer.proofs.Positions.{position-kind}
 use Rattle.dvi_writer.proofs.plan.item_length.Statement.{statement}
 use Rattle.dvi_writer.proofs.plan.item_length.Tie as tie
 
@@ -18,7 +18,7 @@ commands-length-requires : tie.Need-commands-length-requires
 commands-length-requires c κs =
     let s = c .before .before .before in
     let e = c .before .i .given .1 in
-    (s .pre .1 .0, record { is-valid = sym (ap (validItem lowEnd) e) ∙ s .pre .0; pen-is = pen-kind _ e (s .pre .1 .1) .pen-is })
+    (s .pre .1 .0, record { is-valid = sym (ap (validItem lowEnd) e) ∙ s .pre .0; position-is = position-kind _ e (s .pre .1 .1) .position-is })
 
 enum-told : tie.Need-enum-told
 enum-told c = search needs
@@ -26,7 +26,7 @@ enum-told c = search needs
 returns : tie.Need-returns
 returns c =
     let a = c .before .before .before .before .args in
-    (c .commands-length .ensures .0 ∙ sym (ap (itemLength (penOf (a .last))) (c .before .before .i .given .1)), c .commands-length .ensures .1)
+    (c .commands-length .ensures .0 ∙ sym (ap (itemLength (positionOf (a .last))) (c .before .before .i .given .1)), c .commands-length .ensures .1)
 
 returns-2 : tie.Need-returns-2
 returns-2 c = search needs

@@ -1,4 +1,4 @@
--- `dvi_writer::postamble::sizes_of` meets its contract: the extents are in the ruler's range.
+-- `dvi_writer::postamble::sizes_of` meets its contract: the extents are in the table's range.
 -- Assumes nothing.
 use borrow.Author.Needs.{needs}
 use Rattle.integers.specs.Parts.{integers}

@@ -1,4 +1,4 @@
--- `measure::Units::target` meets its contract: x + 55 is the index of x on the ruler.
+-- `measure::Units::target` meets its contract: x + 55 is the index of x in the table.
 -- Assumes nothing.
 use mathlib.Core.Path.{_≡_, ap, _∙_}
 use mathlib.Core.List.{List}
