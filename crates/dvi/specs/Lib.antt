@@ -5,6 +5,7 @@ pub mod PageLaws
 pub mod Postamble
 pub mod File
 pub mod FileLaws
+pub mod Mark
 pub mod Sheet
 pub mod SheetLaws
 pub mod Writer

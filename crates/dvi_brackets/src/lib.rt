@@ -1,5 +1,6 @@
 // PUSH and POP inside a page of a DVI file of 1980 (002), read as brackets: a run is made of items, and an item is a command or a group.
 // The readers of a run and of an item call each other.
+use dvi::mark;
 use dvi_command::Decoded;
 use dvi_page::page;
 use dvi_page::page::Effect;
@@ -53,7 +54,7 @@ fn effect_item(
         Effect::Fault(k) => Item::Fault(k, at),
         Effect::Moved(q) => Item::Past(q, n, to, count),
         Effect::Marked(q, m) => {
-            let next = sheet::show_mark(out, to, m, writing);
+            let next = mark::show_mark(out, to, m, writing);
             Item::Past(q, n, next, count + 1)
         }
         Effect::Ended => Item::End,

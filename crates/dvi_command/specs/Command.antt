@@ -20,17 +20,17 @@ commandOf Nop = S.nop
 commandOf Eop = S.eop
 commandOf Push = S.push
 commandOf Pop = S.pop
-commandOf (VertRule h w) = S.vertRule h w
-commandOf (HorzRule h w) = S.horzRule h w
+commandOf (VertRule h w) = S.vertRule (h .0) (w .0)
+commandOf (HorzRule h w) = S.horzRule (h .0) (w .0)
 commandOf (HorzChar c) = S.horzChar c
 commandOf (SetFont f) = S.setFont f
-commandOf (MoveW m) = S.moveW m
+commandOf (MoveW m) = S.moveW (m .0)
 commandOf MoveW0 = S.moveW0
-commandOf (MoveX m) = S.moveX m
+commandOf (MoveX m) = S.moveX (m .0)
 commandOf MoveX0 = S.moveX0
-commandOf (MoveY m) = S.moveY m
+commandOf (MoveY m) = S.moveY (m .0)
 commandOf MoveY0 = S.moveY0
-commandOf (MoveZ m) = S.moveZ m
+commandOf (MoveZ m) = S.moveZ (m .0)
 commandOf MoveZ0 = S.moveZ0
 
 abbrev pub decodedOf : Decoded → S.Decoded

@@ -1,4 +1,5 @@
 // The commands inside a page of a DVI file of 1980 (002), read from bytes.
+use measure::Rsu;
 use octets::number;
 ghost use mathlib.Core.Path.{_≡_};
 ghost use mathlib.Core.List.{List};
@@ -13,17 +14,17 @@ pub enum Command {
     Eop,
     Push,
     Pop,
-    VertRule(i32, i32),
-    HorzRule(i32, i32),
+    VertRule(Rsu, Rsu),
+    HorzRule(Rsu, Rsu),
     HorzChar(i32),
     SetFont(i32),
-    MoveW(i32),
+    MoveW(Rsu),
     MoveW0,
-    MoveX(i32),
+    MoveX(Rsu),
     MoveX0,
-    MoveY(i32),
+    MoveY(Rsu),
     MoveY0,
-    MoveZ(i32),
+    MoveZ(Rsu),
     MoveZ0,
 }
 
@@ -68,8 +69,8 @@ fn still(amount: u8) -> Command
 }
 
 // A move by m that sets the amount W, X, Y or Z.
-fn moving(amount: u8, m: i32) -> Command
-    ensures { λ r. ⌜ commandOf r ≡ movingOf amount m ⌝ }
+fn moving(amount: u8, m: Rsu) -> Command
+    ensures { λ r. ⌜ commandOf r ≡ movingOf amount (m .0) ⌝ }
 {
     match amount {
         0 => Command::MoveW(m),
@@ -86,7 +87,7 @@ fn decode_move(s: &[u8], at: usize, amount: u8, n: usize) -> Decoded
 {
     let p = parameter_at(s, at, n);
     match p {
-        Parameter::Value(m) => Decoded::Whole(moving(amount, m), n),
+        Parameter::Value(m) => Decoded::Whole(moving(amount, Rsu(m)), n),
         Parameter::Short => Decoded::CutShort,
     }
 }
@@ -102,9 +103,9 @@ fn decode_rule(s: &[u8], at: usize, op: u8) -> Decoded
     let h = number::signed4_at(s, at);
     let w = number::signed4_at(s, at + 4);
     if op == 134 {
-        return Decoded::Whole(Command::VertRule(h, w), 8);
+        return Decoded::Whole(Command::VertRule(Rsu(h), Rsu(w)), 8);
     }
-    Decoded::Whole(Command::HorzRule(h, w), 8)
+    Decoded::Whole(Command::HorzRule(Rsu(h), Rsu(w)), 8)
 }
 
 // HORZCHAR and FONT.

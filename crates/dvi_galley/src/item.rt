@@ -2,13 +2,14 @@
 use crate::target;
 use crate::target::Across;
 use crate::target::Down;
+use dvi::mark::Mark;
 use galley_file::character;
 use galley_file::character::Character;
 use galley_file::item::Item;
 use measure::Quanta;
+use measure::Rsu;
 use measure::Units;
 use measure::target_table::TargetTable;
-use sheet::Mark;
 ghost use mathlib.Core.Path.{_≡_};
 ghost use mathlib.Core.Bool.{true, cond};
 ghost use mathlib.Core.Option.{none, some};
@@ -18,7 +19,7 @@ ghost use Rattle.integers.specs.Parts.{eqZ};
 ghost use Rattle.measure.specs.Place.{heightEnd, within};
 ghost use Rattle.measure.specs.Target.{xTargets};
 ghost use Rattle.galley_file.specs.declared.item.Item.the-variants as I;
-ghost use Rattle.sheet.specs.Mark.{markOf};
+ghost use Rattle.dvi.specs.Mark.{markOf};
 ghost use Rattle.dvi_galley.specs.Target.{xAt, heightAt};
 ghost use Rattle.dvi_galley.specs.Back.{placedItem, characterOf, itemOf};
 ghost use Rattle.dvi_galley.specs.Taken.{takenOf};
@@ -55,9 +56,9 @@ fn valid_at(x: Units, h: Quanta, font: i32, ch: u8) -> Taken
 }
 
 // A character whose targets are x and y.
-fn character_of(targets: &TargetTable, x: i32, y: i32, font: i32, ch: u8) -> Taken
+fn character_of(targets: &TargetTable, x: Rsu, y: Rsu, font: i32, ch: u8) -> Taken
     requires { ⌜ now targets ≡ xTargets ⌝ }
-    ensures { λ r. ⌜ takenOf r ≡ placedItem (characterOf (xAt x) (heightAt y) font ch) ⌝ }
+    ensures { λ r. ⌜ takenOf r ≡ placedItem (characterOf (xAt (x .0)) (heightAt (y .0)) font ch) ⌝ }
 {
     let a = target::x_at(targets, x);
     match a {

@@ -6,7 +6,7 @@ use lib.IntN.{ℤ}
 use Rattle.dvi.specs.Page as S
 use Rattle.dvi_page.specs.Stack.{numbersOf, stackOf}
 use Rattle.dvi_page.specs.declared.page.Page.{Page}
-use Rattle.sheet.specs.Mark.{markOf}
+use Rattle.dvi.specs.Mark.{markOf}
 use Rattle.dvi_page.specs.declared.page.Effect.{Effect}
 use Rattle.dvi_page.specs.declared.page.Effect.the-variants.{Fault, Moved, Marked, Ended}
 use Rattle.dvi_page.specs.declared.page.Width.{Width}
@@ -26,5 +26,5 @@ effectOf (Marked p m) l = S.marked (pageOf p l) (markOf m)
 effectOf Ended l = S.ended
 
 abbrev pub widthOf : Width → Option ℤ
-widthOf (Of w) = some w
+widthOf (Of w) = some (w .0)
 widthOf Missing = none

@@ -10,7 +10,7 @@ abbrev pub stackSize : ℕ
 stackSize = 1200
 
 abbrev pub numbersOf : Numbers → S.Numbers
-numbersOf n = record { atX = n .x; atY = n .y; amountW = n .wa; amountX = n .xa; amountY = n .ya; amountZ = n .za }
+numbersOf n = record { atX = n .x .0; atY = n .y .0; amountW = n .wa .0; amountX = n .xa .0; amountY = n .ya .0; amountZ = n .za .0 }
 
 -- entry d stands from place 6 d on
 abbrev pub entryAt : List ℤ → ℕ → S.Numbers

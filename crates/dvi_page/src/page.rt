@@ -1,21 +1,22 @@
 // The state of a page, and the effect of each command on it.
 use crate::stack;
 use crate::stack::Numbers;
+use dvi::mark::Mark;
 use dvi_command::Command;
+use measure::Rsu;
 use octets::answer;
 use octets::reach;
 use octets::reach::Reach;
-use sheet::Mark;
 ghost use mathlib.Core.Path.{_≡_};
 ghost use mathlib.Core.List.{List};
 ghost use Prim.Native.Nat.{_≤_};
 ghost use lib.IntN.{ℤ};
 ghost use lib.ListN.{length};
 ghost use Rattle.dvi.specs.Command.{NoBracket};
+ghost use Rattle.dvi.specs.Mark.{markOf};
 ghost use Rattle.dvi.specs.Page as S;
 ghost use Rattle.dvi_command.specs.Command.{commandOf};
 ghost use Rattle.dvi_page.specs.Stack.{stackSize, numbersOf, stackOf};
-ghost use Rattle.sheet.specs.Mark.{markOf};
 ghost use Rattle.dvi_page.specs.Page.{pageOf, effectOf, widthOf};
 
 const LAST_CHAR: u32 = 127;
@@ -38,7 +39,7 @@ pub enum Effect {
 }
 
 pub enum Width {
-    Of(i32),
+    Of(Rsu),
     Missing,
 }
 
@@ -47,12 +48,12 @@ pub fn new_page() -> Page
     ensures { λ r. ⌜ ((l : List ℤ) → pageOf r l ≡ S.newPage) ⌝ }
 {
     let numbers = Numbers {
-        x: 0,
-        y: 0,
-        wa: 0,
-        xa: 0,
-        ya: 0,
-        za: 0,
+        x: Rsu(0),
+        y: Rsu(0),
+        wa: Rsu(0),
+        xa: Rsu(0),
+        ya: Rsu(0),
+        za: Rsu(0),
     };
     Page {
         has_font: false,
@@ -72,30 +73,30 @@ pub fn with_numbers(p: Page, n: Numbers) -> Page
 }
 
 // The page goes on m to the right of the numbers n.
-fn right(p: Page, n: Numbers, m: i32) -> Effect
-    ensures { λ r. ⌜ ((l : List ℤ) → effectOf r l ≡ S.goTo (pageOf p l) (S.rightBy m (numbersOf n))) ⌝ }
+fn right(p: Page, n: Numbers, m: Rsu) -> Effect
+    ensures { λ r. ⌜ ((l : List ℤ) → effectOf r l ≡ S.goTo (pageOf p l) (S.rightBy (m .0) (numbersOf n))) ⌝ }
 {
-    let x = n.x;
-    let to = reach::sum(x, m);
+    let to = reach::sum(n.x.0, m.0);
     match to {
         Reach::To(v) => {
             let mut t = n;
-            t.x = v;
+            let at = Rsu(v);
+            t.x = at;
             Effect::Moved(with_numbers(p, t))
         }
         Reach::Off => Effect::Fault(answer::OUT_OF_32_BITS),
     }
 }
 
-fn down(p: Page, n: Numbers, m: i32) -> Effect
-    ensures { λ r. ⌜ ((l : List ℤ) → effectOf r l ≡ S.goTo (pageOf p l) (S.downBy m (numbersOf n))) ⌝ }
+fn down(p: Page, n: Numbers, m: Rsu) -> Effect
+    ensures { λ r. ⌜ ((l : List ℤ) → effectOf r l ≡ S.goTo (pageOf p l) (S.downBy (m .0) (numbersOf n))) ⌝ }
 {
-    let y = n.y;
-    let to = reach::sum(y, m);
+    let to = reach::sum(n.y.0, m.0);
     match to {
         Reach::To(v) => {
             let mut t = n;
-            t.y = v;
+            let at = Rsu(v);
+            t.y = at;
             Effect::Moved(with_numbers(p, t))
         }
         Reach::Off => Effect::Fault(answer::OUT_OF_32_BITS),
@@ -103,23 +104,23 @@ fn down(p: Page, n: Numbers, m: i32) -> Effect
 }
 
 // The page shows k and goes on m to the right.
-fn show_right(p: Page, k: Mark, m: i32) -> Effect
-    ensures { λ r. ⌜ ((l : List ℤ) → effectOf r l ≡ S.showAndGoTo (pageOf p l) (markOf k) (S.rightBy m (numbersOf (p .numbers)))) ⌝ }
+fn show_right(p: Page, k: Mark, m: Rsu) -> Effect
+    ensures { λ r. ⌜ ((l : List ℤ) → effectOf r l ≡ S.showAndGoTo (pageOf p l) (markOf k) (S.rightBy (m .0) (numbersOf (p .numbers)))) ⌝ }
 {
     let n = p.numbers;
-    let x = n.x;
-    let to = reach::sum(x, m);
+    let to = reach::sum(n.x.0, m.0);
     match to {
         Reach::To(v) => {
             let mut t = n;
-            t.x = v;
+            let at = Rsu(v);
+            t.x = at;
             Effect::Marked(with_numbers(p, t), k)
         }
         Reach::Off => Effect::Fault(answer::OUT_OF_32_BITS),
     }
 }
 
-// The width of character c in font f.
+// The width of character c in font f. The table has numbers, which are rsu here.
 fn width_of(widths: &[i32], f: i32, c: u8) -> Width
     ensures { λ r. ⌜ widthOf r ≡ S.widthIn (now (widths .entry)) f c ⌝ }
 {
@@ -131,7 +132,7 @@ fn width_of(widths: &[i32], f: i32, c: u8) -> Width
         return Width::Missing;
     }
     let w = widths[i];
-    Width::Of(w)
+    Width::Of(Rsu(w))
 }
 
 // 0 to 127.
@@ -195,7 +196,7 @@ fn horz_char(p: Page, c: i32) -> Effect
 }
 
 // VERTRULE: the place moves right by the width.
-fn vert_rule(p: Page, h: i32, w: i32) -> Effect
+fn vert_rule(p: Page, h: Rsu, w: Rsu) -> Effect
     ensures { λ r. ⌜ ((ws l : List ℤ) → effectOf r l ≡ S.effect ws (pageOf p l) (commandOf (Command.VertRule h w))) ⌝ }
 {
     let n = p.numbers;
@@ -215,7 +216,7 @@ fn vert_rule(p: Page, h: i32, w: i32) -> Effect
 }
 
 // HORZRULE: the place stays.
-fn horz_rule(p: Page, h: i32, w: i32) -> Effect
+fn horz_rule(p: Page, h: Rsu, w: Rsu) -> Effect
     ensures { λ r. ⌜ ((ws l : List ℤ) → effectOf r l ≡ S.effect ws (pageOf p l) (commandOf (Command.HorzRule h w))) ⌝ }
 {
     let n = p.numbers;

@@ -1,4 +1,5 @@
-// The stack: 200 entries of six numbers in one array, entry d from place 6 d on.
+// The stack: 200 entries of six numbers in one array, entry d from place 6 d on. The array has numbers; a page has rsu.
+use measure::Rsu;
 ghost use mathlib.Core.Path.{_≡_};
 ghost use mathlib.Core.List.{_∷_};
 ghost use Prim.Native.Nat.{_+_, _<_};
@@ -10,12 +11,12 @@ pub const MAX_STACK: usize = 200;
 
 // The coordinates, and the amounts W, X, Y and Z.
 pub struct Numbers {
-    pub x: i32,
-    pub y: i32,
-    pub wa: i32,
-    pub xa: i32,
-    pub ya: i32,
-    pub za: i32,
+    pub x: Rsu,
+    pub y: Rsu,
+    pub wa: Rsu,
+    pub xa: Rsu,
+    pub ya: Rsu,
+    pub za: Rsu,
 }
 
 // Puts n on top of d entries.
@@ -23,12 +24,12 @@ pub fn put_entry(stack: &mut [i32], d: usize, n: Numbers)
     requires { ⌜ (d < maxStack) × (length (now stack) ≡ stackSize) ⌝ }
     ensures { λ _. ⌜ stackOf (now (stack .exit)) (d + 1) ≡ numbersOf n ∷ stackOf (now (stack .entry)) d ⌝ }
 {
-    let x = n.x;
-    let y = n.y;
-    let wa = n.wa;
-    let xa = n.xa;
-    let ya = n.ya;
-    let za = n.za;
+    let x = n.x.0;
+    let y = n.y.0;
+    let wa = n.wa.0;
+    let xa = n.xa.0;
+    let ya = n.ya.0;
+    let za = n.za.0;
     let i = 6 * d;
     stack[i] = x;
     stack[i + 1] = y;
@@ -51,11 +52,11 @@ pub fn entry(stack: &[i32], d: usize) -> Numbers
     let ya = stack[i + 4];
     let za = stack[i + 5];
     Numbers {
-        x: x,
-        y: y,
-        wa: wa,
-        xa: xa,
-        ya: ya,
-        za: za,
+        x: Rsu(x),
+        y: Rsu(y),
+        wa: Rsu(wa),
+        xa: Rsu(xa),
+        ya: Rsu(ya),
+        za: Rsu(za),
     }
 }

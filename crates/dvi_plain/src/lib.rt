@@ -1,5 +1,6 @@
 // A second reader of DVI files of 1980, which takes PUSH and POP as brackets and keeps no stack: a run is made of items, and an item is a
 // command or a group.
+use dvi::mark;
 use dvi_brackets::Run;
 use dvi_page::page;
 use dvi_page::stack;
@@ -43,7 +44,7 @@ fn pass(dvi: &[u8], widths: &[i32], out: &mut [u8], writing: bool) -> Reading
                 return Reading::Fault(answer::BAD_COMMAND, at);
             }
             Stepped::Show(q, m, n) => {
-                let first = sheet::show_mark(out, to, m, writing);
+                let first = mark::show_mark(out, to, m, writing);
                 let start = at + BOP_BYTES;
                 let body = &dvi[start..];
                 let p = page::new_page();

@@ -1,4 +1,5 @@
 // DVI files of 1980 (002), read into sheets with a lent table of widths.
+use dvi::mark;
 use dvi_step::State;
 use dvi_step::Stepped;
 use octets::answer;
@@ -38,7 +39,7 @@ fn pass(dvi: &[u8], widths: &[i32], out: &mut [u8], writing: bool) -> Reading
                 at = at + 1 + n;
             }
             Stepped::Show(t, m, n) => {
-                let next = sheet::show_mark(out, to, m, writing);
+                let next = mark::show_mark(out, to, m, writing);
                 to = next;
                 count = count + 1;
                 q = t;

@@ -3,7 +3,7 @@ use Prim.Native.Nat.{ℕ}
 use mathlib.Core.List.{List, [], _∷_}
 use lib.IntN.{ℤ}
 use Rattle.dvi.specs.File as S
-use Rattle.sheet.specs.Mark.{markOf}
+use Rattle.dvi.specs.Mark.{markOf}
 use Rattle.dvi_page.specs.Page.{pageOf}
 use Rattle.dvi_step.specs.declared.State.{State}
 use Rattle.dvi_step.specs.declared.State.the-variants.{Between, Inside}

@@ -1,13 +1,13 @@
 // One command of a DVI file of 1980 (002): inside a page, or between pages.
 mod postamble;
 
+use dvi::mark::Mark;
 use dvi_command::Decoded;
 use dvi_page::page;
 use dvi_page::page::Effect;
 use dvi_page::page::Page;
 use octets::answer;
 use octets::number;
-use sheet::Mark;
 ghost use mathlib.Core.Path.{_≡_};
 ghost use mathlib.Core.List.{List};
 ghost use Prim.Native.Nat.{_+_, _≤_, _<_};

@@ -1,9 +1,8 @@
--- The sheet, what a file shows, and what a reader is lent; the code's marks, and the sheet that a pass has made so far.
+-- The sheet, what a file shows, and what a reader is lent; the sheet that a pass has made so far.
 pub mod Sheet
 pub mod SheetLaws
 pub mod Shown
 pub mod ShownLaws
 pub mod Readable
 pub mod ReadableLaws
-pub mod Mark
 pub mod Filled

@@ -1,8 +1,9 @@
 -- What a reader that makes a sheet is lent beside the buffer: a file, and a table of widths (document 01, "Widths"), whatever the file's format.
 --     maxFile        the longest file
+--     lastPlace      the last place in a sheet where a field can start
 --     fontChars      the characters of a font
 --     ifReadable     the tests of the whole call
-use Prim.Native.Nat.{ℕ}
+use Prim.Native.Nat.{ℕ, _*_}
 use mathlib.Core.Bool.{Bool, cond}
 use mathlib.Core.List.{List}
 use lib.Dec.{ltb}
@@ -11,6 +12,10 @@ use Rattle.octets.specs.Answer.{Result, refusal, dviTooLong, widthsNotWhole}
 
 abbrev pub maxFile : ℕ
 maxFile = 33554432
+
+-- each byte of a file makes at most one field of 20 bytes
+abbrev pub lastPlace : ℕ
+lastPlace = 20 * maxFile
 
 -- a font has the characters 0 to 127, and a width for each, fonts 0, 1, 2 on in order
 abbrev pub fontChars : ℕ

@@ -1,4 +1,4 @@
-// The sheet: what is shown, and its fields; the limits of what a reader is lent.
+// The sheet's fields; the limits of what a reader is lent.
 use octets::field;
 use octets::number;
 ghost use mathlib.Core.Path.{_≡_};
@@ -9,32 +9,13 @@ ghost use lib.ListN.{length};
 ghost use Rattle.octets.specs.Octets.{signedBytes};
 ghost use Rattle.octets.specs.Write.{Wrote, Put};
 ghost use Rattle.sheet.specs.Sheet.{pageMark, charMark, ruleMark, markField};
-ghost use Rattle.sheet.specs.SheetLaws.{fieldSize};
-ghost use Rattle.sheet.specs.Mark.{markOf, lastPlace};
+ghost use Rattle.sheet.specs.Readable.{lastPlace};
 
 // The longest file.
 pub const MAX_FILE: usize = 33_554_432;
 
 // The characters of a font.
 pub const FONT_CHARS: usize = 128;
-
-// What is shown: the start of a page, a character, a rule.
-pub enum Mark {
-    Start(i32),
-    Char {
-        ch: u8,
-        x: i32,
-        y: i32,
-        font: i32,
-    },
-    Rule {
-        kind: u8,
-        x: i32,
-        y: i32,
-        height: i32,
-        width: i32,
-    },
-}
 
 const PAGE_TAG: u8 = 5;
 
@@ -132,7 +113,7 @@ pub fn show_char(
     to + CHAR_FIELD
 }
 
-fn show_rule(
+pub fn show_rule(
     out: &mut [u8],
     to: usize,
     kind: u8,
@@ -149,22 +130,4 @@ fn show_rule(
         return put_rule(out, to, kind, x, y, h, w);
     }
     to + RULE_FIELD
-}
-
-// Writes a mark's field, if writing; gives the place after it. The kind is asked before the flag, so that each command goes straight to its own field.
-pub fn show_mark(out: &mut [u8], to: usize, m: Mark, writing: bool) -> usize
-    requires { ⌜ (to ≤ lastPlace) × (writing ≡ true → to + fieldSize (markOf m) ≤ length (now out)) ⌝ }
-    ensures { λ r. ⌜ Put writing (now (out .entry)) to (markField (markOf m)) (now (out .exit)) r ⌝ }
-{
-    match m {
-        Mark::Start(n) => show_page(out, to, n, writing),
-        Mark::Char { x, y, font, ch } => show_char(out, to, x, y, font, ch, writing),
-        Mark::Rule {
-            kind,
-            x,
-            y,
-            height,
-            width,
-        } => show_rule(out, to, kind, x, y, height, width, writing),
-    }
 }

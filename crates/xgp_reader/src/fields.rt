@@ -9,7 +9,7 @@ ghost use lib.IntN.{ℤ, pos};
 ghost use lib.ListN.{length};
 ghost use Rattle.octets.specs.Write.{Put};
 ghost use Rattle.sheet.specs.Sheet.{charMark, markFields};
-ghost use Rattle.sheet.specs.Mark.{lastPlace};
+ghost use Rattle.sheet.specs.Readable.{lastPlace};
 ghost use Rattle.xgp.specs.State.{pageMarks, setMarks};
 
 // Writes the page's field before its first character, if writing; gives the place after it.

@@ -14,7 +14,7 @@ use Rattle.integers.specs.Parts.{plain}
 use Rattle.sheet.specs.Sheet.{Mark}
 use Rattle.dvi.specs.File.{goOn, PlacedMark, placedAt}
 use Rattle.dvi.specs.FileLaws.{stepHere}
-use Rattle.sheet.specs.Mark.{markOf}
+use Rattle.dvi.specs.Mark.{markOf}
 use Rattle.dvi_step.specs.Step.{stateOf, stepOf}
 use Rattle.dvi_step.specs.Standing.{Standing, standing-start, standing-next, standing-refused, standing-finished, standing-ended}
 use Rattle.dvi_step.specs.declared.State.{State}

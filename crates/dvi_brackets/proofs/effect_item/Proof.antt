@@ -9,7 +9,7 @@ use lib.ListN.{length}
 use Rattle.octets.specs.Write.{put-named, put-none}
 use Rattle.sheet.specs.Sheet.{markFields}
 use Rattle.sheet.specs.SheetLaws.{length-markField, one-field}
-use Rattle.sheet.specs.Mark.{markOf}
+use Rattle.dvi.specs.Mark.{markOf}
 use Rattle.dvi_page.specs.Page.{effectOf}
 use Rattle.dvi_page.specs.declared.page.Effect.{Effect}
 use Rattle.dvi_brackets.specs.Brackets.{Item, effectItem}

@@ -22,7 +22,7 @@ use Rattle.dvi.specs.Page as S
 use Rattle.dvi.specs.File.{between, goOn}
 use Rattle.dvi.specs.FileLaws.{stepHere}
 use Rattle.sheet.specs.SheetLaws.{length-markField, fieldSize-most}
-use Rattle.sheet.specs.Mark.{markOf}
+use Rattle.dvi.specs.Mark.{markOf}
 use Rattle.dvi_page.specs.Page.{pageOf}
 use Rattle.dvi_step.specs.Step.{stateOf, stepOf}
 use Rattle.dvi_step.specs.declared.Stepped.{Stepped}

@@ -14,7 +14,7 @@ use Rattle.dvi.specs.File.{goOn, marksAlone}
 use Rattle.dvi.specs.FileLaws.{stepHere}
 use Rattle.sheet.specs.SheetLaws.{fieldSize, length-markField, one-field, markFields-append}
 use Rattle.sheet.specs.ShownLaws.{shown-room}
-use Rattle.sheet.specs.Mark.{markOf}
+use Rattle.dvi.specs.Mark.{markOf}
 use Rattle.sheet.specs.Filled.{Filled, filled-start, filled-still, filled-mark, filled-refused, filled-finished}
 use Rattle.dvi_step.specs.Step.{stateOf, stepOf}
 use Rattle.dvi_step.specs.Standing.{Standing, standing-start, standing-next, standing-refused, standing-finished, standing-ended}

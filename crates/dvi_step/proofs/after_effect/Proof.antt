@@ -6,7 +6,7 @@ use borrow.Author.Needs.{needs}
 use lib.IntN.{ℤ}
 use Rattle.integers.specs.Parts.{plain}
 use Rattle.dvi.specs.File.{between, inside, goOn, afterEffect}
-use Rattle.sheet.specs.Mark.{markOf}
+use Rattle.dvi.specs.Mark.{markOf}
 use Rattle.dvi_page.specs.Page.{pageOf, effectOf}
 use Rattle.dvi_page.specs.declared.page.Effect.{Effect}
 use Rattle.dvi_step.proofs.after_effect.Statement.{statement}

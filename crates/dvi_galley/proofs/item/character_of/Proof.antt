@@ -36,16 +36,16 @@ returns : tie.Need-returns
 unfolding characterOf
 returns c =
     let s = c .before .before .before in
-    let x : none ≡ xAt (s .args .x) = ap acrossOf (sym (c .enum-told .given .1)) ∙ rw (plain (s .fits .x)) at (c .before .before .x-at .ensures) in
-    ap (λ (o : Option ℤ). placedItem (characterOf o (heightAt (s .args .y)) (s .args .font) (s .args .ch))) x
+    let x : none ≡ xAt (s .args .x .0) = ap acrossOf (sym (c .enum-told .given .1)) ∙ c .before .before .x-at .ensures in
+    ap (λ (o : Option ℤ). placedItem (characterOf o (heightAt (s .args .y .0)) (s .args .font) (s .args .ch))) x
 
 returns-2 : tie.Need-returns-2
 unfolding characterOf
 returns-2 c =
     let s = c .before .before .before .before .before .before .before in
     let a = c .before .before .before .before .a .given in
-    let x : some (a .0 .0 .0) ≡ xAt (s .args .x) = ap acrossOf (sym (a .1)) ∙ rw (plain (s .fits .x)) at (c .before .before .before .before .before .before .x-at .ensures) in
-    let y : none ≡ heightAt (s .args .y) = ap downOf (sym (c .enum-told2 .given .1)) ∙ rw (plain (s .fits .y)) at (c .before .before .height-at .ensures .0) in
+    let x : some (a .0 .0 .0) ≡ xAt (s .args .x .0) = ap acrossOf (sym (a .1)) ∙ c .before .before .before .before .before .before .x-at .ensures in
+    let y : none ≡ heightAt (s .args .y .0) = ap downOf (sym (c .enum-told2 .given .1)) ∙ c .before .before .height-at .ensures .0 in
     (λ k. placedItem (characterOf (x k) (y k) (s .args .font) (s .args .ch)))
 
 returns-3 : tie.Need-returns-3
@@ -53,8 +53,8 @@ returns-3 c =
     let s = c .before .before .before .before .before .before .before .before .before in
     let a = c .before .before .before .before .before .before .a .given in
     let d = c .before .before .d .given in
-    let x : some (a .0 .0 .0) ≡ xAt (s .args .x) = ap acrossOf (sym (a .1)) ∙ rw (plain (s .fits .x)) at (c .before .before .before .before .before .before .before .before .x-at .ensures) in
-    let y : some (d .0 .0 .0) ≡ heightAt (s .args .y) = ap downOf (sym (d .1)) ∙ rw (plain (s .fits .y)) at (c .before .before .before .before .height-at .ensures .0) in
+    let x : some (a .0 .0 .0) ≡ xAt (s .args .x .0) = ap acrossOf (sym (a .1)) ∙ c .before .before .before .before .before .before .before .before .x-at .ensures in
+    let y : some (d .0 .0 .0) ≡ heightAt (s .args .y .0) = ap downOf (sym (d .1)) ∙ c .before .before .before .before .height-at .ensures .0 in
     rw (plain (s .fits .font)) at (c .valid-at .ensures) ∙ (λ k. placedItem (characterOf (x k) (y k) (s .args .font) (s .args .ch)))
 
 pub character-of-spec : {M : Type 1} → statement M

@@ -7,8 +7,8 @@ use borrow.Author.Needs.{needs}
 use mir.Syntax.{w32}
 use Rattle.integers.specs.Parts.{plain, eqZ}
 use Rattle.galley_file.specs.declared.item.Item.the-variants.{Cut}
-use Rattle.sheet.specs.Mark.{markOf}
-use Rattle.sheet.specs.declared.Mark.{Mark}
+use Rattle.dvi.specs.Mark.{markOf}
+use Rattle.dvi.specs.declared.mark.Mark.{Mark}
 use Rattle.dvi_galley.specs.Target.{xAt, heightAt}
 use Rattle.dvi_galley.specs.Back.{placedItem, characterOf, itemOf}
 use Rattle.dvi_galley.proofs.item.item_of.Statement.{statement}
@@ -44,11 +44,9 @@ returns-2 : tie.Need-returns-2
 unfolding itemOf
 returns-2 c n e =
     let g = c .before .before .m2 .given in
-    let x = plain {w = w32} {z = g .0 .1 .0} (search needs) in
-    let y = plain {w = w32} {z = g .0 .1 .1 .0} (search needs) in
     let f = plain {w = w32} {z = g .0 .1 .1 .1 .0} (search needs) in
     c .character-of .ensures
-    ∙ (λ k. placedItem (characterOf (xAt (x k)) (heightAt (y k)) (f k) (g .0 .0)))
+    ∙ (λ k. placedItem (characterOf (xAt (g .0 .1 .0 .0)) (heightAt (g .0 .1 .1 .0 .0)) (f k) (g .0 .0)))
     ∙ ap (λ (k : Mark). itemOf n (markOf k)) (sym (g .1))
 
 returns-3 : tie.Need-returns-3

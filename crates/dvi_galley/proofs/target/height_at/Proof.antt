@@ -3,7 +3,8 @@
 use mathlib.Core.Path.{_≡_}
 use mathlib.Core.Bool.{false}
 use Prim.Native.Nat.{_/_, _≤_}
-use lib.IntN.{pos, natAbs}
+use borrow.Author.Needs.{needs}
+use lib.IntN.{ℤ, pos, natAbs}
 use lib.Signed.{ltZ}
 use mir.Syntax.{w32}
 use mir.Val.{SFits}
@@ -13,41 +14,48 @@ use Rattle.dvi_galley.proofs.target.height_at.Statement.{statement}
 use Rattle.dvi_galley.proofs.target.height_at.Tie as tie
 
 returns : tie.Need-returns
-returns c = (height-negative (c .before .args .t) (rw (plain (c .before .fits .t)) at (c .if1 .taken)), tt)
+returns c =
+    let t = c .before .before .args .t .0 in
+    let f : SFits w32 t = search needs in
+    (height-negative t (rw (plain f) at (c .if1 .taken)), tt)
 
-natural : (c : tie.Else1) → ltZ (c .before .args .t) (pos 0) ≡ false
-natural c = rw (plain (c .before .fits .t)) at (c .if1 .left)
+module _ (c : tie.Else1) where
+  abbrev t : ℤ
+  t = c .before .before .args .t .0
+
+  t-fits : SFits w32 t
+  t-fits = search needs
+
+  natural : ltZ t (pos 0) ≡ false
+  natural = rw (plain t-fits) at (c .if1 .left)
+
+  low : natAbs t / 32768 ≤ 65536
+  low =
+      let r = range-parts t 0 2147483647 (omega (integers, natural)) (omega (integers, bounds t-fits)) in
+      omega (integers, r, abs-parts t)
+
+  low-fits : SFits w32 (pos (natAbs t / 32768))
+  low-fits = omega (integers, low)
 
 cast-n : tie.Need-cast-n
 cast-n c =
-    let t = c .before .args .t in
-    rw (plain (c .before .fits .t)) (nonNeg-by t (omega (integers, natural c)), record { fits = omega (integers, bounds (c .before .fits .t), abs-parts t) })
+    rw (plain (t-fits c)) (nonNeg-by (t c) (omega (integers, natural c)), record { fits = omega (integers, bounds (t-fits c), abs-parts (t c)) })
 
-low : (c : tie.Else1) → natAbs (c .before .args .t) / 32768 ≤ 65536
-low c =
-    let t = c .before .args .t in
-    let r = range-parts t 0 2147483647 (omega (integers, natural c)) (omega (integers, bounds (c .before .fits .t))) in
-    omega (integers, r, abs-parts t)
-
-low-fits : (c : tie.Else1) → SFits w32 (pos (natAbs (c .before .args .t) / 32768))
-low-fits c = omega (integers, low c)
-
-cast-t6 : tie.Need-cast-t6
-cast-t6 c = rw (plain (c .before .before .fits .t)) (low-fits (c .before))
+cast-t7 : tie.Need-cast-t7
+cast-t7 c = rw (plain (t-fits (c .before))) (low-fits (c .before))
 
 returns-2 : tie.Need-returns-2
 returns-2 c =
-    let t = c .before .before .args .t in
-    let f = c .before .before .fits .t in
-    rw (plain f, plain-pos {w = w32} (low-fits (c .before))) (
-      height-found t (natural (c .before)) (rw (plain f) at (c .if2 .taken)),
-      rw (true-leZ (pos 0) (pos (natAbs t / 32768)) (omega integers), true-leZ (pos (natAbs t / 32768)) (pos 1000000) (omega (integers, low (c .before)))),
+    let e = c .before in
+    rw (plain (t-fits e), plain-pos {w = w32} (low-fits e)) (
+      height-found (t e) (natural e) (rw (plain (t-fits e)) at (c .if2 .taken)),
+      rw (true-leZ (pos 0) (pos (natAbs (t e) / 32768)) (omega integers), true-leZ (pos (natAbs (t e) / 32768)) (pos 1000000) (omega (integers, low e))),
     )
 
 returns-3 : tie.Need-returns-3
 returns-3 c =
-    let f = c .before .before .fits .t in
-    (height-missing (c .before .before .args .t) (natural (c .before)) (rw (plain f) at (c .if2 .left)), tt)
+    let e = c .before in
+    (height-missing (t e) (natural e) (rw (plain (t-fits e)) at (c .if2 .left)), tt)
 
 pub height-at-spec : {M : Type 1} → statement M
-height-at-spec = tie.close (tie.spec returns cast-n cast-t6 returns-2 returns-3)
+height-at-spec = tie.close (tie.spec returns cast-n cast-t7 returns-2 returns-3)

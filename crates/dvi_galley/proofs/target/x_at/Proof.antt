@@ -17,17 +17,23 @@ use Rattle.dvi_galley.proofs.target.x_at.Statement.{statement}
 use Rattle.dvi_galley.proofs.target.x_at.Tie as tie
 
 returns : tie.Need-returns
-returns c = sym (left-of-all (c .before .args .t) (rw (plain (c .before .fits .t)) at (c .if1 .taken)))
+returns c =
+    let t = c .before .before .args .t .0 in
+    let f : SFits w32 t = search needs in
+    sym (left-of-all t (rw (plain f) at (c .if1 .taken)))
 
 returns-2 : tie.Need-returns-2
-returns-2 c = sym (right-of-all (c .before .before .args .t) (rw (plain (c .before .before .fits .t)) at (c .if2 .taken)))
+returns-2 c =
+    let t = c .before .before .before .args .t .0 in
+    let f : SFits w32 t = search needs in
+    sym (right-of-all t (rw (plain f) at (c .if2 .taken)))
 
 module _ (c : tie.Else2) where
   abbrev t : ℤ
-  t = c .before .before .args .t
+  t = c .before .before .before .args .t .0
 
   t-fits : SFits w32 t
-  t-fits = c .before .before .fits .t
+  t-fits = search needs
 
   low : negsuc 600746 ≤ℤ t
   low = let h = rw (plain t-fits) at (c .before .if1 .left) in omega (integers, h)
@@ -53,12 +59,12 @@ cast-k c =
     rw (plain (t-fits c), plain (thrice-fits (t c) (low c) (high c)), plain (shifted-fits (t c) (low c) (high c)))
     (nonNeg-by (shifted (t c) (low c) (high c)) (shifted-natural (t c) (low c) (high c)), record { fits = omega (arith, shifted-small (t c) (low c) (high c)) })
 
-cast-t8 : tie.Need-cast-t8
-cast-t8 c =
+cast-t9 : tie.Need-cast-t9
+cast-t9 c =
     rw (plain (t-fits c), plain (thrice-fits (t c) (low c) (high c)), plain (shifted-fits (t c) (low c) (high c))) (index-fits (t c) (low c) (high c))
 
-add-t9 : tie.Need-add-t9
-add-t9 c =
+add-t10 : tie.Need-add-t10
+add-t10 c =
     rw (plain (t-fits c), plain (thrice-fits (t c) (low c) (high c)), plain (shifted-fits (t c) (low c) (high c)), plain-pos {w = w32} (index-fits (t c) (low c) (high c)))
     (place-fits (t c) (low c) (high c))
 
@@ -92,4 +98,4 @@ returns-4 c =
 pub x-at-spec : {M : Type 1} → statement M
 x-at-spec =
     tie.close
-    (tie.spec returns returns-2 mul-k add-k cast-k cast-t8 add-t9 target-requires returns-3 returns-4)
+    (tie.spec returns returns-2 mul-k add-k cast-k cast-t9 add-t10 target-requires returns-3 returns-4)

@@ -52,10 +52,8 @@ returns-3 c ws l =
     let s = c .before .before .before .before .before .before .before in
     let a = s .args in
     let p = pageOf (a .p) l in
-    let x = plain {w = w32} {z = a .p .numbers .x} (search needs) in
-    let y = plain {w = w32} {z = a .p .numbers .y} (search needs) in
     let f = plain {w = w32} {z = a .p .font} (search needs) in
-    (λ i. marked p (charMark (x i) (y i) (f i) (natAbs (plain (s .fits .c) i))))
+    (λ i. marked p (charMark (a .p .numbers .x .0) (a .p .numbers .y .0) (f i) (natAbs (plain (s .fits .c) i))))
     ∙ still-there p (a .c) (a .p .font) (natural (c .before .before .before .before)) (rw (plain (s .fits .c)) at (c .before .before .before .if3 .left))
     ∙ ap (λ (b : Bool). setStill p (a .c) (fontOf b (a .p .font))) (sym (c .before .before .before .before .before .before .if1 .taken))
 

@@ -6,8 +6,8 @@ use borrow.Author.Needs.{needs}
 use mir.Syntax.{w32}
 use lib.IntN.{ℤ}
 use Rattle.integers.specs.Parts.{plain}
-use Rattle.dvi.specs.Command.{NoBracket, vertRule, horzRule, horzChar, setFont}
-use Rattle.dvi.specs.Page.{Page, rightBy, downBy, setW, setX, setY, setZ, goTo, effect}
+use Rattle.dvi.specs.Command.{NoBracket, horzChar, setFont}
+use Rattle.dvi.specs.Page.{Page, rightBy, downBy, setW, setX, setY, setZ, effect}
 use Rattle.dvi_command.specs.Command.{commandOf}
 use Rattle.dvi_page.specs.Page.{pageOf}
 use Rattle.dvi_command.specs.declared.Command.{Command}
@@ -142,17 +142,13 @@ returns-6 : tie.Need-returns-6
 returns-6 c l =
     let s = c .before .before .before .before .before in
     let g = c .before .before .c2 .given in
-    let h = plain {w = w32} {z = g .0 .0} (search needs) in
-    let w = plain {w = w32} {z = g .0 .1 .0} (search needs) in
-    c .vert-rule .ensures (s .args .widths .now) l ∙ (λ i. effect (s .args .widths .now) (page s l) (vertRule (h i) (w i))) ∙ found s l (g .1)
+    c .vert-rule .ensures (s .args .widths .now) l ∙ found s l (g .1)
 
 returns-7 : tie.Need-returns-7
 returns-7 c l =
     let s = c .before .before .before .before .before in
     let g = c .before .before .c3 .given in
-    let h = plain {w = w32} {z = g .0 .0} (search needs) in
-    let w = plain {w = w32} {z = g .0 .1 .0} (search needs) in
-    c .horz-rule .ensures (s .args .widths .now) l ∙ (λ i. effect (s .args .widths .now) (page s l) (horzRule (h i) (w i))) ∙ found s l (g .1)
+    c .horz-rule .ensures (s .args .widths .now) l ∙ found s l (g .1)
 
 returns-8 : tie.Need-returns-8
 returns-8 c l =
@@ -173,60 +169,52 @@ unfolding effect rightBy setW
 returns-10 c l =
     let s = c .before .before .before .before .before in
     let g = c .before .before .c6 .given in
-    let e = plain {w = w32} {z = g .0 .0} (search needs) in
-    c .right .ensures l ∙ (λ i. goTo (page s l) (setW (e i) (rightBy (e i) (page s l .numbers)))) ∙ found s l (g .1)
+    c .right .ensures l ∙ found s l (g .1)
 
 returns-11 : tie.Need-returns-11
 unfolding effect
 returns-11 c l =
-    let s = c .before .before .before .before .before in
-    let e = plain {w = w32} {z = page s l .numbers .amountW} (search needs) in
-    c .right2 .ensures l ∙ ap (λ (z : ℤ). goTo (page s l) (rightBy z (page s l .numbers))) e ∙ found s l (c .before .before .enum-told5 .given .1)
+    let s = c .before .before .before .before in
+    c .right2 .ensures l ∙ found s l (c .before .enum-told5 .given .1)
 
 returns-12 : tie.Need-returns-12
 unfolding effect rightBy setX
 returns-12 c l =
     let s = c .before .before .before .before .before in
     let g = c .before .before .c7 .given in
-    let e = plain {w = w32} {z = g .0 .0} (search needs) in
-    c .right3 .ensures l ∙ (λ i. goTo (page s l) (setX (e i) (rightBy (e i) (page s l .numbers)))) ∙ found s l (g .1)
+    c .right3 .ensures l ∙ found s l (g .1)
 
 returns-13 : tie.Need-returns-13
 unfolding effect
 returns-13 c l =
-    let s = c .before .before .before .before .before in
-    let e = plain {w = w32} {z = page s l .numbers .amountX} (search needs) in
-    c .right4 .ensures l ∙ ap (λ (z : ℤ). goTo (page s l) (rightBy z (page s l .numbers))) e ∙ found s l (c .before .before .enum-told6 .given .1)
+    let s = c .before .before .before .before in
+    c .right4 .ensures l ∙ found s l (c .before .enum-told6 .given .1)
 
 returns-14 : tie.Need-returns-14
 unfolding effect downBy setY
 returns-14 c l =
     let s = c .before .before .before .before .before in
     let g = c .before .before .c8 .given in
-    let e = plain {w = w32} {z = g .0 .0} (search needs) in
-    c .down .ensures l ∙ (λ i. goTo (page s l) (setY (e i) (downBy (e i) (page s l .numbers)))) ∙ found s l (g .1)
+    c .down .ensures l ∙ found s l (g .1)
 
 returns-15 : tie.Need-returns-15
 unfolding effect
 returns-15 c l =
-    let s = c .before .before .before .before .before in
-    let e = plain {w = w32} {z = page s l .numbers .amountY} (search needs) in
-    c .down2 .ensures l ∙ ap (λ (z : ℤ). goTo (page s l) (downBy z (page s l .numbers))) e ∙ found s l (c .before .before .enum-told7 .given .1)
+    let s = c .before .before .before .before in
+    c .down2 .ensures l ∙ found s l (c .before .enum-told7 .given .1)
 
 returns-16 : tie.Need-returns-16
 unfolding effect downBy setZ
 returns-16 c l =
     let s = c .before .before .before .before .before in
     let g = c .before .before .c9 .given in
-    let e = plain {w = w32} {z = g .0 .0} (search needs) in
-    c .down3 .ensures l ∙ (λ i. goTo (page s l) (setZ (e i) (downBy (e i) (page s l .numbers)))) ∙ found s l (g .1)
+    c .down3 .ensures l ∙ found s l (g .1)
 
 returns-17 : tie.Need-returns-17
 unfolding effect
 returns-17 c l =
-    let s = c .before .before .before .before .before in
-    let e = plain {w = w32} {z = page s l .numbers .amountZ} (search needs) in
-    c .down4 .ensures l ∙ ap (λ (z : ℤ). goTo (page s l) (downBy z (page s l .numbers))) e ∙ found s l (c .before .before .enum-told8 .given .1)
+    let s = c .before .before .before .before in
+    c .down4 .ensures l ∙ found s l (c .before .enum-told8 .given .1)
 
 pub plain-effect-spec : {M : Type 1} → statement M
 plain-effect-spec =

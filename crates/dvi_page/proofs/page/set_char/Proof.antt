@@ -41,12 +41,9 @@ returns-2 c l =
     let v = c .before .before .before .before .before .w .given in
     let f = plain {w = w32} {z = a .p .font} (search needs) in
     let w = ap (λ (z : ℤ). widthIn (a .widths .now) z (a .c)) (sym f) ∙ sym (c .before .before .before .before .before .before .before .width-of .ensures) ∙ ap widthOf (v .1) in
-    let x = plain {w = w32} {z = a .p .numbers .x} (search needs) in
-    let y = plain {w = w32} {z = a .p .numbers .y} (search needs) in
-    let d = plain {w = w32} {z = v .0 .0} (search needs) in
     let h = c .before .before .before .before .before .before .before .before .before .if1 .taken in
     c .show-right .ensures l
-    ∙ (λ i. showAndGoTo p (charMark (x i) (y i) (f i) (a .c)) (rightBy (d i) (p .numbers)))
+    ∙ (λ i. showAndGoTo p (charMark (a .p .numbers .x .0) (a .p .numbers .y .0) (f i) (a .c)) (rightBy (v .0 .0 .0) (p .numbers)))
     ∙ sym (ap (λ (b : Bool). setInFont (a .widths .now) p (a .c) (fontOf b (a .p .font))) h ∙ ap (setMoving p (a .c) (a .p .font)) w)
 
 returns-3 : tie.Need-returns-3

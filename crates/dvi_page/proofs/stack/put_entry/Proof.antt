@@ -1,9 +1,12 @@
 -- `dvi_page::stack::put_entry` meets its contract: six stores, one entry more.
 -- Assumes nothing.
-use mathlib.Core.Path.{_∙_, ap}
+use mathlib.Core.Path.{_≡_, _∙_, ap}
 use mathlib.Core.List.{_∷_}
 use native.Mathlib.Omega.{arith}
 use lib.ListN.{length-set}
+use mir.Syntax.{w32}
+use mir.Val.{toZ, ofZ}
+use Rattle.integers.specs.Parts.{plain}
 use Rattle.dvi.specs.Page.{Numbers}
 use Rattle.dvi_page.specs.Stack.{stackOf}
 use Rattle.dvi_page.proofs.Stacks.{numbers, stored-stack}
@@ -68,12 +71,33 @@ slice-set-from-za c = simp length-set (omega arith)
 same-length : tie.Need-same-length
 same-length c = simp length-set
 
+-- each of the six as a number
+module _ (c : tie.After-struct-told) where
+  x-is : toZ w32 (ofZ w32 (c .before .args .n .x .0)) ≡ c .before .args .n .x .0
+  x-is = plain (search needs)
+
+  y-is : toZ w32 (ofZ w32 (c .before .args .n .y .0)) ≡ c .before .args .n .y .0
+  y-is = plain (search needs)
+
+  wa-is : toZ w32 (ofZ w32 (c .before .args .n .wa .0)) ≡ c .before .args .n .wa .0
+  wa-is = plain (search needs)
+
+  xa-is : toZ w32 (ofZ w32 (c .before .args .n .xa .0)) ≡ c .before .args .n .xa .0
+  xa-is = plain (search needs)
+
+  ya-is : toZ w32 (ofZ w32 (c .before .args .n .ya .0)) ≡ c .before .args .n .ya .0
+  ya-is = plain (search needs)
+
+  za-is : toZ w32 (ofZ w32 (c .before .args .n .za .0)) ≡ c .before .args .n .za .0
+  za-is = plain (search needs)
+
 returns : tie.Need-returns
 returns c =
-    let a = c .before .before .before .before .before .before .args in
+    let first = c .before .before .before .before .before in
+    let a = first .before .args in
     stored-stack (a .stack .now) (a .d) (omega arith) _ _ _ _ _ _
     ∙ ap (λ (n : Numbers). n ∷ stackOf (a .stack .now) (a .d))
-    (numbers (search needs) (search needs) (search needs) (search needs) (search needs) (search needs))
+    (numbers (x-is first) (y-is first) (wa-is first) (xa-is first) (ya-is first) (za-is first))
 
 pub put-entry-spec : {M : Type 1} → statement M
 put-entry-spec =

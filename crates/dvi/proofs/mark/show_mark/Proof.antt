@@ -1,17 +1,17 @@
--- `sheet::show_mark` meets its contract: a field for each kind of mark.
+-- `dvi::mark::show_mark` meets its contract: a field for each kind of mark.
 -- Assumes nothing.
 use mathlib.Core.Path.{sym, ap, _∙_}
 use native.Mathlib.Omega.{arith}
 use borrow.Author.Needs.{needs}
 use mir.Syntax.{w32}
 use Rattle.integers.specs.Parts.{plain}
 use Rattle.sheet.specs.Sheet.{pageMark, charMark, ruleMark, markField}
 use Rattle.sheet.specs.SheetLaws.{fieldSize}
-use Rattle.sheet.specs.Mark.{markOf}
-use Rattle.sheet.specs.declared.Mark.{Mark}
+use Rattle.dvi.specs.declared.mark.Mark.{Mark}
+use Rattle.dvi.specs.Mark.{markOf}
 use Rattle.octets.specs.Write.{put-named}
-use Rattle.sheet.proofs.show_mark.Statement.{statement}
-use Rattle.sheet.proofs.show_mark.Tie as tie
+use Rattle.dvi.proofs.mark.show_mark.Statement.{statement}
+use Rattle.dvi.proofs.mark.show_mark.Tie as tie
 
 enum-known-m : tie.Need-enum-known-m
 enum-known-m c = search needs
@@ -27,8 +27,8 @@ enum-known-m-2 c = search needs
 
 show-char-requires : tie.Need-show-char-requires
 show-char-requires c κs =
-    let e = ap (λ (k : Mark). fieldSize (markOf k)) (c .before .before .m2 .given .1) in
-    let p = c .before .before .before .before .before .pre in
+    let e = ap (λ (k : Mark). fieldSize (markOf k)) (c .before .before .before .before .m2 .given .1) in
+    let p = c .before .before .before .before .before .before .before .pre in
     (p .0, λ w. omega (arith, e, p .1 w))
 
 enum-known-m-3 : tie.Need-enum-known-m-3
@@ -36,8 +36,8 @@ enum-known-m-3 c = search needs
 
 show-rule-requires : tie.Need-show-rule-requires
 show-rule-requires c κs =
-    let e = ap (λ (k : Mark). fieldSize (markOf k)) (c .before .before .m3 .given .1) in
-    let p = c .before .before .before .before .before .pre in
+    let e = ap (λ (k : Mark). fieldSize (markOf k)) (c .before .before .before .before .before .before .m3 .given .1) in
+    let p = c .before .before .before .before .before .before .before .before .before .pre in
     (p .0, λ w. omega (arith, e, p .1 w))
 
 same-length : tie.Need-same-length
@@ -54,9 +54,9 @@ same-length-2 c = search needs
 
 returns-2 : tie.Need-returns-2
 returns-2 c =
-    let g = c .before .before .before .before .before .m2 .given in
-    let x = plain {w = w32} {z = g .0 .1 .0} (search needs) in
-    let y = plain {w = w32} {z = g .0 .1 .1 .0} (search needs) in
+    let g = c .before .before .before .before .before .before .before .m2 .given in
+    let x = plain {w = w32} {z = g .0 .1 .0 .0} (search needs) in
+    let y = plain {w = w32} {z = g .0 .1 .1 .0 .0} (search needs) in
     let f = plain {w = w32} {z = g .0 .1 .1 .1 .0} (search needs) in
     put-named ((λ i. markField (charMark (x i) (y i) (f i) (g .0 .0))) ∙ ap (λ (k : Mark). markField (markOf k)) (sym (g .1))) (c .before .before .show-char .ensures)
 
@@ -65,11 +65,11 @@ same-length-3 c = search needs
 
 returns-3 : tie.Need-returns-3
 returns-3 c =
-    let g = c .before .before .before .before .before .m3 .given in
-    let x = plain {w = w32} {z = g .0 .1 .0} (search needs) in
-    let y = plain {w = w32} {z = g .0 .1 .1 .0} (search needs) in
-    let h = plain {w = w32} {z = g .0 .1 .1 .1 .0} (search needs) in
-    let w = plain {w = w32} {z = g .0 .1 .1 .1 .1 .0} (search needs) in
+    let g = c .before .before .before .before .before .before .before .before .before .m3 .given in
+    let x = plain {w = w32} {z = g .0 .1 .0 .0} (search needs) in
+    let y = plain {w = w32} {z = g .0 .1 .1 .0 .0} (search needs) in
+    let h = plain {w = w32} {z = g .0 .1 .1 .1 .0 .0} (search needs) in
+    let w = plain {w = w32} {z = g .0 .1 .1 .1 .1 .0 .0} (search needs) in
     put-named ((λ i. markField (ruleMark (g .0 .0) (x i) (y i) (h i) (w i))) ∙ ap (λ (k : Mark). markField (markOf k)) (sym (g .1))) (c .before .before .show-rule .ensures)
 
 pub show-mark-spec : {M : Type 1} → statement M
