@@ -1,8 +1,6 @@
 //! C/A/T phototypesetter tapes, whole or in pieces, to galleys, galleys to DVI files of 1980 and of the second
-//! edition, and DVI files to sheets and back to galleys; galleys back to tapes, and old galleys to new ones and back; and reports over many
-//! tapes.
-//!
-//! Files of XGP character mode become sheets too.
+//! edition, and DVI files to sheets and back to galleys; galleys back to tapes, and old galleys to new ones and
+//! back; files of XGP character mode to sheets; and reports over many tapes.
 //!
 //! The operations are those of the proved library `libspatecanter.a`; this package adds safe calls, types for what
 //! they accept and make, refusals in words, and the command `spatecanter`.
