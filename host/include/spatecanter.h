@@ -115,56 +115,56 @@ enum sp_number {
     SP_TAPE_TOO_LONG     = 1,  /* tape over SP_TAPE_LIMIT; 0 */
     SP_ILLEGAL_CODE      = 2,  /* 4D, 5F or FF (hexadecimal), on the 4-font machine 4E or 4F too; the
                                   byte's offset */
-    SP_BEFORE_INITIALIZE = 3,  /* before the first initialize, another code than 00; the byte's offset */
+    SP_NOT_INITIALIZED   = 3,  /* before the first initialize, another code than 00; the byte's offset */
     SP_AFTER_STOP        = 4,  /* after stop, another code than 00; the byte's offset */
     SP_PARKED            = 5,  /* parked: a flash, or an escape not forward 16; the byte's offset */
     SP_NO_SIZE           = 6,  /* a flash, and no size yet; the byte's offset */
     SP_OUT_OF_RANGE      = 7,  /* the carriage would leave 0 to 3,239, or the height 0 to
                                   SP_HEIGHT_LIMIT; the byte's offset */
-    SP_UPPER_HALF        = 8,  /* a flash above 45 in the upper half; the byte's offset */
+    SP_ABOVE_HALF        = 8,  /* a flash above 45 in the upper half; the byte's offset */
     SP_NO_STOP           = 9,  /* the tape ends without stop; the tape's length */
     SP_AFTER_CUT         = 10, /* after a cut (4B), another code than 00 and initialize; the byte's offset.
                                   The tape ends after a cut and 00 alone; the tape's length */
-    SP_GALLEY_ROOM       = 12, /* buffer for the galley, or for the fields of a piece or End, too short; the
+    SP_NO_GALLEY_ROOM    = 12, /* buffer for the galley, or for the fields of a piece or End, too short; the
                                   bytes needed */
     SP_NOT_STARTED       = 13, /* a piece or a closing before any start or after an accepted closing; 0 */
     SP_NO_MACHINE        = 50, /* a machine other than 4 or 8; 0 */
 
     /* DVI files */
-    SP_DVI_TOO_LONG      = 20, /* file over SP_DVI_LIMIT, or of the second edition over SP_DVI2_LIMIT; 0 */
-    SP_COMMAND           = 21, /* an undefined command, or one not allowed there; its offset */
-    SP_DVI_ENDS          = 22, /* the file ends inside a command other than PST; the command's offset.
+    SP_FILE_TOO_LONG     = 20, /* file over SP_DVI_LIMIT, or of the second edition over SP_DVI2_LIMIT; 0 */
+    SP_BAD_COMMAND       = 21, /* an undefined command, or one not allowed there; its offset */
+    SP_DVI_ENDS_EARLY    = 22, /* the file ends inside a command other than PST; the command's offset.
                                   It ends inside a page or before PST; the file's length */
-    SP_BOP_OFFSET        = 23, /* a BOP that names a wrong offset for the BOP before it; its offset */
-    SP_PUSH              = 24, /* a push onto 200 entries; the command's offset */
-    SP_POP               = 25, /* a pop of none; the command's offset */
-    SP_EOP               = 26, /* an EOP with entries left; the command's offset */
-    SP_CHARACTER         = 27, /* no font, HORZCHAR outside 0 to 127, or a command 0 to 127 whose
+    SP_WRONG_OFFSET      = 23, /* a BOP that names a wrong offset for the BOP before it; its offset */
+    SP_STACK_FULL        = 24, /* a push onto 200 entries; the command's offset */
+    SP_STACK_EMPTY       = 25, /* a pop of none; the command's offset */
+    SP_ENTRIES_LEFT      = 26, /* an EOP with entries left; the command's offset */
+    SP_CANNOT_SET        = 27, /* no font, HORZCHAR outside 0 to 127, or a command 0 to 127 whose
                                   character has no width; the command's offset */
-    SP_OVERFLOW          = 28, /* x or y leaves signed 32 bits; the command's offset */
-    SP_POSTAMBLE         = 29, /* the postamble is malformed or short; PST's offset */
-    SP_SHEET_ROOM        = 30, /* sheet buffer too short; the bytes needed */
-    SP_WIDTHS            = 31, /* the width table is not whole fonts of 128 numbers; 0 */
+    SP_OUT_OF_32_BITS    = 28, /* x or y leaves signed 32 bits; the command's offset */
+    SP_BAD_POSTAMBLE     = 29, /* the postamble is malformed or short; PST's offset */
+    SP_NO_SHEET_ROOM     = 30, /* sheet buffer too short; the bytes needed */
+    SP_WIDTHS_NOT_WHOLE  = 31, /* the width table is not whole fonts of 128 numbers; 0 */
     SP_NOT_OURS          = 46, /* second edition: no file that sp_write_dvi2 makes begins with the bytes through
                                   a command; the offset of the first such command.
                                   The file ends early; its length */
 
     /* Galleys */
-    SP_NO_SUCH_CHARACTER = 11, /* reading back: n is not below the number of characters; 0 */
+    SP_NO_CHARACTER      = 11, /* reading back: n is not below the number of characters; 0 */
     SP_GALLEY_TOO_LONG   = 40, /* galley over SP_GALLEY_LIMIT, or of the old form over
                                   SP_OLD_GALLEY_LIMIT; 0 */
     SP_GALLEY_MALFORMED  = 41, /* a bad field, one cut short included, or a character or cut past
                                   SP_ITEM_LIMIT; the first one's offset. No item at a place; that place.
                                   Bytes after End; the first one's offset.
                                   No End; the galley's length */
-    SP_DVI_ROOM          = 42, /* DVI buffer too short; the bytes needed */
-    SP_TOO_HIGH          = 43, /* to DVI of 1980 or the old form: a height over SP_DVI_HEIGHT_LIMIT; the offset of
+    SP_NO_DVI_ROOM       = 42, /* DVI buffer too short; the bytes needed */
+    SP_HEIGHT_TOO_GREAT  = 43, /* to DVI of 1980 or the old form: a height over SP_DVI_HEIGHT_LIMIT; the offset of
                                   the first such character's field */
-    SP_CONVERTED_ROOM    = 44, /* buffer for the converted galley too short; the bytes needed */
+    SP_NO_CONVERTED_ROOM = 44, /* buffer for the converted galley too short; the bytes needed */
     SP_NO_GALLEY         = 45, /* from DVI to a galley: the file shows no galley's targets; the offset of the
                                   first command that breaks a condition (see sp_dvi_to_galley) */
     SP_PUNCHED_TOO_LONG  = 48, /* punching: the tape would be over SP_TAPE_LIMIT; 0 */
-    SP_TAPE_ROOM         = 49, /* tape buffer too short; the bytes needed */
+    SP_NO_TAPE_ROOM      = 49, /* tape buffer too short; the bytes needed */
 
     /* Reports */
     SP_REPORT_FULL       = 47, /* the report has SP_REPORT_LIMIT tapes already; 0 */

@@ -30,11 +30,11 @@ impl DviFile {
     /// use spatecanter::{DviFile, Refusal};
     ///
     /// let refused = DviFile::from_bytes(vec![128], &[]).unwrap_err();
-    /// assert_eq!(refused.refusal(), Refusal::Command { place: 0 });
+    /// assert_eq!(refused.refusal(), Refusal::BadCommand { place: 0 });
     /// ```
     pub fn from_bytes(bytes: Vec<u8>, widths: &[i32]) -> Result<DviFile, Refused> {
         match read_dvi_into(&bytes, widths, &mut []) {
-            Ok(_) | Err(Refusal::SheetRoom { .. }) => Ok(DviFile { bytes }),
+            Ok(_) | Err(Refusal::NoSheetRoom { .. }) => Ok(DviFile { bytes }),
             Err(refusal) => Err(Refused::new(refusal.in_dvi(&bytes, widths), bytes)),
         }
     }

@@ -2,7 +2,7 @@
 
 use crate::ffi;
 use crate::galley::Galley;
-use crate::operations::{filled, outcome, GALLEY_LIMIT};
+use crate::operations::{answered, filled, GALLEY_LIMIT};
 use crate::refusal::{Outcome, Refusal};
 
 /// The longest DVI file of the second edition that is taken, in bytes.
@@ -10,7 +10,7 @@ use crate::refusal::{Outcome, Refusal};
 /// ```
 /// use spatecanter::{read_dvi2, Refusal, DVI2_LIMIT};
 ///
-/// assert_eq!(read_dvi2(&vec![0; DVI2_LIMIT + 1]), Err(Refusal::DviTooLong));
+/// assert_eq!(read_dvi2(&vec![0; DVI2_LIMIT + 1]), Err(Refusal::FileTooLong));
 /// ```
 pub const DVI2_LIMIT: usize = 67_108_864;
 
@@ -24,12 +24,7 @@ pub const DVI2_LIMIT: usize = 67_108_864;
 /// # Ok::<(), spatecanter::Refusal>(())
 /// ```
 pub fn write_dvi2_into(galley: &[u8], dvi: &mut [u8]) -> Outcome {
-    let mut answer = [0; 3];
-    // SAFETY: every pointer comes from a live slice, with its length.
-    unsafe {
-        ffi::sp_write_dvi2(galley.as_ptr(), galley.len(), dvi.as_mut_ptr(), dvi.len(), &mut answer);
-    }
-    outcome(answer)
+    answered(|answer| ffi::over_bytes(ffi::sp_write_dvi2, galley, dvi, answer))
 }
 
 /// The DVI file of the second edition of a galley.
@@ -56,12 +51,7 @@ pub fn write_dvi2(galley: &[u8]) -> Result<Vec<u8>, Refusal> {
 /// # Ok::<(), spatecanter::Refusal>(())
 /// ```
 pub fn read_dvi2_into(dvi: &[u8], galley: &mut [u8]) -> Outcome {
-    let mut answer = [0; 3];
-    // SAFETY: every pointer comes from a live slice, with its length.
-    unsafe {
-        ffi::sp_read_dvi2(dvi.as_ptr(), dvi.len(), galley.as_mut_ptr(), galley.len(), &mut answer);
-    }
-    outcome(answer)
+    answered(|answer| ffi::over_bytes(ffi::sp_read_dvi2, dvi, galley, answer))
 }
 
 /// The galley of a DVI file that `write_dvi2` made.

@@ -166,3 +166,28 @@ extern "C" {
 
     pub fn sp_extents(tape: *const [u64; TAPE_WORDS], reach: *mut [i32; 2], fonts: *mut [u64; 2]);
 }
+
+/// An operation from bytes to bytes.
+type OverBytes = unsafe extern "C" fn(*const u8, usize, *mut u8, usize, *mut [usize; 3]);
+
+/// An operation from bytes to bytes with a table of widths.
+type WithWidths = unsafe extern "C" fn(*const u8, usize, *const i32, usize, *mut u8, usize, *mut [usize; 3]);
+
+/// Calls an operation of this interface on slices.
+pub fn over_bytes(operation: OverBytes, from: &[u8], to: &mut [u8], answer: &mut [usize; 3]) {
+    // SAFETY: every pointer comes from a live slice, with its length, and from a live array.
+    unsafe { operation(from.as_ptr(), from.len(), to.as_mut_ptr(), to.len(), answer) }
+}
+
+/// Calls an operation of this interface on slices, with a table of widths.
+pub fn with_widths(
+    operation: WithWidths,
+    from: &[u8],
+    widths: &[i32],
+    to: &mut [u8],
+    answer: &mut [usize; 3],
+) {
+    let (widths, count) = (widths.as_ptr(), widths.len());
+    // SAFETY: every pointer comes from a live slice, with its length, and from a live array.
+    unsafe { operation(from.as_ptr(), from.len(), widths, count, to.as_mut_ptr(), to.len(), answer) }
+}

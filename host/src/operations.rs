@@ -41,7 +41,7 @@ pub const OLD_GALLEY_LIMIT: usize = 9_437_191;
 /// ```
 /// use spatecanter::{read_dvi, Refusal, DVI_LIMIT};
 ///
-/// assert_eq!(read_dvi(&vec![0; DVI_LIMIT + 1], &[]), Err(Refusal::DviTooLong));
+/// assert_eq!(read_dvi(&vec![0; DVI_LIMIT + 1], &[]), Err(Refusal::FileTooLong));
 /// ```
 pub const DVI_LIMIT: usize = 33_554_432;
 
@@ -82,8 +82,8 @@ pub const DVI_HEIGHT_LIMIT: i32 = 65_535;
 /// ```
 /// use spatecanter::{read_dvi, Refusal, WIDTHS_PER_FONT};
 ///
-/// assert_eq!(read_dvi(&[], &[0; WIDTHS_PER_FONT]), Err(Refusal::DviEnds { place: 0 }));
-/// assert_eq!(read_dvi(&[], &[0; WIDTHS_PER_FONT - 1]), Err(Refusal::Widths));
+/// assert_eq!(read_dvi(&[], &[0; WIDTHS_PER_FONT]), Err(Refusal::DviEndsEarly { place: 0 }));
+/// assert_eq!(read_dvi(&[], &[0; WIDTHS_PER_FONT - 1]), Err(Refusal::WidthsNotWhole));
 /// ```
 pub const WIDTHS_PER_FONT: usize = 128;
 
@@ -204,7 +204,7 @@ pub fn check_galley(galley: &[u8]) -> Outcome {
 ///
 /// let galley = read_tape(&[0x40, 0xEF, 0x52, 0x4E, 0x01, 0xFC, 0x02, 0x49], Machine::Eight)?;
 /// assert_eq!(read_back(&galley, 1)?.x, 3);
-/// assert_eq!(read_back(&galley, 2), Err(Refusal::NoSuchCharacter));
+/// assert_eq!(read_back(&galley, 2), Err(Refusal::NoCharacter));
 /// # Ok::<(), spatecanter::Refusal>(())
 /// ```
 pub fn read_back(galley: &[u8], n: usize) -> Result<Character, Refusal> {
@@ -255,16 +255,11 @@ pub fn item_at(galley: &[u8], at: usize) -> Result<(Item, usize), Refusal> {
 /// let galley = read_tape(&[0x40, 0x49], Machine::Eight)?;
 /// let mut dvi = [0; 36];
 /// assert_eq!(write_dvi_into(&galley, &mut dvi), Ok(36));
-/// assert_eq!(write_dvi_into(&galley, &mut dvi[..35]), Err(Refusal::DviRoom { needed: 36 }));
+/// assert_eq!(write_dvi_into(&galley, &mut dvi[..35]), Err(Refusal::NoDviRoom { needed: 36 }));
 /// # Ok::<(), spatecanter::Refusal>(())
 /// ```
 pub fn write_dvi_into(galley: &[u8], dvi: &mut [u8]) -> Outcome {
-    let mut answer = [0; 3];
-    // SAFETY: every pointer comes from a live slice, with its length.
-    unsafe {
-        ffi::sp_write_dvi(galley.as_ptr(), galley.len(), dvi.as_mut_ptr(), dvi.len(), &mut answer);
-    }
-    outcome(answer)
+    answered(|answer| ffi::over_bytes(ffi::sp_write_dvi, galley, dvi, answer))
 }
 
 /// The DVI file of a galley whose heights are at most 65,535.
@@ -292,20 +287,7 @@ pub fn write_dvi(galley: &[u8]) -> Result<DviFile, Refusal> {
 /// # Ok::<(), spatecanter::Refusal>(())
 /// ```
 pub fn read_dvi_into(dvi: &[u8], widths: &[i32], sheet: &mut [u8]) -> Outcome {
-    let mut answer = [0; 3];
-    // SAFETY: every pointer comes from a live slice, with its length.
-    unsafe {
-        ffi::sp_read_dvi(
-            dvi.as_ptr(),
-            dvi.len(),
-            widths.as_ptr(),
-            widths.len(),
-            sheet.as_mut_ptr(),
-            sheet.len(),
-            &mut answer,
-        );
-    }
-    outcome(answer)
+    answered(|answer| ffi::with_widths(ffi::sp_read_dvi, dvi, widths, sheet, answer))
 }
 
 /// The sheet of a DVI file, with a table of widths.
@@ -332,20 +314,7 @@ pub fn read_dvi(dvi: &[u8], widths: &[i32]) -> Result<Sheet, Refusal> {
 /// # Ok::<(), spatecanter::Refusal>(())
 /// ```
 pub fn read_dvi_plain_into(dvi: &[u8], widths: &[i32], sheet: &mut [u8]) -> Outcome {
-    let mut answer = [0; 3];
-    // SAFETY: every pointer comes from a live slice, with its length.
-    unsafe {
-        ffi::sp_read_dvi_plain(
-            dvi.as_ptr(),
-            dvi.len(),
-            widths.as_ptr(),
-            widths.len(),
-            sheet.as_mut_ptr(),
-            sheet.len(),
-            &mut answer,
-        );
-    }
-    outcome(answer)
+    answered(|answer| ffi::with_widths(ffi::sp_read_dvi_plain, dvi, widths, sheet, answer))
 }
 
 /// The sheet of a DVI file, by the way of `read_dvi_plain_into`.
@@ -372,20 +341,7 @@ pub fn read_dvi_plain(dvi: &[u8], widths: &[i32]) -> Result<Sheet, Refusal> {
 /// # Ok::<(), spatecanter::Refusal>(())
 /// ```
 pub fn dvi_to_galley_into(dvi: &[u8], widths: &[i32], galley: &mut [u8]) -> Outcome {
-    let mut answer = [0; 3];
-    // SAFETY: every pointer comes from a live slice, with its length.
-    unsafe {
-        ffi::sp_dvi_to_galley(
-            dvi.as_ptr(),
-            dvi.len(),
-            widths.as_ptr(),
-            widths.len(),
-            galley.as_mut_ptr(),
-            galley.len(),
-            &mut answer,
-        );
-    }
-    outcome(answer)
+    answered(|answer| ffi::with_widths(ffi::sp_dvi_to_galley, dvi, widths, galley, answer))
 }
 
 /// The galley whose targets a DVI file shows: the file of `write_dvi` gives back its galley.
@@ -473,12 +429,7 @@ pub fn reprint(galley: &[u8], widths: &[i32]) -> Result<Reprint, Refusal> {
 /// # Ok::<(), spatecanter::Refusal>(())
 /// ```
 pub fn punch_tape_into(galley: &[u8], tape: &mut [u8]) -> Outcome {
-    let mut answer = [0; 3];
-    // SAFETY: every pointer comes from a live slice, with its length.
-    unsafe {
-        ffi::sp_punch_tape(galley.as_ptr(), galley.len(), tape.as_mut_ptr(), tape.len(), &mut answer);
-    }
-    outcome(answer)
+    answered(|answer| ffi::over_bytes(ffi::sp_punch_tape, galley, tape, answer))
 }
 
 /// The tape of a galley, for the 8-font machine.
@@ -505,18 +456,7 @@ pub fn punch_tape(galley: &[u8]) -> Result<Vec<u8>, Refusal> {
 /// assert_eq!(galley_to_new_into(&old, &mut new), Ok(18));
 /// ```
 pub fn galley_to_new_into(old_galley: &[u8], new_galley: &mut [u8]) -> Outcome {
-    let mut answer = [0; 3];
-    // SAFETY: every pointer comes from a live slice, with its length.
-    unsafe {
-        ffi::sp_galley_to_new(
-            old_galley.as_ptr(),
-            old_galley.len(),
-            new_galley.as_mut_ptr(),
-            new_galley.len(),
-            &mut answer,
-        );
-    }
-    outcome(answer)
+    answered(|answer| ffi::over_bytes(ffi::sp_galley_to_new, old_galley, new_galley, answer))
 }
 
 /// A galley of the old form in the new form.
@@ -546,18 +486,7 @@ pub fn galley_to_new(old_galley: &[u8]) -> Result<Galley, Refusal> {
 /// # Ok::<(), spatecanter::Refusal>(())
 /// ```
 pub fn galley_to_old_into(new_galley: &[u8], old_galley: &mut [u8]) -> Outcome {
-    let mut answer = [0; 3];
-    // SAFETY: every pointer comes from a live slice, with its length.
-    unsafe {
-        ffi::sp_galley_to_old(
-            new_galley.as_ptr(),
-            new_galley.len(),
-            old_galley.as_mut_ptr(),
-            old_galley.len(),
-            &mut answer,
-        );
-    }
-    outcome(answer)
+    answered(|answer| ffi::over_bytes(ffi::sp_galley_to_old, new_galley, old_galley, answer))
 }
 
 /// A galley whose heights are at most 65,535 in the old form.
@@ -589,6 +518,13 @@ pub(crate) fn filled(usual: usize, mut fill: impl FnMut(&mut [u8]) -> Outcome) -
     }
     buffer.truncate(outcome?);
     Ok(buffer)
+}
+
+/// What a call answers.
+pub(crate) fn answered(call: impl FnOnce(&mut [usize; 3])) -> Outcome {
+    let mut answer = [0; 3];
+    call(&mut answer);
+    outcome(answer)
 }
 
 /// What number, place and length say.

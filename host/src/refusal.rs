@@ -60,7 +60,7 @@ macro_rules! refusals {
             /// ```
             /// use spatecanter::Refusal;
             ///
-            /// assert_eq!(Refusal::from_parts(12, 29), Refusal::GalleyRoom { needed: 29 });
+            /// assert_eq!(Refusal::from_parts(12, 29), Refusal::NoGalleyRoom { needed: 29 });
             /// ```
             pub fn from_parts(number: usize, place: usize) -> Refusal {
                 match number {
@@ -87,7 +87,7 @@ macro_rules! refusals {
             /// use spatecanter::Refusal;
             ///
             /// assert_eq!(Refusal::NoStop { place: 3 }.place(), 3);
-            /// assert_eq!(Refusal::DviRoom { needed: 59 }.place(), 59);
+            /// assert_eq!(Refusal::NoDviRoom { needed: 59 }.place(), 59);
             /// assert_eq!(Refusal::NoMachine.place(), 0);
             /// ```
             pub fn place(self) -> usize {
@@ -104,39 +104,39 @@ macro_rules! refusals {
 refusals! {
     TapeTooLong = 1, TAPE_TOO_LONG: "the tape is longer than 1,048,576 bytes";
     IllegalCode { place: "the byte" } = 2, ILLEGAL_CODE: "illegal code";
-    BeforeInitialize { place: "the byte" } = 3, BEFORE_INITIALIZE: "a code before the first initialize";
+    NotInitialized { place: "the byte" } = 3, NOT_INITIALIZED: "a code before the first initialize";
     AfterStop { place: "the byte" } = 4, AFTER_STOP: "a code after stop";
     Parked { place: "the byte" } = 5, PARKED: "a flash, or an escape other than 16 forward, while the carriage is parked";
     NoSize { place: "the byte" } = 6, NO_SIZE: "a flash before any size is set";
     OutOfRange { place: "the byte" } = 7, OUT_OF_RANGE: "the carriage or the height would leave its range";
-    UpperHalf { place: "the byte" } = 8, UPPER_HALF: "a flash above 45 in the upper half";
+    AboveHalf { place: "the byte" } = 8, ABOVE_HALF: "a flash above 45 in the upper half";
     NoStop { place: "the tape's length" } = 9, NO_STOP: "the tape ends without stop";
     AfterCut { place: "the byte, or the tape's length" } = 10, AFTER_CUT: "a code other than initialize after a cut, or the tape ends there";
-    NoSuchCharacter = 11, NO_SUCH_CHARACTER: "the galley has no character of this number";
-    GalleyRoom { needed: "the bytes needed" } = 12, GALLEY_ROOM: "the buffer for the galley is too short";
+    NoCharacter = 11, NO_CHARACTER: "the galley has no character of this number";
+    NoGalleyRoom { needed: "the bytes needed" } = 12, NO_GALLEY_ROOM: "the buffer for the galley is too short";
     NotStarted = 13, NOT_STARTED: "a piece or a closing before any start, or after an accepted closing";
-    DviTooLong = 20, DVI_TOO_LONG: "the file is longer than 33,554,432 bytes, or as DVI of the second edition 67,108,864";
-    Command { place: "the command" } = 21, COMMAND: "an undefined command, or one not allowed there";
-    DviEnds { place: "the start of the command, or the file's length" } = 22, DVI_ENDS: "the file ends inside a page or a command, or before its postamble";
-    BopOffset { place: "the command" } = 23, BOP_OFFSET: "the page's pointer to the page before it is wrong";
-    Push { place: "the command" } = 24, PUSH: "a push onto a full stack of 200 entries";
-    Pop { place: "the command" } = 25, POP: "a pop from an empty stack";
-    Eop { place: "the command" } = 26, EOP: "a page ends with entries left on the stack";
-    Character { place: "the command" } = 27, CHARACTER: "a character with no font, outside 0 to 127, or without a width";
-    Overflow { place: "the command" } = 28, OVERFLOW: "x or y leaves 32 bits";
-    Postamble { place: "PST" } = 29, POSTAMBLE: "the postamble is malformed or cut short";
-    SheetRoom { needed: "the bytes needed" } = 30, SHEET_ROOM: "the buffer for the sheet is too short";
-    Widths = 31, WIDTHS: "the width table is not a whole number of fonts of 128 widths, or for an XGP file not four";
+    FileTooLong = 20, FILE_TOO_LONG: "the file is longer than 33,554,432 bytes, or as DVI of the second edition 67,108,864";
+    BadCommand { place: "the command" } = 21, BAD_COMMAND: "an undefined command, or one not allowed there";
+    DviEndsEarly { place: "the start of the command, or the file's length" } = 22, DVI_ENDS_EARLY: "the file ends inside a page or a command, or before its postamble";
+    WrongOffset { place: "the command" } = 23, WRONG_OFFSET: "the page's pointer to the page before it is wrong";
+    StackFull { place: "the command" } = 24, STACK_FULL: "a push onto a full stack of 200 entries";
+    StackEmpty { place: "the command" } = 25, STACK_EMPTY: "a pop from an empty stack";
+    EntriesLeft { place: "the command" } = 26, ENTRIES_LEFT: "a page ends with entries left on the stack";
+    CannotSet { place: "the command" } = 27, CANNOT_SET: "a character with no font, outside 0 to 127, or without a width";
+    OutOf32Bits { place: "the command" } = 28, OUT_OF_32_BITS: "x or y leaves 32 bits";
+    BadPostamble { place: "PST" } = 29, BAD_POSTAMBLE: "the postamble is malformed or cut short";
+    NoSheetRoom { needed: "the bytes needed" } = 30, NO_SHEET_ROOM: "the buffer for the sheet is too short";
+    WidthsNotWhole = 31, WIDTHS_NOT_WHOLE: "the width table is not a whole number of fonts of 128 widths, or for an XGP file not four";
     GalleyTooLong = 40, GALLEY_TOO_LONG: "the galley is longer than 11,534,343 bytes, or 9,437,191 in the old form";
     GalleyMalformed { place: "the first bad field, the first byte after End, or the length if End is missing" } = 41, GALLEY_MALFORMED: "the galley is malformed";
-    DviRoom { needed: "the bytes needed" } = 42, DVI_ROOM: "the buffer for the DVI file is too short";
-    TooHigh { place: "the first such character's field" } = 43, TOO_HIGH: "a height above 65,535, which neither DVI of 1980 nor the old form can hold";
-    ConvertedRoom { needed: "the bytes needed" } = 44, CONVERTED_ROOM: "the buffer for the converted galley is too short";
+    NoDviRoom { needed: "the bytes needed" } = 42, NO_DVI_ROOM: "the buffer for the DVI file is too short";
+    HeightTooGreat { place: "the first such character's field" } = 43, HEIGHT_TOO_GREAT: "a height above 65,535, which neither DVI of 1980 nor the old form can hold";
+    NoConvertedRoom { needed: "the bytes needed" } = 44, NO_CONVERTED_ROOM: "the buffer for the converted galley is too short";
     NoGalley { place: "the first command that breaks a condition" } = 45, NO_GALLEY: "the DVI file shows what no galley does";
     NotOurs { place: "the first command through which it is no beginning of such a file, or the length" } = 46, NOT_OURS: "no DVI file that the writer of the second edition makes begins so, or it ends early";
     ReportFull = 47, REPORT_FULL: "the report has 65,536 tapes already";
     PunchedTooLong = 48, PUNCHED_TOO_LONG: "the tape of this galley would be longer than 1,048,576 bytes";
-    TapeRoom { needed: "the bytes needed" } = 49, TAPE_ROOM: "the buffer for the tape is too short";
+    NoTapeRoom { needed: "the bytes needed" } = 49, NO_TAPE_ROOM: "the buffer for the tape is too short";
     NoMachine = 50, NO_MACHINE: "the machine is neither the 4-font nor the 8-font machine";
     OutsidePart { place: "the code" } = 60, OUTSIDE_PART: "a code of character mode that is not read here, or a byte above 127";
     ReservedCode { place: "the code" } = 61, RESERVED_CODE: "a reserved or unlisted code";
@@ -165,11 +165,11 @@ impl Refusal {
     /// ```
     pub fn needed(self) -> Option<usize> {
         match self {
-            Refusal::GalleyRoom { needed }
-            | Refusal::SheetRoom { needed }
-            | Refusal::DviRoom { needed }
-            | Refusal::ConvertedRoom { needed }
-            | Refusal::TapeRoom { needed } => Some(needed),
+            Refusal::NoGalleyRoom { needed }
+            | Refusal::NoSheetRoom { needed }
+            | Refusal::NoDviRoom { needed }
+            | Refusal::NoConvertedRoom { needed }
+            | Refusal::NoTapeRoom { needed } => Some(needed),
             _ => None,
         }
     }

@@ -10,7 +10,7 @@ use crate::sheet::Sheet;
 /// ```
 /// use spatecanter::{read_xgp, Refusal, XGP_LIMIT, XGP_WIDTHS};
 ///
-/// assert_eq!(read_xgp(&vec![0; XGP_LIMIT + 1], 1, &[0; XGP_WIDTHS]), Err(Refusal::DviTooLong));
+/// assert_eq!(read_xgp(&vec![0; XGP_LIMIT + 1], 1, &[0; XGP_WIDTHS]), Err(Refusal::FileTooLong));
 /// ```
 pub const XGP_LIMIT: usize = 33_554_432;
 
@@ -20,7 +20,7 @@ pub const XGP_LIMIT: usize = 33_554_432;
 /// use spatecanter::{read_xgp, Refusal, XGP_WIDTHS};
 ///
 /// assert!(read_xgp(b"A", 1, &[0; XGP_WIDTHS]).is_ok());
-/// assert_eq!(read_xgp(b"A", 1, &[0; XGP_WIDTHS - 1]), Err(Refusal::Widths));
+/// assert_eq!(read_xgp(b"A", 1, &[0; XGP_WIDTHS - 1]), Err(Refusal::WidthsNotWhole));
 /// ```
 pub const XGP_WIDTHS: usize = 4 * WIDTHS_PER_FONT;
 

@@ -6,7 +6,7 @@ use Prim.Native.Nat.{ℕ, _+_, _-_, _*_, _≤_, _<_}
 use native.Mathlib.Omega.{arith}
 use lib.ListN.{length, length-append}
 use lib.Seq.{sets}
-use Rattle.octets.specs.Answer.{Outcome, accepted, refused, refusal, written, ifRoom, Gives, noConvertedRoom}
+use Rattle.octets.specs.Answer.{accepted, refused, refusal, written, ifRoom, Gives, noConvertedRoom}
 use Rattle.octets.specs.AnswerLaws.{room-short, room-enough, gives}
 use Rattle.octets.specs.Field.{endField}
 use Rattle.octets.specs.Write.{Wrote, wrote-none, then, named, sets-start}
@@ -17,7 +17,8 @@ use Rattle.galley_file.specs.Form.{characterSize}
 use Rattle.galley_file.specs.Item.{itemField, itemSize, itemAt, WholeAt, charactersOf, cutsOf}
 use Rattle.galley_file.specs.ItemLaws.{length-itemField, all-counted}
 use Rattle.galley_file.specs.Galley.{maxItems, fields, galley, readGalley, itemsOf}
-use Rattle.galley_file.specs.GalleyLaws.{checked, read-as, reading-length, length-fields, fields-append, fields-one, length-galley}
+use Rattle.galley_file.specs.GalleyLaws.{checked, read-as, length-fields, fields-append, fields-one, length-galley}
+use Rattle.galley_file.specs.ReadingLaws.{reading-length}
 use Rattle.galley_file.specs.Outcome.{checkOutcome}
 use Rattle.galley_check.specs.ResultLaws.{result-refused, result-made}
 use Rattle.galley_file.specs.Walk.{Midway, Onward, midway-start, midway-inside, midway-end, midway-next, midway-whole}

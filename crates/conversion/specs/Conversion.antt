@@ -5,7 +5,7 @@
 --     Same           two galleys, each by its own form's rules, of the same characters and cuts, in order
 --     Above          a character of a list is higher than the old form holds
 use Prim.Native.Nat.{ℕ}
-use mathlib.Core.List.{List, [], _∷_, _++_}
+use mathlib.Core.List.{List, _∷_, _++_}
 use mathlib.Core.Path.{_≡_}
 use lib.ListN.{length}
 use lib.Signed.{_<ℤ_}

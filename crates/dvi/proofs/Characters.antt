@@ -15,7 +15,7 @@ use Rattle.measure.specs.TargetLaws.{target-parts, y-parts, x-move-fits, y-move
 use Rattle.galley_file.specs.declared.character.Character.{Character}
 use Rattle.galley_file.specs.CharacterLaws.{Valid, x-range, height-range}
 use Rattle.dvi.specs.Writer.{xTargetOf, yTargetOf, Position, startPosition, positionAt, commandsOf}
-use Rattle.dvi.specs.Demand3.{markOf}
+use Rattle.dvi.specs.Demand3.{characterMark}
 use Rattle.dvi.proofs.Pieces.{Leads, leads-append, leads-font, leads-x, leads-y, leads-char, positionIn, positionX}
 
 -- where a valid character may be
@@ -61,8 +61,8 @@ unfolding positionAt
 on-at c v = record { x = c .x .0; h = c .height .0; place = place-of c v; x-is = refl; y-is = refl }
 
 module _ (ws : List ℤ) (last : ℤ) where
-  pub leads-character : (position : Position) (c : Character) → OnPage position → Valid lowEnd c → Leads ws last position (commandsOf position c) (markOf c ∷ []) (positionAt c)
-  unfolding commandsOf markOf positionAt
+  pub leads-character : (position : Position) (c : Character) → OnPage position → Valid lowEnd c → Leads ws last position (commandsOf position c) (characterMark c ∷ []) (positionAt c)
+  unfolding commandsOf characterMark positionAt
   leads-character position c o v =
       leads-append ws last (leads-font ws last position (c .font) (v .font))
       (leads-append ws last (leads-x ws last (positionIn position (c .font)) (xTargetOf c) move-x (x-fits to) (rw (o .y-is) (y-fits (o .place))))

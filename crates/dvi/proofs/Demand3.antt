@@ -26,7 +26,7 @@ use Rattle.dvi.specs.Writer.{dviFile}
 use Rattle.dvi.specs.WriterLaws.{file-fits}
 use Rattle.dvi.specs.Edition.{Within, Demand3}
 use Rattle.dvi.specs.EditionLaws.{markAt, marksAt, demanded}
-use Rattle.dvi.specs.Demand3.{inThirds, shownInThirds, dvi1980, markOf, marksOf}
+use Rattle.dvi.specs.Demand3.{inThirds, shownInThirds, dvi1980, characterMark, marksOf}
 use Rattle.dvi.proofs.Shown.{file-shows}
 
 -- ---- the demand
@@ -36,7 +36,7 @@ abbrev across : ℤ → ℤ
 across x = pos 3 *ℤ xTarget x
 
 marks-in-thirds : (n : ℕ) (is : List Item) → map inThirds (marksOf n is) ≡ marksAt across n is
-unfolding inThirds marksOf markOf marksAt markAt yTarget
+unfolding inThirds marksOf characterMark marksAt markAt yTarget
 marks-in-thirds n [] = refl
 marks-in-thirds n (Placed c ∷ is) = ap (λ (ms : List Mark). markAt across c ∷ ms) (marks-in-thirds n is)
 marks-in-thirds n (Cut ∷ is) = ap (λ (ms : List Mark). pageMark (pos (suc n)) ∷ ms) (marks-in-thirds (suc n) is)
@@ -58,12 +58,12 @@ module _ (widths : List ℤ) where
 -- ---- the sheet
 
 length-marks : (n : ℕ) (is : List Item) → length (markFields (marksOf n is)) ≡ 16 * length (charactersOf is) + 7 * cutsOf is
-unfolding markFields markOf marksOf charactersOf cutsOf
+unfolding markFields characterMark marksOf charactersOf cutsOf
 length-marks n [] = refl
 length-marks n (Placed c ∷ is) =
-    let l = length-markField (markOf c) in
+    let l = length-markField (characterMark c) in
     let r = length-marks n is in
-    length-append (markField (markOf c)) (markFields (marksOf n is)) ∙ (omega arith)
+    length-append (markField (characterMark c)) (markFields (marksOf n is)) ∙ (omega arith)
 length-marks n (Cut ∷ is) =
     let l = length-markField (pageMark (pos (suc n))) in
     let r = length-marks (suc n) is in

@@ -10,9 +10,11 @@ use lib.IntN.{ℤ, pos}
 use lib.ListN.{length}
 use mir.Syntax.{w32}
 use mir.Val.{SFits}
-use Rattle.integers.specs.Parts.{integers, true-eqZ}
+use Rattle.integers.specs.Parts.{integers}
+use Rattle.integers.specs.Equality.{true-eqZ}
 use Rattle.octets.specs.Octets.{bytes, signedBytes}
-use Rattle.octets.specs.OctetsLaws.{signed-first, holds-four}
+use Rattle.octets.specs.OctetsLaws.{signed-first}
+use Rattle.octets.specs.WordLaws.{holds-four}
 use Rattle.measure.specs.Place.{lowEnd}
 use Rattle.octets.specs.Transducer.{transduced}
 use Rattle.galley_file.specs.declared.character.Character.{Character}
@@ -21,13 +23,13 @@ use Rattle.galley_file.specs.declared.item.Item.the-variants.{Placed, Cut}
 use Rattle.galley_file.specs.CharacterLaws.{Valid, valid-parts}
 use Rattle.galley_file.specs.Galley.{AllValid}
 use Rattle.galley_file.specs.Galley as galley
-use Rattle.dvi.specs.Command.{BOP, EOP, forms, formOf, withParameters, decode}
+use Rattle.dvi.specs.Command.{BOP, EOP, layouts, layoutOf, withParameters, decode}
 use Rattle.sheet.specs.Sheet.{Mark, pageMark}
 use Rattle.dvi.specs.Page.{Page, newPage, endPage, effect}
 use Rattle.dvi.specs.File.{between, inside, goOn, afterEffect, inPage, beginPage, step}
 use Rattle.dvi.specs.Writer.{startPosition, bopBytes, Writing, itemBytes, writingAfter, itemsBytes, writingAfterAll}
 use Rattle.dvi.specs.WriterLaws.{Small, small-next, writing-next}
-use Rattle.dvi.specs.Demand3.{markOf, marksOf}
+use Rattle.dvi.specs.Demand3.{characterMark, marksOf}
 use Rattle.dvi.proofs.Runs.{Goes, goes-nil, goes-append, goes-step}
 use Rattle.dvi.proofs.Pieces.{Stands}
 use Rattle.dvi.proofs.Characters.{OnPage, on-new, on-at, leads-character}
@@ -57,7 +59,7 @@ module _ (ws : List ℤ) where
           (rw (signed-first 4 previous rest (holds-four fp), true-eqZ previous previous (λ i. previous), signed-first 4 (pos n) (signedBytes 4 previous ++ rest) (holds-four fn)))
 
   pub end-page : (at : ℕ) (last : ℤ) (p : Page) → p .stack ≡ [] → Goes ws at (inside last p) (EOP ∷ []) [] (between last)
-  unfolding step inPage afterEffect decode formOf forms withParameters effect endPage
+  unfolding step inPage afterEffect decode layoutOf layouts withParameters effect endPage
   end-page at last p e = goes-step ws at (inside last p) (between last) EOP [] [] (λ rest. rw e)
 
   -- ---- the items
@@ -67,7 +69,7 @@ module _ (ws : List ℤ) where
   prints-append {from} r e s = record { page = s .page; stands = s .stands; goes = goes-append ws (from .at) (r .goes) (rw (← e) (s .goes)) }
 
   prints-character : (from : Writing) (c : Character) (p : Page) → OnPage (from .position) → Valid lowEnd c → Stands (from .position) p
-      → Prints ws from p (itemBytes from (Placed c)) (markOf c ∷ []) (writingAfter from (Placed c))
+      → Prints ws from p (itemBytes from (Placed c)) (characterMark c ∷ []) (writingAfter from (Placed c))
   unfolding itemBytes writingAfter
   prints-character from c p o v h =
       let r = leads-character ws (pos (from .bop)) (from .position) c o v .lead p h in

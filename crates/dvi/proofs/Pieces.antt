@@ -11,11 +11,13 @@ use lib.IntN.{ℤ, pos, _+ℤ_, _-ℤ_}
 use lib.ListN.{length}
 use mir.Syntax.{w32}
 use mir.Val.{SFits}
-use Rattle.integers.specs.Parts.{integers, eqZ, eqZ-true, dif-parts}
+use Rattle.integers.specs.Parts.{integers, dif-parts}
+use Rattle.integers.specs.Equality.{eqZ, eqZ-true}
 use Rattle.octets.specs.Octets.{bytes, signedBytes, widthOf}
-use Rattle.octets.specs.OctetsLaws.{by-cond, signedBytes-pos, width-holds, width-range, true-fits32}
+use Rattle.octets.specs.OctetsLaws.{by-cond, signedBytes-pos}
+use Rattle.octets.specs.WordLaws.{width-holds, width-range, true-fits32}
 use Rattle.measure.specs.TargetLaws.{move-ends}
-use Rattle.dvi.specs.Command.{HORZCHAR, FONT, X4, Y4, FONTNUM, Command, horzChar, setFont, moveX, moveY, bare, takes, forms, formOf}
+use Rattle.dvi.specs.Command.{HORZCHAR, FONT, X4, Y4, FONTNUM, Command, horzChar, setFont, moveX, moveY, bare, takes, layouts, layoutOf}
 use Rattle.sheet.specs.Sheet.{Mark, charMark}
 use Rattle.dvi.specs.Page.{Numbers, Page, moved, marked, withNumbers, withFont, rightBy, downBy, setX, setY, ifFits, goTo, charHere, setStill, effect}
 use Rattle.dvi.specs.File.{inside}
@@ -56,17 +58,17 @@ positionY position b = record { font = position .font; x = position .x; y = b }
 -- ---- single commands
 
 -- FONTNUM 0 to 63
-form-fontnum : (f : ℕ) → f < 64 → formOf (FONTNUM + f) ≡ bare (setFont (pos f))
-unfolding formOf
-form-fontnum f h =
+layout-fontnum : (f : ℕ) → f < 64 → layoutOf (FONTNUM + f) ≡ bare (setFont (pos f))
+unfolding layoutOf
+layout-fontnum f h =
     rw (le-ltb (FONTNUM + f) 128 (omega arith), le-ltb (FONTNUM + f) FONTNUM (omega arith), lt-ltb (FONTNUM + f) 218 (omega arith))
     (ap (λ (n : ℕ). bare (setFont (pos n))) (omega arith))
 
 -- the three commands whose longest is op
 abbrev Three : ℕ → (ℤ → Command) → Type 0
-Three op make = (k : ℕ) → 2 ≤ k → k ≤ 4 → formOf (op + (4 - k)) ≡ takes k make
+Three op make = (k : ℕ) → 2 ≤ k → k ≤ 4 → layoutOf (op + (4 - k)) ≡ takes k make
 
-three : (op : ℕ) (make : ℤ → Command) → formOf (op + 2) ≡ takes 2 make → formOf (op + 1) ≡ takes 3 make → formOf (op + 0) ≡ takes 4 make → Three op make
+three : (op : ℕ) (make : ℤ → Command) → layoutOf (op + 2) ≡ takes 2 make → layoutOf (op + 1) ≡ takes 3 make → layoutOf (op + 0) ≡ takes 4 make → Three op make
 three op make e₂ e₃ e₄ zero l h = absurd (omega arith)
 three op make e₂ e₃ e₄ (suc zero) l h = absurd (omega arith)
 three op make e₂ e₃ e₄ (suc (suc zero)) l h = e₂
@@ -107,10 +109,10 @@ module _ (ws : List ℤ) (last : ℤ) where
   -- ---- the font
 
   goes-font : (at : ℕ) (p : Page) (f : ℕ) → f < 120 → Goes ws at (inside last p) (fontCommand f) [] (inside last (withFont p (pos f)))
-  unfolding fontCommand effect formOf forms
+  unfolding fontCommand effect layoutOf layouts
   goes-font at p f h =
       by-cond (λ (bs : List ℕ). Goes ws at (inside last p) bs [] (inside last (withFont p (pos f)))) (ltb f 64) _ _
-      (λ e. goes-moved ws at last p (withFont p (pos f)) (setFont (pos f)) (FONTNUM + f) [] (decode-bare (FONTNUM + f) (setFont (pos f)) (form-fontnum f (ltb-true f 64 e))) refl)
+      (λ e. goes-moved ws at last p (withFont p (pos f)) (setFont (pos f)) (FONTNUM + f) [] (decode-bare (FONTNUM + f) (setFont (pos f)) (layout-fontnum f (ltb-true f 64 e))) refl)
       (λ e. goes-moved ws at last p (withFont p (pos f)) (setFont (pos f)) FONT (signedBytes 4 (pos f)) (decode-takes FONT 4 setFont (pos f) refl (record { half = omega arith })) refl)
 
   leads-fontCommand : (position : Position) (f : ℕ) → f < 120 → Leads ws last position (fontCommand f) [] (positionIn position f)
@@ -159,10 +161,10 @@ module _ (ws : List ℤ) (last : ℤ) where
       → ((p : Page) → Stands position p → Stands to (after p))
       → ((p : Page) → Stands position p → effect ws p (make m) ≡ moved (after p)) → Leads ws last position (move op m) [] to
   unfolding move shortest
-  leads-move position to op make m after forms fits still there eff =
+  leads-move position to op make m after layouts fits still there eff =
       let k = widthOf m in
       let r = width-range m in
-      let decoded = decode-takes (op + (4 - k)) k make m (forms k (r .0) (r .1)) (width-holds m (fits .sfits)) in
+      let decoded = decode-takes (op + (4 - k)) k make m (layouts k (r .0) (r .1)) (width-holds m (fits .sfits)) in
       by-cond (λ (bs : List ℕ). Leads ws last position bs [] to) (eqZ m (pos 0)) _ _
       (λ t. record {
         lead = λ p h. record { page = p; stands = still (eqZ-true m (pos 0) t) p h; goes = λ at. goes-nil ws at (inside last p) };
@@ -176,7 +178,7 @@ module _ (ws : List ℤ) (last : ℤ) where
       })
 
   pub leads-x : (position : Position) (a : ℤ) → SFits w32 (a -ℤ position .x) → SFits w32 a → SFits w32 (position .y) → Leads ws last position (move X4 (a -ℤ position .x)) [] (positionX position a)
-  unfolding withNumbers setX rightBy effect formOf forms
+  unfolding withNumbers setX rightBy effect layoutOf layouts
   leads-x position a fm fa fy =
       leads-move position (positionX position a) X4 moveX m (λ p. withNumbers p (setX m (rightBy m (p .numbers)))) (three X4 moveX refl refl refl) fm
       (λ e p h. record { at-x = h .at-x ∙ no-move (position .x) a e; at-y = h .at-y; at-font = h .at-font; at-stack = h .at-stack })
@@ -190,7 +192,7 @@ module _ (ws : List ℤ) (last : ℤ) where
       arrives p h = ap (λ (z : ℤ). z +ℤ m) (h .at-x) ∙ move-ends (position .x) a
 
   pub leads-y : (position : Position) (b : ℤ) → SFits w32 (b -ℤ position .y) → SFits w32 b → SFits w32 (position .x) → Leads ws last position (move Y4 (b -ℤ position .y)) [] (positionY position b)
-  unfolding withNumbers setY downBy effect formOf forms
+  unfolding withNumbers setY downBy effect layoutOf layouts
   leads-y position b fm fb fx =
       leads-move position (positionY position b) Y4 moveY m (λ p. withNumbers p (setY m (downBy m (p .numbers)))) (three Y4 moveY refl refl refl) fm
       (λ e p h. record { at-x = h .at-x; at-y = h .at-y ∙ no-move (position .y) b e; at-font = h .at-font; at-stack = h .at-stack })
@@ -207,7 +209,7 @@ module _ (ws : List ℤ) (last : ℤ) where
 
   pub leads-char : (position : Position) (f c : ℕ) → position .font ≡ some f → c < 128
       → Leads ws last position (HORZCHAR ∷ c ∷ []) (charMark (position .x) (position .y) (pos f) c ∷ []) position
-  unfolding effect formOf forms
+  unfolding effect layoutOf layouts
   leads-char position f c e k =
       record {
         lead = λ p h. record {

@@ -2,13 +2,13 @@
 -- Assumes nothing.
 use mathlib.Core.Path.{_≡_, refl, _∙_}
 use mathlib.Core.Bool.{true, cond}
-use mathlib.Core.List.{List, [], _∷_, _++_, map, append-assoc}
+use mathlib.Core.List.{List, [], _∷_, _++_, map, flatten, append-assoc}
 use Prim.Native.Nat.{ℕ, zero, suc, _+_, _/_, _%_, _≤_, _<_}
 use native.Mathlib.Omega.{arith}
 use borrow.Author.Tests.{le-leb, ne-eqb}
 use lib.IntN.{pos, negsuc}
 use lib.ListN.{length, drop}
-use Rattle.integers.specs.Parts.{eqZ, true-eqZ}
+use Rattle.integers.specs.Equality.{eqZ, true-eqZ}
 use Rattle.octets.specs.Octets.{numberFrom, twos, signed, bytes, residue, signedBytes}
 use Rattle.octets.specs.OctetsLaws.{by-cond, signed-first}
 use Rattle.galley_file.specs.Font.{fontOf, pointSize}
@@ -29,7 +29,7 @@ module _ (pst : ℕ) where
       (rw (ne-eqb (48 + fontOf f) 34 (λ e. omega arith), ne-eqb (48 + pointSize f / 10) 34 (λ e. omega arith), ne-eqb (48 + pointSize f % 10) 34 (λ e. omega arith))))
 
   pass-definitions : (n : ℕ) (cs : List Character) (rest : List ℕ) → n ≤ 120 → definitions pst atId (definitionBytes (usedFonts n cs) ++ rest) ≡ definitions pst atId rest
-  unfolding usedFonts definitionBytes
+  unfolding usedFonts flatten
   pass-definitions zero cs rest h = refl
   pass-definitions (suc n) cs rest h =
       rw (definitions-append, append-assoc, pass-definitions n cs (definitionBytes (cond (uses n cs) (n ∷ []) []) ++ rest) (omega arith))

@@ -11,7 +11,7 @@ use lib.ListN.{length, length-append}
 use lib.Seq.{drop-append-seam}
 use Rattle.octets.specs.Octets.{signedBytes, Holds}
 use Rattle.octets.specs.OctetsLaws.{length-signedBytes, signed-first}
-use Rattle.dvi.specs.Command.{Command, bare, takes, formOf, command, withParameters, decode}
+use Rattle.dvi.specs.Command.{Command, bare, takes, layoutOf, command, withParameters, decode}
 use Rattle.sheet.specs.Sheet.{Mark}
 use Rattle.dvi.specs.Page.{Page, moved, marked, effect}
 use Rattle.sheet.specs.Shown.{showsFirst}
@@ -56,12 +56,12 @@ module _ (ws : List ℤ) (at : ℕ) where
   goes-marked last p r c m op ps d e = goes-step (inside last p) (inside last r) op ps (m ∷ []) (λ rest. rw (d rest, e))
 
 -- a command with one parameter, and with none
-pub decode-takes : (op n : ℕ) (make : ℤ → Command) (z : ℤ) → formOf op ≡ takes n make → Holds n z → (rest : List ℕ)
+pub decode-takes : (op n : ℕ) (make : ℤ → Command) (z : ℤ) → layoutOf op ≡ takes n make → Holds n z → (rest : List ℕ)
     → decode op (signedBytes n z ++ rest) ≡ command (make z) (length (signedBytes n z))
 unfolding decode withParameters
 decode-takes op n make z e h rest =
     rw (e, length-append, length-signedBytes n z, le-leb n (n + length rest) (omega arith), signed-first n z rest h)
 
-pub decode-bare : (op : ℕ) (c : Command) → formOf op ≡ bare c → (rest : List ℕ) → decode op rest ≡ command c 0
+pub decode-bare : (op : ℕ) (c : Command) → layoutOf op ≡ bare c → (rest : List ℕ) → decode op rest ≡ command c 0
 unfolding decode withParameters
 decode-bare op c e rest = rw e

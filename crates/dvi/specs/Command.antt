@@ -2,8 +2,8 @@
 --     BOP, EOP ..     the numbers of commands, as 002 names them
 --     Command         a command inside a page
 --     NoBracket       neither PUSH nor POP
---     Form            how the parameters of a command stand after its first byte
---     formOf          the form of each first byte
+--     Layout          how the parameters of a command stand after its first byte
+--     layoutOf        the layout of each first byte
 --     Decoded         the command that some bytes start with, or why there is none
 --     decode          the command with this first byte, before these bytes
 use Prim.Native.Nat.{ℕ, _-_}
@@ -92,19 +92,19 @@ NoBracket moveY0 = Unit {0}
 NoBracket (moveZ m) = Unit {0}
 NoBracket moveZ0 = Unit {0}
 
-pub data Form : Type 0 where
+pub data Layout : Type 0 where
   -- undefined, or not allowed inside a page
-  barred : Form
+  barred : Layout
   -- no parameter
-  bare : Command → Form
+  bare : Command → Layout
   -- one of so many bytes
-  takes : ℕ → (ℤ → Command) → Form
+  takes : ℕ → (ℤ → Command) → Layout
   -- two of four bytes each
-  takesTwo : (ℤ → ℤ → Command) → Form
+  takesTwo : (ℤ → ℤ → Command) → Layout
 
 -- 128 to 153
-unfoldable pub forms : List Form
-forms =
+unfoldable pub layouts : List Layout
+layouts =
     -- 128 NOP, 129 BOP, 130 EOP, 131 PST
     bare nop
     ∷ barred
@@ -142,10 +142,10 @@ forms =
     ∷ []
 
 -- 0 to 127 set a character, 154 to 217 are FONTNUM 0 to 63, 218 to 255 are undefined
-unfoldable pub formOf : ℕ → Form
-formOf op =
+unfoldable pub layoutOf : ℕ → Layout
+layoutOf op =
     cond (ltb op 128) (bare (setChar op))
-    (cond (ltb op FONTNUM) (getD forms (op - 128) barred)
+    (cond (ltb op FONTNUM) (getD layouts (op - 128) barred)
     (cond (ltb op 218) (bare (setFont (pos (op - FONTNUM)))) barred))
 
 pub data Decoded : Type 0 where
@@ -157,11 +157,11 @@ pub data Decoded : Type 0 where
   command : Command → ℕ → Decoded
 
 -- parameters are two's complement
-unfoldable pub withParameters : Form → List ℕ → Decoded
+unfoldable pub withParameters : Layout → List ℕ → Decoded
 withParameters barred ps = noCommand
 withParameters (bare c) ps = command c 0
 withParameters (takes n c) ps = cond (leb n (length ps)) (command (c (signed (take n ps))) n) cutShort
 withParameters (takesTwo c) ps = cond (leb 8 (length ps)) (command (c (signed (take 4 ps)) (signedAt 4 4 ps)) 8) cutShort
 
 unfoldable pub decode : ℕ → List ℕ → Decoded
-decode op ps = withParameters (formOf op) ps
+decode op ps = withParameters (layoutOf op) ps

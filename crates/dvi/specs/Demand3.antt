@@ -2,7 +2,7 @@
 -- in rsu, but for what `Edition` speaks of.
 --     inThirds           a mark with its places in thirds of an rsu
 --     shownInThirds      what a file shows, with such places
---     markOf             the mark that shows a character
+--     characterMark             the mark that shows a character
 --     marksOf            the marks that show a list of items, from a page on
 --     dvi1980            the edition, with a table of widths
 use Prim.Native.Nat.{ℕ, suc, _*_}
@@ -36,12 +36,12 @@ unfoldable pub shownInThirds : Shown → Option (List Mark)
 shownInThirds (refusedAt number place) = none
 shownInThirds (shows ms) = some (map inThirds ms)
 
-unfoldable pub markOf : Character → Mark
-markOf c = charMark (xTarget (c .x .0)) (yTarget (c .height .0)) (pos (c .font)) (c .code)
+unfoldable pub characterMark : Character → Mark
+characterMark c = charMark (xTarget (c .x .0)) (yTarget (c .height .0)) (pos (c .font)) (c .code)
 
 unfoldable pub marksOf : ℕ → List Item → List Mark
 marksOf n [] = []
-marksOf n (Placed c ∷ is) = markOf c ∷ marksOf n is
+marksOf n (Placed c ∷ is) = characterMark c ∷ marksOf n is
 marksOf n (Cut ∷ is) = pageMark (pos (suc n)) ∷ marksOf (suc n) is
 
 -- the sheet "is the page field, then these characters' fields in that order, then end", a cut "with its page field"; the distance "is -1, 0 or 1"; "over heights at most 65,535"

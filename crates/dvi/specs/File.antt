@@ -13,7 +13,7 @@ use lib.Dec.{leb, eqb}
 use lib.IntN.{ℤ, pos, negsuc}
 use lib.ListN.{length, take}
 use lib.Signed.{nonNeg}
-use Rattle.integers.specs.Parts.{eqZ}
+use Rattle.integers.specs.Equality.{eqZ}
 use Rattle.octets.specs.Octets.{signed, signedAt}
 use Rattle.octets.specs.Answer.{badCommand, dviEndsEarly, wrongOffset, badPostamble}
 use Rattle.sheet.specs.Sheet.{Mark, pageMark}

@@ -16,11 +16,11 @@ use lib.IntN.{ℤ, negsuc}
 use lib.ListN.{length, getD, drop, drop-of-length-le}
 use lib.Seq.{drop-cons, drop-drop}
 use lib.Signed.{nonNeg}
-use Rattle.integers.specs.Parts.{eqZ}
+use Rattle.integers.specs.Equality.{eqZ}
 use Rattle.octets.specs.Octets.{signedAt}
 use Rattle.octets.specs.OctetsLaws.{by-cond}
 use Rattle.octets.specs.Answer.{dviEndsEarly}
-use Rattle.dvi.specs.Command.{BOP, PST, Form, barred, bare, takes, takesTwo, formOf, Decoded, noCommand, cutShort, command, withParameters, decode}
+use Rattle.dvi.specs.Command.{BOP, PST, Layout, barred, bare, takes, takesTwo, layoutOf, Decoded, noCommand, cutShort, command, withParameters, decode}
 use Rattle.sheet.specs.Sheet.{Mark}
 use Rattle.dvi.specs.Page.{maxStack, Page, newPage, Effect, fault, moved, marked, ended, effect}
 use Rattle.dvi.specs.PageLaws.{LowEffect, effect-stack}
@@ -53,7 +53,7 @@ Held k noCommand = Unit {0}
 Held k cutShort = Unit {0}
 Held k (command c n) = n ≤ k
 
-pub held : (f : Form) (ps : List ℕ) → Held (length ps) (withParameters f ps)
+pub held : (f : Layout) (ps : List ℕ) → Held (length ps) (withParameters f ps)
 unfolding withParameters
 held barred ps = tt
 held (bare c) ps = omega arith
@@ -78,7 +78,7 @@ begin-sound last at ps =
 
 pub step-sound : (ws : List ℤ) (at : ℕ) (q : State) (op : ℕ) (ps : List ℕ) → Low q → Sound (length ps) (step ws at q op ps)
 unfolding step decode endFile
-step-sound ws at (inside last p) op ps h = page-sound ws (length ps) last p (decode op ps) (held (formOf op) ps) h
+step-sound ws at (inside last p) op ps h = page-sound ws (length ps) last p (decode op ps) (held (layoutOf op) ps) h
 step-sound ws at (between last) op ps h =
     sound-if (length ps) (eqb op BOP) _ _ (begin-sound last at ps)
     (sound-if (length ps) (eqb op PST && nonNeg last) _ _ (sound-if (length ps) (postamble last at ps) _ _ tt tt) tt)

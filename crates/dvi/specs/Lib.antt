@@ -9,6 +9,7 @@ pub mod Mark
 pub mod Sheet
 pub mod SheetLaws
 pub mod Writer
+pub mod WritingLaws
 pub mod WriterLaws
 pub mod FontOrNone
 pub mod Edition

@@ -9,7 +9,7 @@ use mathlib.Core.List.{List, [], _∷_}
 use lib.Dec.{leb, eqb}
 use lib.IntN.{ℤ, pos, negsuc}
 use lib.ListN.{length, getD, take, drop}
-use Rattle.integers.specs.Parts.{eqZ}
+use Rattle.integers.specs.Equality.{eqZ}
 use Rattle.octets.specs.Octets.{signed}
 
 unfoldable pub all223 : List ℕ → Bool

@@ -12,12 +12,12 @@
 --     dviFile                  the file
 use Prim.Native.Nat.{ℕ, suc, _+_, _-_, _/_, _%_}
 use mathlib.Core.Bool.{cond}
-use mathlib.Core.List.{List, [], _∷_, _++_, map, foldl}
+use mathlib.Core.List.{List, [], _∷_, _++_, map, foldl, flatten}
 use mathlib.Core.Option.{Option, none, some}
 use lib.Dec.{ltb, eqb}
 use lib.IntN.{ℤ, pos, negsuc, _-ℤ_}
 use lib.ListN.{length}
-use Rattle.integers.specs.Parts.{eqZ}
+use Rattle.integers.specs.Equality.{eqZ}
 use Rattle.octets.specs.Octets.{signedBytes, widthOf}
 use Rattle.octets.specs.Transducer.{transduced}
 use Rattle.measure.specs.Target.{xTarget, yTarget}
@@ -123,9 +123,8 @@ nameOf f = 67 ∷ (48 + fontOf f) ∷ (48 + pointSize f / 10) ∷ (48 + pointSiz
 unfoldable pub definition : ℕ → List ℕ
 definition f = signedBytes 4 (pos f) ++ (signedBytes 4 (pos f) ++ (34 ∷ nameOf f ++ (34 ∷ [])))
 
-unfoldable pub definitionBytes : List ℕ → List ℕ
-definitionBytes [] = []
-definitionBytes (f ∷ fs) = definition f ++ definitionBytes fs
+abbrev pub definitionBytes : List ℕ → List ℕ
+definitionBytes fs = flatten (map definition fs)
 
 -- -1, PST's offset, a zero byte, four bytes 223
 unfoldable pub trailerBytes : ℕ → List ℕ

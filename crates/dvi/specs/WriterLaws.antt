@@ -7,19 +7,19 @@
 --     length-file              the length of the file
 --     file-fits                which a reader takes
 -- Assumes nothing.
-use mathlib.Core.Path.{_≡_, refl, sym, ap, _∙_}
-use mathlib.Core.Bool.{Bool, true, false, cond}
-use mathlib.Core.List.{List, [], _∷_, _++_, append-assoc}
+use mathlib.Core.Path.{_≡_, refl}
+use mathlib.Core.Bool.{cond}
+use mathlib.Core.List.{List, [], _∷_, _++_}
 use mathlib.Core.Option.{Option, none, some}
-use Prim.Native.Nat.{ℕ, zero, suc, _+_, _*_, _≤_, _<_}
-use native.Mathlib.Nat.{zero-add, suc-add}
+use Prim.Native.Nat.{ℕ, zero, suc, _+_, _*_, _≤_}
 use native.Mathlib.Omega.{arith}
 use lib.Dec.{ltb, eqb}
 use lib.IntN.{ℤ, pos, _-ℤ_}
 use lib.ListN.{length, length-append}
-use Rattle.integers.specs.Parts.{eqZ, maxZ}
+use Rattle.integers.specs.Equality.{eqZ}
 use Rattle.octets.specs.Octets.{bytes, signedBytes, widthOf}
-use Rattle.octets.specs.OctetsLaws.{by-cond, length-signedBytes, width-range}
+use Rattle.octets.specs.OctetsLaws.{by-cond, length-signedBytes}
+use Rattle.octets.specs.WordLaws.{width-range}
 use Rattle.octets.specs.TransducerLaws.{transduced-most, transduced-at}
 use Rattle.galley_file.specs.declared.character.Character.{Character}
 use Rattle.galley_file.specs.declared.item.Item.{Item}
@@ -28,6 +28,8 @@ use Rattle.galley_file.specs.Item.{charactersOf}
 use Rattle.galley_file.specs.Galley.{maxItems}
 use Rattle.extents.specs.FontMarks.{uses, usedFonts}
 use Rattle.dvi.specs.Command.{EOP, X4, Y4}
+use Rattle.dvi.specs.WritingLaws.{pieces-append, length-pieces, length-if, if-most, Offsets, Next}
+use Rattle.dvi.specs.WritingLaws as S
 use Rattle.sheet.specs.Readable.{maxFile}
 use Rattle.dvi.specs.Writer.{xTargetOf, yTargetOf, Position, fontCommand, fontChange, shortest, move, commandsOf, bopBytes, Writing, firstWriting, itemBytes, writingAfter, itemsBytes, writingAfterAll, pagesBytes, nameOf, definition, definitionBytes, trailerBytes, postambleBytes, dviFile}
 
@@ -49,16 +51,11 @@ fontChange-most (some g) f =
 -- a move's length does not depend on its command
 pub length-move : (op : ℕ) (m : ℤ) → length (move op m) ≡ cond (eqZ m (pos 0)) 0 (1 + widthOf m)
 unfolding move shortest
-length-move op m = go (eqZ m (pos 0))
-  where
-    go : (t : Bool) → length (cond t [] (shortest op m)) ≡ cond t 0 (1 + widthOf m)
-    go true = refl
-    go false = let l = length-signedBytes (widthOf m) m in omega arith
+length-move op m = length-if (eqZ m (pos 0)) (shortest op m) (1 + widthOf m) (omega (arith, length-signedBytes (widthOf m) m))
 
 pub move-most : (op : ℕ) (m : ℤ) → length (move op m) ≤ 5
-move-most op m =
-    rw (length-move op m)
-    (by-cond (λ (n : ℕ). n ≤ 5) (eqZ m (pos 0)) _ _ (λ _. omega arith) (λ _. omega (arith, width-range m)))
+unfolding move shortest
+move-most op m = if-most (eqZ m (pos 0)) (shortest op m) 5 (omega (arith, length-signedBytes (widthOf m) m, width-range m))
 
 pub commandsOf-most : (p : Position) (c : Character) → length (commandsOf p c) ≤ 17
 unfolding commandsOf
@@ -86,40 +83,27 @@ writing-next p Cut = refl
 pub writing-at : (p : Writing) (is : List Item) → writingAfterAll p is .at ≡ p .at + length (itemsBytes p is)
 writing-at = transduced-at itemBytes writingAfter (λ p. p .at) writing-next
 
-page-next : (p : Writing) (i : Item) → writingAfter p i .page ≤ suc (p .page)
-unfolding writingAfter
-page-next p (Placed c) = omega arith
-page-next p Cut = omega arith
+abbrev pub offsetsOf : Writing → Offsets
+offsetsOf p = record { page = p .page; bop = p .bop; at = p .at }
 
 -- the numbers of the writing fit four bytes, after n items more too
-pub record Small (p : Writing) (n : ℕ) : Type 0 where
-  pub bop-before : p .bop ≤ p .at
-  pub at-small : p .at + 17 * n < 2147483648
-  pub page-small : p .page + n < 2147483648
+abbrev pub Small : Writing → ℕ → Type 0
+Small p n = S.Small 17 (offsetsOf p) n
 
-bop-next : (p : Writing) (i : Item) → p .bop ≤ p .at → writingAfter p i .bop ≤ writingAfter p i .at
+offsets-next : (p : Writing) (i : Item) → Next 17 (offsetsOf p) (offsetsOf (writingAfter p i))
 unfolding writingAfter
-bop-next p (Placed c) h = omega arith
-bop-next p Cut h = omega arith
+offsets-next p (Placed c) = record { page-next = omega arith; bop-next = λ h. omega arith; at-next = omega (arith, commandsOf-most (p .position) c) }
+offsets-next p Cut = record { page-next = omega arith; bop-next = λ h. omega arith; at-next = omega arith }
 
 pub small-next : (p : Writing) (i : Item) (n : ℕ) → Small p (suc n) → Small (writingAfter p i) n
-small-next p i n s =
-    record {
-      bop-before = bop-next p i (s .bop-before);
-      at-small = omega (arith, s .at-small, writing-next p i, itemBytes-most p i);
-      page-small = omega (arith, s .page-small, page-next p i);
-    }
-
-small-all : (p : Writing) (is : List Item) (n : ℕ) → Small p (length is + n) → Small (writingAfterAll p is) n
-small-all p [] n s = rw zero-add at s
-small-all p (i ∷ is) n s = small-all (writingAfter p i) is n (small-next p i (length is + n) (rw suc-add at s))
+small-next = S.small-next writingAfter offsetsOf 17 offsets-next
 
 pub small-first : (n : ℕ) → n ≤ maxItems → Small firstWriting n
 unfolding firstWriting
 small-first n h = record { bop-before = omega arith; at-small = omega arith; page-small = omega arith }
 
 pub writing-small : (is : List Item) (n : ℕ) → length is + n ≤ maxItems → Small (writingAfterAll firstWriting is) n
-writing-small is n h = small-all firstWriting is n (small-first (length is + n) h)
+writing-small is n h = S.small-all writingAfter offsetsOf 17 offsets-next firstWriting is n (small-first (length is + n) h)
 
 -- ---- all pages
 
@@ -140,16 +124,11 @@ usedFonts-most (suc n) cs =
 
 -- 14 bytes for each definition
 pub length-definitions : (fs : List ℕ) → length (definitionBytes fs) ≡ 14 * length fs
-unfolding definitionBytes definition nameOf signedBytes bytes
-length-definitions [] = refl
-length-definitions (f ∷ fs) = omega (arith, length-definitions fs)
+unfolding definition nameOf signedBytes bytes
+length-definitions = length-pieces definition 14 (λ f. refl)
 
 pub definitions-append : (fs gs : List ℕ) → definitionBytes (fs ++ gs) ≡ definitionBytes fs ++ definitionBytes gs
-unfolding definitionBytes
-definitions-append [] gs = refl
-definitions-append (f ∷ fs) gs =
-    ap (λ (l : List ℕ). definition f ++ l) (definitions-append fs gs)
-    ∙ sym (append-assoc (definition f) (definitionBytes fs) (definitionBytes gs))
+definitions-append = pieces-append definition
 
 pub length-postamble : (last pst : ℕ) (cs : List Character) → length (postambleBytes last pst cs) ≡ 26 + 14 * length (usedFonts 120 cs)
 unfolding postambleBytes trailerBytes signedBytes bytes

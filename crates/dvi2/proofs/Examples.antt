@@ -5,11 +5,11 @@ use mathlib.Core.List.{List, [], _∷_, _++_, map}
 use mathlib.Core.Option.{Option, none, some}
 use Prim.Native.Nat.{ℕ}
 use lib.IntN.{pos, negsuc}
-use Rattle.integers.specs.Parts.{eqZ}
+use Rattle.integers.specs.Equality.{eqZ}
 use Rattle.octets.specs.Octets.{numberFrom, twos, signed, bytes}
 use Rattle.sheet.specs.Sheet.{Mark, pageMark, charMark}
 use Rattle.dvi.specs.Page.{newPage, withNumbers, withFont, rightBy, downBy, setW, setX, setY, setZ}
-use Rattle.dvi2.specs.Command.{firstForms, lastForms, formOf, inFile, withParameters, decode}
+use Rattle.dvi2.specs.Command.{firstLayouts, lastLayouts, layoutOf, inFile, withParameters, decode}
 use Rattle.dvi2.specs.Page.{isDefined, goTo, moveTo, putHere, pushed, popped, endPage, effect}
 use Rattle.dvi2.specs.File.{isUnit, preamble, afterEffect, inPage, beginPage, outside, betweenPages, step, showsFirst, follow, run, showDvi2}
 
@@ -83,5 +83,5 @@ shown =
     ∷ []
 
 examples : map showDvi2 files ≡ shown
-unfolding eqZ numberFrom twos signed bytes newPage withNumbers withFont rightBy downBy setW setX setY setZ firstForms lastForms formOf inFile withParameters decode isDefined goTo moveTo putHere pushed popped endPage effect isUnit preamble afterEffect inPage beginPage outside betweenPages step showsFirst follow run showDvi2
+unfolding eqZ numberFrom twos signed bytes newPage withNumbers withFont rightBy downBy setW setX setY setZ firstLayouts lastLayouts layoutOf inFile withParameters decode isDefined goTo moveTo putHere pushed popped endPage effect isUnit preamble afterEffect inPage beginPage outside betweenPages step showsFirst follow run showDvi2
 examples = refl

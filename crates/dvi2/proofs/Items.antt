@@ -26,13 +26,15 @@ use Rattle.dvi.specs.Page.{Page, newPage}
 use Rattle.extents.specs.FontMarks.{uses}
 use Rattle.dvi.specs.Writer.{Position, startPosition}
 use Rattle.dvi.specs.EditionLaws.{markAt, marksAt}
-use Rattle.dvi2.specs.Command.{BOP, EOP, firstForms, formOf, withParameters, decode}
+use Rattle.dvi2.specs.Command.{BOP, EOP, firstLayouts, layoutOf, withParameters, decode}
 use Rattle.dvi2.specs.Page.{perUnit, between, inside, endPage, effect}
 use Rattle.dvi2.specs.File.{goOn, afterEffect, inPage, beginPage, betweenPages, step}
 use Rattle.dvi2.specs.Writer.{hOf, vOf, positionAt, commandsOf, bopBytes, Writing, itemBytes, writingAfter, itemsBytes, writingAfterAll}
 use Rattle.dvi2.specs.WriterLaws.{Small, small-next}
 use Rattle.dvi2.proofs.Runs.{Goes, goes-nil, goes-append, goes-step}
-use Rattle.dvi2.proofs.Pieces.{Stands, Reached, Leads, leads-append, leads-font, leads-right, leads-down, leads-put, positionIn, positionX}
+use Rattle.dvi2.proofs.Leads.{Stands, Reached, Leads, leads-append, positionIn, positionX}
+use Rattle.dvi2.proofs.FontPieces.{leads-font}
+use Rattle.dvi2.proofs.Pieces.{leads-right, leads-down, leads-put}
 
 -- where an x is shown
 abbrev pub across : ℤ → ℤ
@@ -102,7 +104,7 @@ begin-page fs n previous h =
         (rw (signedBytes-pos 4 n) at (signed-first 4 (pos n) ((bytes 36 0 ++ signedBytes 4 previous) ++ rest) (record { half = omega arith }))))
 
 pub end-page : (fs : List ℤ) (p : Page) → p .stack ≡ [] → Goes (inside fs p) (EOP ∷ []) [] (between fs)
-unfolding step inPage afterEffect decode formOf firstForms withParameters effect endPage
+unfolding step inPage afterEffect decode layoutOf firstLayouts withParameters effect endPage
 end-page fs p e = goes-step (inside fs p) (between fs) EOP [] [] (λ rest. rw e)
 
 -- ---- the items

@@ -1,4 +1,6 @@
 mod Runs
+mod Leads
+mod FontPieces
 mod Pieces
 pub mod Items
 mod Examples

@@ -13,7 +13,7 @@ use Rattle.octets.specs.Octets.{signed, signedBytes, Holds}
 use Rattle.octets.specs.OctetsLaws.{length-signedBytes, signed-first}
 use Rattle.sheet.specs.Sheet.{Mark}
 use Rattle.dvi.specs.Page.{Page}
-use Rattle.dvi2.specs.Command.{Command, bare, takes, formOf, command, inFile, withParameters, decode}
+use Rattle.dvi2.specs.Command.{Command, bare, takes, layoutOf, command, inFile, withParameters, decode}
 use Rattle.dvi2.specs.Page.{State, inside, leads, effect}
 use Rattle.dvi2.specs.File.{goOn, afterEffect, inPage, step, showsFirst, follow, run}
 
@@ -59,12 +59,12 @@ unfolding step inPage afterEffect
 goes-command fs p r c ms op ps d e = goes-step (inside fs p) r op ps ms (λ rest. rw (d rest, e))
 
 -- a command with one number in two's complement, and with none
-pub decode-signed : (op n : ℕ) (make : ℤ → Command) (z : ℤ) → formOf op ≡ takes n signed make → Holds n z → (rest : List ℕ)
+pub decode-signed : (op n : ℕ) (make : ℤ → Command) (z : ℤ) → layoutOf op ≡ takes n signed make → Holds n z → (rest : List ℕ)
     → decode op (signedBytes n z ++ rest) ≡ command (make z) (length (signedBytes n z))
 unfolding decode withParameters inFile
 decode-signed op n make z e h rest =
     rw (e, length-append, length-signedBytes n z, le-leb n (n + length rest) (omega arith), signed-first n z rest h)
 
-pub decode-bare : (op : ℕ) (c : Command) → formOf op ≡ bare c → (rest : List ℕ) → decode op rest ≡ command c 0
+pub decode-bare : (op : ℕ) (c : Command) → layoutOf op ≡ bare c → (rest : List ℕ) → decode op rest ≡ command c 0
 unfolding decode withParameters
 decode-bare op c e rest = rw e

@@ -28,7 +28,7 @@ use Rattle.dvi2.specs.File.{isUnit, preamble, betweenPages, step, showsF
 use Rattle.dvi2.specs.Writer.{unitBytes, preambleBytes, bopBytes, firstWriting, itemsBytes, writingAfterAll, pagesBytes, postBytes, postambleBytes, commandBytes, fillers, bytes223, dvi2File}
 use Rattle.dvi2.specs.WriterLaws.{small-first}
 use Rattle.dvi2.proofs.Runs.{goes-append}
-use Rattle.dvi2.proofs.Pieces.{Stands, Reached}
+use Rattle.dvi2.proofs.Leads.{Stands, Reached}
 use Rattle.dvi2.proofs.Items.{across, on-new, begin-page, end-page, prints-items}
 
 stands-first : Stands [] startPosition [] newPage

@@ -8,7 +8,7 @@ use mathlib.Core.Bool.{Bool, false, cond, _||_}
 use mathlib.Core.List.{List, [], _∷_}
 use mathlib.Core.Option.{Option, none, some}
 use lib.IntN.{ℤ, pos, negsuc, _*ℤ_}
-use Rattle.integers.specs.Parts.{eqZ}
+use Rattle.integers.specs.Equality.{eqZ}
 use Rattle.sheet.specs.Sheet.{Mark, charMark}
 use Rattle.dvi.specs.Page.{Numbers, Page, withNumbers, withFont, rightBy, downBy, setW, setX, setY, setZ}
 use Rattle.dvi2.specs.Command.{Command, markOther, put, nop, eop, push, pop, right, moveW0, moveW, moveX0, moveX, down, moveY0, moveY, moveZ0, moveZ, setFont, special, defineFont}

@@ -1,7 +1,7 @@
 -- The DVI file of identification 2 of a list of items, to the last byte (document 02, "The second edition of DVI").
 --     hOf, vOf           a character's places across and down
 --     positionAt         what was last set: the font and the place
---     widthOf            the fewest bytes that hold a number
+--     parameterWidth     the fewest bytes that hold a number
 --     selects            the command that selects a font
 --     definition         a font's definition
 --     fontChange         the commands before a character that change its font
@@ -17,13 +17,13 @@
 --     dvi2File           the file
 use Prim.Native.Nat.{ℕ, zero, suc, _+_, _-_, _*_, _%_}
 use mathlib.Core.Bool.{Bool, cond}
-use mathlib.Core.List.{List, [], _∷_, _++_, map, foldl}
+use mathlib.Core.List.{List, [], _∷_, _++_, map, foldl, flatten}
 use mathlib.Core.Option.{Option, none, some}
 use lib.Dec.{ltb, eqb}
 use lib.IntN.{ℤ, pos, negsuc, _-ℤ_, _*ℤ_}
 use lib.ListN.{length}
 use lib.Signed.{mag}
-use Rattle.integers.specs.Parts.{eqZ}
+use Rattle.integers.specs.Equality.{eqZ}
 use Rattle.octets.specs.Octets.{bytes, signedBytes}
 use Rattle.octets.specs.Octets as octets
 use Rattle.octets.specs.Transducer.{transduced}
@@ -50,8 +50,8 @@ unfoldable pub positionAt : Character → Position
 positionAt c = record { font = some (c .font); x = hOf c; y = vOf c }
 
 -- of 1, 2, 3 and 4
-unfoldable pub widthOf : ℤ → ℕ
-widthOf z = cond (ltb (mag z) 128) 1 (octets.widthOf z)
+unfoldable pub parameterWidth : ℤ → ℕ
+parameterWidth z = cond (ltb (mag z) 128) 1 (octets.widthOf z)
 
 -- fnt_num up to 63, else fnt1
 unfoldable pub selects : ℕ → List ℕ
@@ -76,7 +76,7 @@ fontChange known (some g) f = cond (eqb g f) [] (fontCommands known f)
 
 -- the shortest of four commands: op takes one byte, and the next three take two, three and four
 unfoldable pub shortest : ℕ → ℤ → List ℕ
-shortest op m = (op + (widthOf m - 1)) ∷ signedBytes (widthOf m) m
+shortest op m = (op + (parameterWidth m - 1)) ∷ signedBytes (parameterWidth m) m
 
 -- a move, "if not 0"
 unfoldable pub move : ℕ → ℤ → List ℕ
@@ -147,9 +147,8 @@ pagesBytes is = preambleBytes ++ (bopBytes 1 (negsuc 0) ++ (itemsBytes firstWrit
 -- ---- the postamble
 
 -- "again in the postamble, ascending there"
-unfoldable pub definitionBytes : List ℕ → List ℕ
-definitionBytes [] = []
-definitionBytes (f ∷ fs) = definition f ++ definitionBytes fs
+abbrev pub definitionBytes : List ℕ → List ℕ
+definitionBytes fs = flatten (map definition fs)
 
 -- post p num den mag l u s t: the last bop's offset; "width and height are the largest of each, at least 0", the height l first; "Greatest stack depth is 0; the
 -- page total is taken modulo 65,536"

@@ -1,29 +1,29 @@
 -- How long the pieces of the file are, and how it grows by one item.
---     widthOf-range, widthOf-holds, widthOf-least     a number's width is 1 to 4; so many bytes hold it, and no fewer
---     itemsBytes-most                                 the most bytes of a run of items
---     writing-at                                      the offset after a run of items
---     writing-behind                                  the characters set by then
---     Small, writing-small                            no number of the writing is too large for four bytes
---     fillers-range                                   there are four to seven bytes 223, and fillers-fewest no fewer do
---     length-pages, length-commands, length-file      the length of all pages, of all commands, of the file
---     file-fits                                       which a reader takes
+--     parameterWidth-range      a number's width is 1 to 4; parameterWidth-holds: so many bytes hold it; parameterWidth-least: no fewer do
+--     itemsBytes-most           the most bytes of a run of items
+--     writing-at                the offset after a run of items
+--     writing-behind            the characters set by then
+--     Small, writing-small      no number of the writing is too large for four bytes
+--     fillers-range             there are four to seven bytes 223, and fillers-fewest no fewer do
+--     length-pages              the length of all pages, length-commands of all commands, length-file of the file
+--     file-fits                 which a reader takes
 -- Assumes nothing.
 use mathlib.Core.Path.{_≡_, refl, sym, ap, _∙_}
-use mathlib.Core.Bool.{Bool, true, false, cond}
+use mathlib.Core.Bool.{Bool, cond}
 use mathlib.Core.List.{List, [], _∷_, _++_, append-assoc, append-nil}
 use mathlib.Core.Option.{Option, none, some}
 use Prim.Native.Nat.{ℕ, zero, suc, _+_, _*_, _-_, _%_, _≤_, _<_}
-use native.Mathlib.Nat.{zero-add, suc-add}
 use native.Mathlib.Omega.{arith}
 use borrow.Author.Tests.{ltb-true, ltb-false}
 use lib.Dec.{ltb, eqb}
 use lib.IntN.{ℤ, pos, _-ℤ_}
 use lib.ListN.{length, length-append}
 use lib.Signed.{mag}
-use Rattle.integers.specs.Parts.{eqZ}
+use Rattle.integers.specs.Equality.{eqZ}
 use Rattle.octets.specs.Octets.{bytes, signedBytes, Holds}
 use Rattle.octets.specs.Octets as octets
-use Rattle.octets.specs.OctetsLaws.{by-cond, length-signedBytes, width-range, width-holds, width-least}
+use Rattle.octets.specs.OctetsLaws.{by-cond, length-signedBytes}
+use Rattle.octets.specs.WordLaws.{width-range, width-holds, width-least}
 use Rattle.octets.specs.TransducerLaws.{transduced-most, transduced-at}
 use Rattle.galley_file.specs.declared.character.Character.{Character}
 use Rattle.galley_file.specs.declared.item.Item.{Item}
@@ -32,29 +32,31 @@ use Rattle.galley_file.specs.Item.{charactersOf}
 use Rattle.galley_file.specs.Galley.{maxItems}
 use Rattle.extents.specs.FontMarks.{uses, usedFonts}
 use Rattle.dvi.specs.Writer.{Position, nameOf}
+use Rattle.dvi.specs.WritingLaws.{pieces-append, length-pieces, length-if, if-most, Offsets, Next}
+use Rattle.dvi.specs.WritingLaws as S
 use Rattle.dvi.specs.WriterLaws.{usedFonts-most}
 use Rattle.dvi2.specs.Command.{EOP, RIGHT1, DOWN1, POSTPOST}
 use Rattle.dvi2.specs.File.{maxDvi2}
-use Rattle.dvi2.specs.Writer.{hOf, vOf, widthOf, selects, definition, fontCommands, fontChange, shortest, move, commandsOf, unitBytes, preambleBytes, bopBytes, Writing, firstWriting, itemBytes, writingAfter, itemsBytes, writingAfterAll, pagesBytes, definitionBytes, postBytes, postambleBytes, commandBytes, fillers, bytes223, dvi2File}
+use Rattle.dvi2.specs.Writer.{hOf, vOf, parameterWidth, selects, definition, fontCommands, fontChange, shortest, move, commandsOf, unitBytes, preambleBytes, bopBytes, Writing, firstWriting, itemBytes, writingAfter, itemsBytes, writingAfterAll, pagesBytes, definitionBytes, postBytes, postambleBytes, commandBytes, fillers, bytes223, dvi2File}
 
 -- ---- the commands of a character
 
-pub widthOf-range : (z : ℤ) → (1 ≤ widthOf z) × (widthOf z ≤ 4)
-unfolding widthOf
-widthOf-range z =
+pub parameterWidth-range : (z : ℤ) → (1 ≤ parameterWidth z) × (parameterWidth z ≤ 4)
+unfolding parameterWidth
+parameterWidth-range z =
     by-cond (λ (n : ℕ). (1 ≤ n) × (n ≤ 4)) (ltb (mag z) 128) _ _ (λ _. omega arith) (λ _. omega (arith, width-range z))
 
-pub widthOf-holds : (z : ℤ) → mag z < 2147483648 → Holds (widthOf z) z
-unfolding widthOf
-widthOf-holds z h =
+pub parameterWidth-holds : (z : ℤ) → mag z < 2147483648 → Holds (parameterWidth z) z
+unfolding parameterWidth
+parameterWidth-holds z h =
     by-cond (λ (n : ℕ). Holds n z) (ltb (mag z) 128) _ _
     (λ t. record { half = omega (arith, ltb-true (mag z) 128 t) })
     (λ _. width-holds z h)
 
 -- no fewer hold it
-pub widthOf-least : (k : ℕ) (z : ℤ) → 1 ≤ k → k < widthOf z → Holds k z → ⊥
-unfolding widthOf
-widthOf-least k z l =
+pub parameterWidth-least : (k : ℕ) (z : ℤ) → 1 ≤ k → k < parameterWidth z → Holds k z → ⊥
+unfolding parameterWidth
+parameterWidth-least k z l =
     by-cond (λ (n : ℕ). k < n → Holds k z → ⊥) (ltb (mag z) 128) _ _
     (λ _ h o. omega arith)
     (λ t. wide k l (ltb-false (mag z) 128 t))
@@ -86,18 +88,13 @@ fontChange-most known (some g) f =
     by-cond (λ (bs : List ℕ). length bs ≤ 22) (eqb g f) _ _ (λ _. omega arith) (λ _. fontCommands-most known f)
 
 -- a move's length does not depend on its command
-pub length-move : (op : ℕ) (m : ℤ) → length (move op m) ≡ cond (eqZ m (pos 0)) 0 (1 + widthOf m)
+pub length-move : (op : ℕ) (m : ℤ) → length (move op m) ≡ cond (eqZ m (pos 0)) 0 (1 + parameterWidth m)
 unfolding move shortest
-length-move op m = go (eqZ m (pos 0))
-  where
-    go : (t : Bool) → length (cond t [] (shortest op m)) ≡ cond t 0 (1 + widthOf m)
-    go true = refl
-    go false = let l = length-signedBytes (widthOf m) m in omega arith
+length-move op m = length-if (eqZ m (pos 0)) (shortest op m) (1 + parameterWidth m) (omega (arith, length-signedBytes (parameterWidth m) m))
 
 pub move-most : (op : ℕ) (m : ℤ) → length (move op m) ≤ 5
-move-most op m =
-    rw (length-move op m)
-    (by-cond (λ (n : ℕ). n ≤ 5) (eqZ m (pos 0)) _ _ (λ _. omega arith) (λ _. omega (arith, widthOf-range m)))
+unfolding move shortest
+move-most op m = if-most (eqZ m (pos 0)) (shortest op m) 5 (omega (arith, length-signedBytes (parameterWidth m) m, parameterWidth-range m))
 
 pub commandsOf-most : (known : Bool) (p : Position) (c : Character) → length (commandsOf known p c) ≤ 34
 unfolding commandsOf
@@ -139,40 +136,28 @@ writing-behind p [] = sym (append-nil (p .behind))
 writing-behind p (Placed c ∷ is) = writing-behind (writingAfter p (Placed c)) is ∙ append-assoc (p .behind) (c ∷ []) (charactersOf is)
 writing-behind p (Cut ∷ is) = writing-behind (writingAfter p Cut) is
 
-page-next : (p : Writing) (i : Item) → writingAfter p i .page ≤ suc (p .page)
-unfolding writingAfter
-page-next p (Placed c) = omega arith
-page-next p Cut = omega arith
+abbrev pub offsetsOf : Writing → Offsets
+offsetsOf p = record { page = p .page; bop = p .bop; at = p .at }
 
 -- the numbers of the writing fit four bytes, after n items more too
-pub record Small (p : Writing) (n : ℕ) : Type 0 where
-  pub bop-before : p .bop ≤ p .at
-  pub at-small : p .at + 46 * n < 2147483648
-  pub page-small : p .page + n < 2147483648
+abbrev pub Small : Writing → ℕ → Type 0
+Small p n = S.Small 46 (offsetsOf p) n
 
-bop-next : (p : Writing) (i : Item) → p .bop ≤ p .at → writingAfter p i .bop ≤ writingAfter p i .at
+offsets-next : (p : Writing) (i : Item) → Next 46 (offsetsOf p) (offsetsOf (writingAfter p i))
 unfolding writingAfter
-bop-next p (Placed c) h = omega arith
-bop-next p Cut h = omega arith
+offsets-next p (Placed c) =
+    record { page-next = omega arith; bop-next = λ h. omega arith; at-next = omega (arith, commandsOf-most (uses (c .font) (p .behind)) (p .position) c) }
+offsets-next p Cut = record { page-next = omega arith; bop-next = λ h. omega arith; at-next = omega arith }
 
 pub small-next : (p : Writing) (i : Item) (n : ℕ) → Small p (suc n) → Small (writingAfter p i) n
-small-next p i n s =
-    record {
-      bop-before = bop-next p i (s .bop-before);
-      at-small = omega (arith, s .at-small, writing-next p i, itemBytes-most p i);
-      page-small = omega (arith, s .page-small, page-next p i);
-    }
-
-small-all : (p : Writing) (is : List Item) (n : ℕ) → Small p (length is + n) → Small (writingAfterAll p is) n
-small-all p [] n s = rw zero-add at s
-small-all p (i ∷ is) n s = small-all (writingAfter p i) is n (small-next p i (length is + n) (rw suc-add at s))
+small-next = S.small-next writingAfter offsetsOf 46 offsets-next
 
 pub small-first : (n : ℕ) → n ≤ maxItems → Small firstWriting n
 unfolding firstWriting
 small-first n h = record { bop-before = omega arith; at-small = omega arith; page-small = omega arith }
 
 pub writing-small : (is : List Item) (n : ℕ) → length is + n ≤ maxItems → Small (writingAfterAll firstWriting is) n
-writing-small is n h = small-all firstWriting is n (small-first (length is + n) h)
+writing-small is n h = S.small-all writingAfter offsetsOf 46 offsets-next firstWriting is n (small-first (length is + n) h)
 
 -- ---- all pages
 
@@ -184,16 +169,10 @@ length-pages is = rw (length-append (itemsBytes firstWriting is) (EOP ∷ [])) (
 
 -- 20 bytes for each definition
 pub length-definitions : (fs : List ℕ) → length (definitionBytes fs) ≡ 20 * length fs
-unfolding definitionBytes
-length-definitions [] = refl
-length-definitions (f ∷ fs) = length-append (definition f) (definitionBytes fs) ∙ (let l = length-definition f in let r = length-definitions fs in omega arith)
+length-definitions = length-pieces definition 20 length-definition
 
 pub definitions-append : (fs gs : List ℕ) → definitionBytes (fs ++ gs) ≡ definitionBytes fs ++ definitionBytes gs
-unfolding definitionBytes
-definitions-append [] gs = refl
-definitions-append (f ∷ fs) gs =
-    ap (λ (l : List ℕ). definition f ++ l) (definitions-append fs gs)
-    ∙ sym (append-assoc (definition f) (definitionBytes fs) (definitionBytes gs))
+definitions-append = pieces-append definition
 
 pub length-post : (last pages : ℕ) (cs : List Character) → length (postBytes last pages cs) ≡ 29
 unfolding postBytes unitBytes bytes signedBytes

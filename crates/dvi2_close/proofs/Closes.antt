@@ -2,7 +2,7 @@
 -- Assumes nothing.
 use mathlib.Core.Path.{_≡_, refl, sym, ap, subst, _∙_}
 use mathlib.Core.Bool.{Bool, true, false, cond}
-use mathlib.Core.List.{List, [], _∷_, _++_, map, append-assoc, append-nil}
+use mathlib.Core.List.{List, [], _∷_, _++_, map, append-assoc, append-nil, flatten}
 use Prim.Native.Nat.{ℕ, zero, suc, _+_, _-_, _≤_, _<_}
 use native.Mathlib.Nat.{add-zero}
 use native.Mathlib.Numerals.{add-one}
@@ -19,15 +19,14 @@ use Rattle.dvi2.specs.WriterLaws.{length-file}
 use Rattle.dvi2_frame.specs.Frame.{postPostOf}
 use Rattle.dvi2_reading.specs.Reading.{State, closing, fill, closingOf, gives, bad, atEnd, readFile}
 use Rattle.dvi2_reading.specs.SizeLaws.{definition-command, postpost-command, fill-command}
-use Rattle.dvi2_reading.specs.Reached.{joined}
 use Rattle.dvi2_reading.specs.StepLaws.{ended-refuse}
 use Rattle.dvi2_reading.specs.Standing.{Standing}
 use Rattle.dvi2_reading.specs.StandingLaws.{standing-refuse, standing-end, sole-closing}
 use Rattle.dvi2_close.specs.declared.expect.Reading.{Reading}
 use Rattle.dvi2_close.specs.declared.expect.Reading.the-variants.{To, Fault}
 use Rattle.dvi2_close.specs.Fonts.{usedFrom}
-use Rattle.dvi2_close.specs.Reading.{expected, Inside, Led}
-use Rattle.dvi2_close.proofs.Expected.{expect-led, expect-inside, led-to, led-fault, inside-to}
+use Rattle.dvi2_close.specs.Reading.{expected, Inside, ReadsTo}
+use Rattle.dvi2_close.proofs.Expected.{expect-readsTo, expect-inside, readsTo-standing, readsTo-fault, inside-to}
 
 -- ---- the definitions
 
@@ -61,24 +60,24 @@ module _ (s : List ℕ) (is : List Item) (es : List (List ℕ)) where
   defining-last n at e k = subst (λ (m : ℕ). Standing s (Defining 120 m) at) e k
 
   module _ (low high : ℕ) (k : FontsAre low high cs) where
-    defining-one : (f n to : ℕ) → f < 120 → Standing s (Defining f (suc n)) to → Led s (Defining (suc f) n) (cond (isMarked low high f) (expected s to (definition f)) (To to))
+    defining-one : (f n to : ℕ) → f < 120 → Standing s (Defining f (suc n)) to → ReadsTo s (Defining (suc f) n) (cond (isMarked low high f) (expected s to (definition f)) (To to))
     unfolding usedFrom
     defining-one f n to l st = go (isMarked low high f) refl
       where
         Before : Bool → Type 0
         Before b = Standing s (closing is (map definition (cond b (f ∷ []) [] ++ usedFrom (suc f) n cs) ++ es)) to
 
-        go : (t : Bool) → isMarked low high f ≡ t → Led s (Defining (suc f) n) (cond t (expected s to (definition f)) (To to))
+        go : (t : Bool) → isMarked low high f ≡ t → ReadsTo s (Defining (suc f) n) (cond t (expected s to (definition f)) (To to))
         go true e =
             let b : Before true = subst Before (sym (marked-used low high cs k f l) ∙ e) st in
-            expect-led s _ (Defining (suc f) n) to (definition f) b (sole-closing (drop to s) is (definition f) (map definition (usedFrom (suc f) n cs) ++ es) (definition-command f))
+            expect-readsTo s _ (Defining (suc f) n) to (definition f) b (sole-closing (drop to s) is (definition f) (map definition (usedFrom (suc f) n cs) ++ es) (definition-command f))
         go false e = subst Before (sym (marked-used low high cs k f l) ∙ e) st
 
     pub defining-next : (f to : ℕ) → f < 120 → Standing s (Defining f (120 - f)) to
-        → Led s (Defining (f + 1) (120 - (f + 1))) (cond (isMarked low high f) (expected s to (definition f)) (To to))
+        → ReadsTo s (Defining (f + 1) (120 - (f + 1))) (cond (isMarked low high f) (expected s to (definition f)) (To to))
     defining-next f to l st =
         let m : 120 - f ≡ suc (120 - (f + 1)) = omega arith in
-        subst (λ (g : ℕ). Led s (Defining g (120 - (f + 1))) (cond (isMarked low high f) (expected s to (definition f)) (To to))) (sym (add-one f))
+        subst (λ (g : ℕ). ReadsTo s (Defining g (120 - (f + 1))) (cond (isMarked low high f) (expected s to (definition f)) (To to))) (sym (add-one f))
         (defining-one f (120 - (f + 1)) to l (subst (λ (j : ℕ). Standing s (Defining f j) to) m st))
 
 -- what a loop over the fonts knows: from `at` on, the fonts below f are defined before `to`
@@ -97,16 +96,16 @@ defined-end s at low high f to d e is es k st =
     defining-last s is es (120 - f) to n (subst (λ (g : ℕ). Standing s (Defining s is es g (120 - f)) to) e (d is es k st))
 
 module _ (s : List ℕ) (at low high f to : ℕ) (d : Defined s at low high f to) (l : f < 120) (r : Reading) (q : r ≡ cond (isMarked low high f) (expected s to (definition f)) (To to)) where
-  defined-led : (is : List Item) (es : List (List ℕ)) → FontsAre low high (charactersOf is) → Standing s (closing is (map definition (usedFonts 120 (charactersOf is)) ++ es)) at
-      → Led s (Defining s is es (f + 1) (120 - (f + 1))) r
-  defined-led is es k st = subst (Led s (Defining s is es (f + 1) (120 - (f + 1)))) (sym q) (defining-next s is es low high k f to l (d is es k st))
+  defined-readsTo : (is : List Item) (es : List (List ℕ)) → FontsAre low high (charactersOf is) → Standing s (closing is (map definition (usedFonts 120 (charactersOf is)) ++ es)) at
+      → ReadsTo s (Defining s is es (f + 1) (120 - (f + 1))) r
+  defined-readsTo is es k st = subst (ReadsTo s (Defining s is es (f + 1) (120 - (f + 1)))) (sym q) (defining-next s is es low high k f to l (d is es k st))
 
   pub defined-next : (next : ℕ) → r ≡ To next → Defined s at low high (f + 1) next
-  defined-next next h is es k st = led-to h (defined-led is es k st)
+  defined-next next h is es k st = readsTo-standing h (defined-readsTo is es k st)
 
   pub defined-fault : (place : ℕ) → r ≡ Fault place → (is : List Item) (es : List (List ℕ)) → FontsAre low high (charactersOf is)
       → Standing s (closing is (map definition (usedFonts 120 (charactersOf is)) ++ es)) at → readFile s ≡ bad place
-  defined-fault place h is es k st = led-fault s (Defining s is es (f + 1) (120 - (f + 1))) h (defined-led is es k st)
+  defined-fault place h is es k st = readsTo-fault s (Defining s is es (f + 1) (120 - (f + 1))) h (defined-readsTo is es k st)
 
   pub defined-inside : (next : ℕ) → to ≤ length s → r ≡ To next → next ≤ length s
   defined-inside next i h = inside-to h (subst (Inside (length s)) (sym q) (go (isMarked low high f)))
@@ -122,22 +121,22 @@ pub closing-is : (is : List Item) (post : ℕ) → post ≡ length (pagesBytes i
 unfolding closingOf postPostOf
 closing-is is post e = ap (λ (n : ℕ). map definition (usedFonts 120 (charactersOf is)) ++ (postPostOf n ∷ fill (fillers (length (commandBytes is))))) (sym e)
 
-pub post-post-led : (s : List ℕ) (is : List Item) (post n at : ℕ) → Standing s (closing is (postPostOf post ∷ fill n)) at → Led s (closing is (fill n)) (expected s at (postPostOf post))
+pub post-post-readsTo : (s : List ℕ) (is : List Item) (post n at : ℕ) → Standing s (closing is (postPostOf post ∷ fill n)) at → ReadsTo s (closing is (fill n)) (expected s at (postPostOf post))
 unfolding postPostOf
-post-post-led s is post n at k = expect-led s _ (closing is (fill n)) at (postPostOf post) k (sole-closing (drop at s) is (postPostOf post) (fill n) (postpost-command post))
+post-post-readsTo s is post n at k = expect-readsTo s _ (closing is (fill n)) at (postPostOf post) k (sole-closing (drop at s) is (postPostOf post) (fill n) (postpost-command post))
 
 -- ---- the bytes 223
 
-pub filler-led : (s : List ℕ) (is : List Item) (n to : ℕ) → Standing s (closing is (fill (suc n))) to → Led s (closing is (fill n)) (expected s to (223 ∷ []))
+pub filler-readsTo : (s : List ℕ) (is : List Item) (n to : ℕ) → Standing s (closing is (fill (suc n))) to → ReadsTo s (closing is (fill n)) (expected s to (223 ∷ []))
 unfolding fill
-filler-led s is n to k = expect-led s _ (closing is (fill n)) to (223 ∷ []) k (sole-closing (drop to s) is (223 ∷ []) (fill n) fill-command)
+filler-readsTo s is n to k = expect-readsTo s _ (closing is (fill n)) to (223 ∷ []) k (sole-closing (drop to s) is (223 ∷ []) (fill n) fill-command)
 
 pub filled : (s : List ℕ) (is : List Item) (n to : ℕ) → n ≡ 0 → Standing s (closing is (fill n)) to → Standing s (closing is []) to
 unfolding fill
 filled s is n to e k = subst (λ (m : ℕ). Standing s (closing is (fill m)) to) e k
 
-length-fill : (n : ℕ) → length (joined (fill n)) ≡ n
-unfolding fill joined
+length-fill : (n : ℕ) → length (flatten (fill n)) ≡ n
+unfolding fill flatten
 length-fill zero = refl
 length-fill (suc n) = ap suc (length-fill n)
 
@@ -152,24 +151,24 @@ pub filling-end : (s : List ℕ) (at n k to : ℕ) → Filling s at n k to → n
 filling-end s at n k to f l is st = filled s is (n - k) to (omega arith) (f is st)
 
 module _ (s : List ℕ) (at n k to : ℕ) (f : Filling s at n k to) (l : k < n) (e : List ℕ) (b : e ≡ 223 ∷ []) (r : Reading) (q : r ≡ expected s to e) where
-  filling-led : (is : List Item) → Standing s (closing is (fill (fillers at))) at → Led s (closing is (fill (n - (k + 1)))) r
-  filling-led is st =
+  filling-readsTo : (is : List Item) → Standing s (closing is (fill (fillers at))) at → ReadsTo s (closing is (fill (n - (k + 1)))) r
+  filling-readsTo is st =
       let m : n - k ≡ suc (n - (k + 1)) = omega arith in
-      subst (Led s (closing is (fill (n - (k + 1))))) (ap (expected s to) (sym b) ∙ sym q)
-      (filler-led s is (n - (k + 1)) to (subst (λ (j : ℕ). Standing s (closing is (fill j)) to) m (f is st)))
+      subst (ReadsTo s (closing is (fill (n - (k + 1))))) (ap (expected s to) (sym b) ∙ sym q)
+      (filler-readsTo s is (n - (k + 1)) to (subst (λ (j : ℕ). Standing s (closing is (fill j)) to) m (f is st)))
 
   pub filling-next : (next : ℕ) → r ≡ To next → Filling s at n (k + 1) next
-  filling-next next h is st = led-to h (filling-led is st)
+  filling-next next h is st = readsTo-standing h (filling-readsTo is st)
 
   pub filling-fault : (place : ℕ) → r ≡ Fault place → (is : List Item) → Standing s (closing is (fill (fillers at))) at → readFile s ≡ bad place
-  filling-fault place h is st = led-fault s (closing is (fill (n - (k + 1)))) h (filling-led is st)
+  filling-fault place h is st = readsTo-fault s (closing is (fill (n - (k + 1)))) h (filling-readsTo is st)
 
 -- they start after all commands
 pub fill-place : (s : List ℕ) (is : List Item) (at : ℕ) → Standing s (closing is (fill (fillers (length (commandBytes is))))) at → at ≡ length (commandBytes is)
 fill-place s is at k =
     let n = fillers (length (commandBytes is)) in
     let b = ap length (k .reached .bytes-are) in
-    omega (arith, b, length-append (take at s) (joined (fill n)), length-take-le at s (k .inside), length-fill n, length-file is)
+    omega (arith, b, length-append (take at s) (flatten (fill n)), length-take-le at s (k .inside), length-fill n, length-file is)
 
 pub fill-here : (s : List ℕ) (is : List Item) (at : ℕ) → Standing s (closing is (fill (fillers (length (commandBytes is))))) at → Standing s (closing is (fill (fillers at))) at
 fill-here s is at k = subst (λ (n : ℕ). Standing s (closing is (fill (fillers n))) at) (sym (fill-place s is at k)) k

@@ -1,14 +1,20 @@
 -- How far a file is read.
---     expected     past the command that alone may stand at a place
---     Inside       a reading's place is in the file
---     Led          what a reading tells that should lead to a state
---     Ended        what a reading tells that should end with these items
+--     expected            past the command that alone may stand at a place
+--     Inside              a reading's place is in the file
+--     ReadsTo             a reading comes to a place where this state stands, or the file is refused where it says
+--     PastDefinitions     a reading past the definitions of the fonts
+--     PastFillers         a reading past the bytes 223
+--     Ended               what a reading tells that should end with these items
 use mathlib.Core.Path.{_≡_}
-use mathlib.Core.List.{List}
+use mathlib.Core.List.{List, [], _++_, map}
 use Prim.Native.Nat.{ℕ, _+_, _≤_}
 use lib.ListN.{length, drop}
 use Rattle.galley_file.specs.declared.item.Item.{Item}
-use Rattle.dvi2_reading.specs.Reading.{State, gives, bad, readFile}
+use Rattle.galley_file.specs.Item.{charactersOf}
+use Rattle.extents.specs.declared.fonts.Fonts.{Fonts}
+use Rattle.extents.specs.FontMarks.{usedFonts, FontsAre}
+use Rattle.dvi2.specs.Writer.{definition, fillers}
+use Rattle.dvi2_reading.specs.Reading.{State, closing, fill, gives, bad, readFile}
 use Rattle.dvi2_reading.specs.Standing.{Standing}
 use Rattle.dvi2_page.specs.declared.matching.Match.{Match}
 use Rattle.dvi2_page.specs.declared.matching.Match.the-variants.{Whole, Short, Other}
@@ -29,9 +35,17 @@ abbrev pub Inside : ℕ → Reading → Type 0
 Inside n (To at) = at ≤ n
 Inside n (Fault place) = Unit {0}
 
-abbrev pub Led : List ℕ → State → Reading → Type 0
-Led s q (To at) = Standing s q at
-Led s q (Fault place) = readFile s ≡ bad place
+abbrev pub ReadsTo : List ℕ → State → Reading → Type 0
+ReadsTo s q (To at) = Standing s q at
+ReadsTo s q (Fault place) = readFile s ≡ bad place
+
+abbrev pub PastDefinitions : List ℕ → ℕ → Fonts → Reading → Type 0
+PastDefinitions s at used r =
+    (is : List Item) (es : List (List ℕ)) → FontsAre (used .low) (used .high) (charactersOf is)
+    → Standing s (closing is (map definition (usedFonts 120 (charactersOf is)) ++ es)) at → ReadsTo s (closing is es) r
+
+abbrev pub PastFillers : List ℕ → ℕ → Reading → Type 0
+PastFillers s at r = (is : List Item) → Standing s (closing is (fill (fillers at))) at → ReadsTo s (closing is []) r
 
 abbrev pub Ended : List ℕ → List Item → Reading → Type 0
 Ended s is (To at) = readFile s ≡ gives is

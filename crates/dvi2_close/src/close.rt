@@ -6,18 +6,18 @@ use extents::fonts;
 use extents::fonts::Fonts;
 ghost use mathlib.Core.Path.{_≡_};
 ghost use mathlib.Core.Bool.{cond};
-ghost use mathlib.Core.List.{List, [], _∷_, _++_, map};
-ghost use Prim.Native.Nat.{ℕ, _≤_, _<_};
+ghost use mathlib.Core.List.{List, _∷_};
+ghost use Prim.Native.Nat.{_≤_, _<_};
 ghost use lib.ListN.{length};
 ghost use Rattle.galley_file.specs.declared.item.Item.{Item};
 ghost use Rattle.galley_file.specs.Item.{charactersOf};
-ghost use Rattle.extents.specs.FontMarks.{usedFonts, FontsAre, isMarked};
+ghost use Rattle.extents.specs.FontMarks.{FontsAre, isMarked};
 ghost use Rattle.dvi2.specs.Writer as W;
 ghost use Rattle.dvi2_frame.specs.Frame.{postPostOf};
 ghost use Rattle.dvi2_reading.specs.Reading.{closing, fill, closingOf};
 ghost use Rattle.dvi2_reading.specs.Standing.{Standing};
 ghost use Rattle.dvi2_close.specs.declared.expect.Reading.the-variants.{To};
-ghost use Rattle.dvi2_close.specs.Reading.{expected, Inside, Led, Ended};
+ghost use Rattle.dvi2_close.specs.Reading.{expected, Inside, PastDefinitions, PastFillers, Ended};
 
 const FONTS: u8 = 120;
 
@@ -38,7 +38,7 @@ fn marked(dvi: &[u8], at: usize, used: Fonts, f: u8) -> Reading
 // Past the definitions of the fonts, ascending.
 fn definitions(dvi: &[u8], at: usize, used: Fonts) -> Reading
     requires { ⌜ at ≤ length (now dvi) ⌝ }
-    ensures { λ r. ⌜ Inside (length (now (dvi .entry))) r × ((is : List Item) (es : List (List ℕ)) → FontsAre (used .low) (used .high) (charactersOf is) → Standing (now (dvi .entry)) (closing is (map W.definition (usedFonts 120 (charactersOf is)) ++ es)) at → Led (now (dvi .entry)) (closing is es) r) ⌝ }
+    ensures { λ r. ⌜ Inside (length (now (dvi .entry))) r × PastDefinitions (now (dvi .entry)) at used r ⌝ }
 {
     let mut to = at;
     let mut f: u8 = 0;
@@ -60,7 +60,7 @@ fn definitions(dvi: &[u8], at: usize, used: Fonts) -> Reading
 // Past the bytes 223.
 fn fillers(dvi: &[u8], at: usize) -> Reading
     requires { ⌜ (at ≤ length (now dvi)) × (length (now dvi) ≤ 67108864) ⌝ }
-    ensures { λ r. ⌜ Inside (length (now (dvi .entry))) r × ((is : List Item) → Standing (now (dvi .entry)) (closing is (fill (W.fillers at))) at → Led (now (dvi .entry)) (closing is []) r) ⌝ }
+    ensures { λ r. ⌜ Inside (length (now (dvi .entry))) r × PastFillers (now (dvi .entry)) at r ⌝ }
 {
     let e = [FILLER];
     let n = 4 + (4 - at % 4) % 4;

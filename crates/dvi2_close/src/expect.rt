@@ -6,7 +6,7 @@ ghost use mathlib.Core.List.{[]};
 ghost use Prim.Native.Nat.{_≤_};
 ghost use lib.ListN.{length};
 ghost use Rattle.dvi2_reading.specs.Reading.{inPage, newPageState};
-ghost use Rattle.dvi2_close.specs.Reading.{expected, Led};
+ghost use Rattle.dvi2_close.specs.Reading.{expected, ReadsTo};
 
 // How far a file is read: to a place, or to a fault.
 pub enum Reading {
@@ -29,7 +29,7 @@ pub fn expect(dvi: &[u8], at: usize, e: &[u8]) -> Reading
 
 // The preamble and the first bop.
 pub fn head(dvi: &[u8]) -> Reading
-    ensures { λ r. ⌜ Led (now (dvi .entry)) (inPage (newPageState [])) r ⌝ }
+    ensures { λ r. ⌜ ReadsTo (now (dvi .entry)) (inPage (newPageState [])) r ⌝ }
 {
     let e = dvi2_frame::preamble();
     let r = expect(dvi, 0, &e);

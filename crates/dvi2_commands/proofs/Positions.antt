@@ -5,7 +5,6 @@ use mathlib.Core.Bool.{Bool, true, false, cond}
 use mathlib.Core.List.{[]}
 use mathlib.Core.Option.{none, some}
 use Prim.Native.Nat.{ℕ, _<_}
-use native.Mathlib.Omega.{arith}
 use borrow.Author.Tests.{eq-eqb, ne-eqb}
 use lib.Dec.{eqb}
 use lib.IntN.{ℤ, pos, _-ℤ_, _*ℤ_}
@@ -39,7 +38,7 @@ other-font known last f ne = go (eqb last 255)
 -- ---- at the start of a page, and at a character
 
 pub position-start : (p : Position) → p .font ≡ 255 → p .x .0 ≡ pos 0 → p .height .0 ≡ pos 0 → PositionIs p startPosition
-unfolding positionOf fontOrNone startPosition
+unfolding fontOrNone startPosition
 position-start p f x y =
     record {
       on-page = record { left = rw x (omega integers); right = rw x (omega integers); top = rw y (omega integers); bottom = rw y (omega integers) };
@@ -47,7 +46,7 @@ position-start p f x y =
     }
 
 pub position-set : (p : Position) (c : Character) → valid heightEnd c ≡ true → p .font ≡ c .font → p .x ≡ c .x → p .height ≡ c .height → PositionIs p (positionAt c)
-unfolding positionOf positionAt
+unfolding positionAt
 position-set p c v f x h =
     let r = x-range (valid-parts v) in
     let s = height-range (valid-parts v) in
@@ -63,9 +62,11 @@ position-set p c v f x h =
 
 -- ---- the moves
 
+pub thrice-dif : (h g : ℤ) → pos 3 *ℤ (h -ℤ g) ≡ pos 3 *ℤ h -ℤ pos 3 *ℤ g
+thrice-dif h g = omega (integers, dif-parts h g, scale-parts 3 (h -ℤ g), scale-parts 3 h, scale-parts 3 g, dif-parts (pos 3 *ℤ h) (pos 3 *ℤ g))
+
 module _ (p : Position) (c : Character) (o : OnPage (positionOf p)) (v : valid heightEnd c ≡ true) where
   pub right-fits : SFits w32 (c .x .0 -ℤ p .x .0)
-  unfolding positionOf
   right-fits =
       let r = x-range (valid-parts v) in
       omega (integers, r .0, r .1, o .left, o .right, dif-parts (c .x .0) (p .x .0))
@@ -74,24 +75,17 @@ module _ (p : Position) (c : Character) (o : OnPage (positionOf p)) (v : valid h
   to-fits = let s = height-range (valid-parts v) in omega (integers, s .0, s .1)
 
   pub from-fits : SFits w32 (p .height .0)
-  unfolding positionOf
   from-fits = omega (integers, o .top, o .bottom, scale-parts 3 (p .height .0))
 
   pub drop-fits : SFits w32 (c .height .0 -ℤ p .height .0)
-  unfolding positionOf
   drop-fits =
       let s = height-range (valid-parts v) in
       omega (integers, s .0, s .1, o .top, o .bottom, scale-parts 3 (p .height .0), dif-parts (c .height .0) (p .height .0))
 
   pub down-is : pos 3 *ℤ (c .height .0 -ℤ p .height .0) ≡ vOf c -ℤ positionOf p .y
-  unfolding positionOf
-  down-is =
-      let h = c .height .0 in
-      let g = p .height .0 in
-      omega (integers, dif-parts h g, scale-parts 3 (h -ℤ g), scale-parts 3 h, scale-parts 3 g, dif-parts (pos 3 *ℤ h) (pos 3 *ℤ g))
+  down-is = thrice-dif (c .height .0) (p .height .0)
 
   pub down-fits : SFits w32 (pos 3 *ℤ (c .height .0 -ℤ p .height .0))
-  unfolding positionOf
   down-fits =
       let s = height-range (valid-parts v) in
       let h = c .height .0 in

@@ -10,7 +10,7 @@ use Rattle.dvi.specs.FontOrNone.{fontOrNone}
 use Rattle.dvi2_commands.specs.declared.position.Position.{Position}
 
 -- a quantum is three units
-unfoldable pub positionOf : Position → W.Position
+abbrev pub positionOf : Position → W.Position
 positionOf p = record { font = fontOrNone (p .font); x = p .x .0; y = pos 3 *ℤ p .height .0 }
 
 pub record OnPage (p : W.Position) : Type 0 where

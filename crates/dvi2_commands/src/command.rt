@@ -13,7 +13,7 @@ ghost use Rattle.octets.specs.Octets.{signedBytes};
 ghost use Rattle.octets.specs.Write.{Wrote};
 ghost use Rattle.measure.specs.Place.{heightEnd};
 ghost use Rattle.galley_file.specs.Character.{valid};
-ghost use Rattle.dvi2.specs.Writer.{widthOf, move, commandsOf};
+ghost use Rattle.dvi2.specs.Writer.{parameterWidth, move, commandsOf};
 ghost use Rattle.octets.specs.PutIfRoom.{PutIfRoom};
 ghost use Rattle.dvi2_commands.specs.Position.{positionOf, OnPage};
 
@@ -25,8 +25,8 @@ pub const RIGHT1: u8 = 143;
 pub const DOWN1: u8 = 157;
 
 // The fewest of 1, 2, 3 and 4 bytes that hold z in two's complement.
-pub fn width_of(z: i32) -> usize
-    ensures { λ r. ⌜ (r ≡ widthOf z) × ((1 ≤ r) × (r ≤ 4)) ⌝ }
+pub fn parameter_width(z: i32) -> usize
+    ensures { λ r. ⌜ (r ≡ parameterWidth z) × ((1 ≤ r) × (r ≤ 4)) ⌝ }
 {
     if number::magnitude(z) < 128 {
         return 1;
@@ -58,7 +58,7 @@ fn put_move(out: &mut [u8], at: usize, op: u8, m: i32) -> usize
     if m == 0 {
         return at;
     }
-    let width = width_of(m);
+    let width = parameter_width(m);
     if out.len() < at + 1 + width {
         return at + 1 + width;
     }

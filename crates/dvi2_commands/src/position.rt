@@ -47,7 +47,7 @@ pub fn position_at(c: Character) -> Position
     }
 }
 
-// The move to the right from the position to c.
+// The move to the right from the position to c, in the file's units of 1/432 inch.
 pub fn right_to(last: Position, c: Character) -> i32
     requires { ⌜ OnPage (positionOf last) × (valid heightEnd c ≡ true) ⌝ }
     ensures { λ r. ⌜ r ≡ hOf c -ℤ positionOf last .x ⌝ }
@@ -55,7 +55,7 @@ pub fn right_to(last: Position, c: Character) -> i32
     c.x.0 - last.x.0
 }
 
-// The move down from the position to c, in units of 1/432 inch.
+// The move down from the position to c, in the same units.
 pub fn down_to(last: Position, c: Character) -> i32
     requires { ⌜ OnPage (positionOf last) × (valid heightEnd c ≡ true) ⌝ }
     ensures { λ r. ⌜ r ≡ vOf c -ℤ positionOf last .y ⌝ }

@@ -4,6 +4,7 @@ use mathlib.Core.Path.{_≡_, refl, sym, ap, subst, _∙_}
 use mathlib.Core.Bool.{Bool, true, false, cond}
 use mathlib.Core.List.{List, [], _∷_, _++_, append-nil}
 use Prim.Native.Nat.{ℕ, suc, _+_, _-_, _≤_, _<_}
+use native.Mathlib.Nat.{suc-ne-zero}
 use native.Mathlib.Omega.{arith}
 use borrow.Author.Tests.{ltb-true}
 use lib.Dec.{ltb}
@@ -14,11 +15,12 @@ use lib.Signed.{mag}
 use Rattle.octets.specs.Octets.{Bytes, signed, signedBytes}
 use Rattle.octets.specs.OctetsLaws.{length-signedBytes, signed-signedBytes, signedBytes-signedAt}
 use Rattle.dvi2.specs.Command.{RIGHT1, DOWN1, FNTNUM0, FNT1}
-use Rattle.dvi2.specs.Writer.{widthOf, selects, definition, shortest}
-use Rattle.dvi2.specs.WriterLaws.{widthOf-range, widthOf-holds}
-use Rattle.dvi2_reading.specs.Reading.{begins, PageCommand, ending, defining, selecting, across, downward, putting, inBytes, PageState, mayCome, inPage, pageStateAfter, mayBeginIn, mayBegin, refuse, short, go, step, next}
+use Rattle.dvi2.specs.Writer.{parameterWidth, selects, definition, shortest}
+use Rattle.dvi2.specs.WriterLaws.{parameterWidth-range, parameterWidth-holds}
+use Rattle.dvi2_reading.specs.PageReading.{begins, PageCommand, ending, defining, selecting, across, downward, putting, inBytes, PageState, mayCome}
+use Rattle.dvi2_reading.specs.Reading.{inPage, pageStateAfter, mayBeginIn, mayBegin, refuse, short, go, step, next}
 use Rattle.dvi2_reading.specs.BytesLaws.{begins-is, begins-append}
-use Rattle.dvi2_reading.specs.CommandLaws.{Small, page-next, inBytes-command}
+use Rattle.dvi2_reading.specs.CommandLaws.{MoveFits, page-next, inBytes-command}
 use Rattle.dvi2_reading.specs.SizeLaws.{Command}
 use Rattle.dvi2_reading.specs.StepLaws.{Alike, begins-it, holds-it, step-go, step-short, page-refuse}
 
@@ -49,8 +51,8 @@ unfolding inBytes definition shortest
 kind ending b ps a = head-is b ps 140 [] a
 kind (defining f) b ps a = head-is b ps 243 _ a
 kind (selecting f) b ps a = select-kind f b ps a
-kind (across m) b ps a = let h = head-is b ps (RIGHT1 + (widthOf m - 1)) _ a in let r = widthOf-range m in omega arith
-kind (downward m) b ps a = let h = head-is b ps (DOWN1 + (widthOf m - 1)) _ a in let r = widthOf-range m in omega arith
+kind (across m) b ps a = let h = head-is b ps (RIGHT1 + (parameterWidth m - 1)) _ a in let r = parameterWidth-range m in omega arith
+kind (downward m) b ps a = let h = head-is b ps (DOWN1 + (parameterWidth m - 1)) _ a in let r = parameterWidth-range m in omega arith
 kind (putting c) b ps a = head-is b ps 133 (c ∷ []) a
 
 -- ---- moves, right or down
@@ -76,14 +78,14 @@ move-down b ps l h (downward m) a = record { by = m; is-move = refl }
 move-down b ps l h (putting c) a = let k = kind (putting c) b ps a in absurd (omega arith)
 
 pub no-truth : {X : Type 0} (t : Bool) → t ≡ true → t ≡ false → X
-no-truth t p q = let z : true ≡ false = sym p ∙ q in let y : _≡_ {A = ℕ} 0 1 = cc in absurd (omega arith)
+no-truth t p q = let z : true ≡ false = sym p ∙ q in absurd (suc-ne-zero 0 cc)
 
 -- what a move of k bytes is about: its commands, and that these bytes can be no other
 pub record MoveCase (h : PageState) (b : ℕ) (ps : List ℕ) (k : ℕ) : Type 0 where
   pub op : ℕ
   pub mk : ℤ → PageCommand
   pub bytes-of : (m : ℤ) → inBytes (mk m) ≡ shortest op m
-  pub small-mk : (m : ℤ) → mag m < 2147483648 → Small (mk m)
+  pub mk-fits : (m : ℤ) → mag m < 2147483648 → MoveFits (mk m)
   pub near : (m : ℤ) → mayCome h (mk m) ≡ true → mag m < 2147483648
   pub lo : 1 ≤ k
   pub hi : k ≤ 4
@@ -100,18 +102,18 @@ module _ (h : PageState) (b : ℕ) (ps : List ℕ) (k : ℕ) (v : MoveCase h b p
   alike-move : (m : ℤ) → Alike (b ∷ ps) (inBytes (mk m)) → Alike (b ∷ ps) (shortest op m)
   alike-move m a = subst (Alike (b ∷ ps)) (v .bytes-of m) a
 
-  width-k : (m : ℤ) → Alike (b ∷ ps) (shortest op m) → widthOf m ≡ k
+  width-k : (m : ℤ) → Alike (b ∷ ps) (shortest op m) → parameterWidth m ≡ k
   unfolding shortest
-  width-k m a = let e = head-is b ps (op + (widthOf m - 1)) _ a in let r = widthOf-range m in let q = v .op-is in let l = v .lo in omega arith
+  width-k m a = let e = head-is b ps (op + (parameterWidth m - 1)) _ a in let r = parameterWidth-range m in let q = v .op-is in let l = v .lo in omega arith
 
   move-length : (m : ℤ) → Alike (b ∷ ps) (shortest op m) → length (shortest op m) ≡ suc k
   unfolding shortest
-  move-length m a = ap suc (length-signedBytes (widthOf m) m ∙ width-k m a)
+  move-length m a = ap suc (length-signedBytes (parameterWidth m) m ∙ width-k m a)
 
   -- the bytes of the number, as far as they are there
   numbers : (m : ℤ) → Alike (b ∷ ps) (shortest op m) → Alike ps (signedBytes k m)
   unfolding shortest
-  numbers m a = go (widthOf m) (width-k m a) a
+  numbers m a = go (parameterWidth m) (width-k m a) a
     where
       go : (w : ℕ) → w ≡ k → Alike (b ∷ ps) ((op + (w - 1)) ∷ signedBytes w m) → Alike ps (signedBytes k m)
       go w e (begins-it z q) = let t : signedBytes w m ≡ ps ++ z = cc in begins-it z (ap (λ (n : ℕ). signedBytes n m) (sym e) ∙ t)
@@ -141,7 +143,7 @@ module _ (h : PageState) (b : ℕ) (ps : List ℕ) (k : ℕ) (v : MoveCase h b p
     same-number m s a =
         let w = width-k m a in
         let t : take k ps ≡ signedBytes k m = go (numbers m a) in
-        ap signed t ∙ signed-signedBytes k m (subst (λ (n : ℕ). Holds′ n m) w (widthOf-holds m s))
+        ap signed t ∙ signed-signedBytes k m (subst (λ (n : ℕ). Holds′ n m) w (parameterWidth-holds m s))
       where
         Holds′ : ℕ → ℤ → Type 0
         Holds′ = Rattle.octets.specs.Octets.Holds
@@ -159,21 +161,21 @@ module _ (h : PageState) (b : ℕ) (ps : List ℕ) (k : ℕ) (v : MoveCase h b p
             empty-rest xs (y ∷ ys) e = absurd (omega arith)
         go (holds-it w e) = ap (take k) e ∙ take-at (signedBytes k m) w k (length-signedBytes k m)
 
-    pub move-bad : (widthOf number-here ≡ k → mayCome h (mk number-here) ≡ true → ⊥) → step (inPage h) b ps ≡ refuse
+    pub move-bad : (parameterWidth number-here ≡ k → mayCome h (mk number-here) ≡ true → ⊥) → step (inPage h) b ps ≡ refuse
     move-bad f =
         bad-unless
         (λ m c a.
         let e = same-number m (v .near m c) a in
-        f (ap widthOf e ∙ width-k m a) (ap (λ (n : ℤ). mayCome h (mk n)) e ∙ c))
+        f (ap parameterWidth e ∙ width-k m a) (ap (λ (n : ℤ). mayCome h (mk n)) e ∙ c))
 
-    pub move-go : Bytes ps → widthOf number-here ≡ k → mayCome h (mk number-here) ≡ true → step (inPage h) b ps ≡ go (pageStateAfter h (mk number-here)) k
+    pub move-go : Bytes ps → parameterWidth number-here ≡ k → mayCome h (mk number-here) ≡ true → step (inPage h) b ps ≡ go (pageStateAfter h (mk number-here)) k
     unfolding shortest
     move-go y w c =
         let m = number-here in
         let s : signedBytes k m ≡ take k ps = signedBytes-signedAt k 0 ps y (omega arith) in
         let e : inBytes (mk m) ≡ b ∷ take k ps =
         v .bytes-of m ∙ (λ i. (op + (w i - 1)) ∷ signedBytes (w i) m) ∙ (λ i. sym (v .op-is) i ∷ s i) in
-        let n = page-next h (mk m) (v .small-mk m (v .near m c)) c in
+        let n = page-next h (mk m) (v .mk-fits m (v .near m c)) c in
         let g = step-go (inPage h) (pageStateAfter h (mk m)) b (take k ps) (drop k ps) (subst Command e (inBytes-command (mk m))) (ap (next (inPage h)) (sym e) ∙ n) in
         ap (step (inPage h) b) (sym (take-append-drop k ps)) ∙ g ∙ ap (go (pageStateAfter h (mk m))) (length-take-le k ps l)
 

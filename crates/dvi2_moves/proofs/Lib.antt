@@ -1,4 +1,4 @@
 pub mod CommandKinds
 pub mod MoveSteps
 pub mod Pages
-pub mod Rights
+pub mod CodeSteps

@@ -3,13 +3,14 @@
 use mathlib.Core.Path.{_≡_, refl, sym, ap, subst, _∙_}
 use mathlib.Core.Bool.{true, false, _&&_}
 use mathlib.Core.List.{List, [], _∷_}
-use Prim.Native.Nat.{ℕ, _-_, _≤_}
+use Prim.Native.Nat.{ℕ, _≤_}
 use native.Mathlib.Omega.{arith}
 use borrow.Author.Tests.{leb-true, le-leb}
 use lib.Dec.{leb}
 use Rattle.octets.specs.FieldLaws.{both}
 use Rattle.dvi2.specs.Command.{PUT1}
-use Rattle.dvi2_reading.specs.Reading.{PageCommand, ending, defining, selecting, across, downward, putting, inBytes, PageState, isReady, beforePut, isMore, validIn, mayCome, inPage, between, pageStateAfter, mayBegin, refuse, short, go, step}
+use Rattle.dvi2_reading.specs.PageReading.{PageCommand, ending, defining, selecting, across, downward, putting, inBytes, PageState, isReady, beforePut, isMore, validIn, mayCome}
+use Rattle.dvi2_reading.specs.Reading.{inPage, between, pageStateAfter, mayBegin, refuse, short, go, step}
 use Rattle.dvi2_reading.specs.MayLaws.{way₅, as-such}
 use Rattle.dvi2_reading.specs.CommandLaws.{page-next, inBytes-command}
 use Rattle.dvi2_reading.specs.StepLaws.{Alike, begins-it, holds-it, step-go, step-short, page-refuse}

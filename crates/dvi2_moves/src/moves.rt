@@ -1,21 +1,35 @@
 // The moves of a page, and put1.
 use dvi2_commands::command;
+use dvi2_commands::position;
+use dvi2_commands::position::Position;
 use dvi2_state::begin;
 use dvi2_state::page_state;
 use dvi2_state::page_state::PageState;
 use dvi2_state::page_state::Stage;
 use dvi2_state::page_state::Stepped;
+use measure::Quanta;
+use measure::Units;
 use octets::number;
+ghost use mathlib.Core.Bool.{true};
 ghost use mathlib.Core.Path.{_≡_};
-ghost use mathlib.Core.List.{List};
 ghost use Prim.Native.Nat.{_+_, _≤_, _<_};
 ghost use lib.IntN.{_+ℤ_};
-ghost use lib.ListN.{length, getD, drop};
+ghost use lib.ListN.{length, getD};
 ghost use Rattle.octets.specs.Octets.{signedAt};
-ghost use Rattle.galley_file.specs.declared.item.Item.{Item};
 ghost use Rattle.dvi.specs.FontOrNone.{fontOrNone};
+ghost use Rattle.dvi2_reading.specs.PageReading as Page;
 ghost use Rattle.dvi2_reading.specs.Reading as R;
-ghost use Rattle.dvi2_state.specs.Page.{pageStateOf, Near, stepOf};
+ghost use Rattle.dvi2_state.specs.Page.{StepsAs, MayMove};
+
+// The first and the last x of any size.
+const FIRST_X: i64 = -55;
+
+const LAST_X: i64 = 3_239;
+
+// Three times the greatest height.
+const LOWEST: i64 = 3_000_000;
+
+const LAST_CODE: u8 = 108;
 
 // The number in the k bytes from `at`.
 fn signed_at(s: &[u8], at: usize, k: usize) -> i32
@@ -43,62 +57,71 @@ fn sum(a: i32, b: i32) -> i64
 
 // Whether a character of font f may stand at t.
 fn valid_at(f: u8, t: i64) -> bool
-    ensures { λ r. ⌜ r ≡ R.validIn (fontOrNone f) t ⌝ }
+    ensures { λ r. ⌜ r ≡ Page.validIn (fontOrNone f) t ⌝ }
 {
-    if t < -55 {
+    if t < FIRST_X {
         return false;
     }
-    if 3239 < t {
+    if LAST_X < t {
         return false;
     }
-    page_state::valid_in(f, t as i32)
+    page_state::valid_in(f, Units(t as i32))
 }
 
 // Whether t is three times a height.
 fn is_down(t: i64) -> bool
-    ensures { λ r. ⌜ r ≡ R.isDown t ⌝ }
+    ensures { λ r. ⌜ r ≡ Page.isDown t ⌝ }
 {
     if t < 0 {
         return false;
     }
-    if 3_000_000 < t {
+    if LOWEST < t {
         return false;
     }
     (t as u64) % 3 == 0
 }
 
+// The height of which t is three times.
+fn height_at(t: i64) -> Quanta
+    requires { ⌜ Page.isDown t ≡ true ⌝ }
+    ensures { λ r. ⌜ r .0 ≡ R.heightOf t ⌝ }
+{
+    Quanta((t as u64 / 3) as i32)
+}
+
 // A move right of k bytes.
 pub fn right(s: &[u8], at: usize, k: usize, h: PageState) -> Stepped
-    requires { ⌜ ((at < length (now s)) × (getD (now s) at 0 ≡ 142 + k)) × (((1 ≤ k) × (k ≤ 4)) × Near h) ⌝ }
-    ensures { λ r. ⌜ ((is : List Item) → length is < 1048576 → stepOf is h r ≡ R.step (R.inPage (pageStateOf is h)) (getD (now (s .entry)) at 0) (drop (at + 1) (now (s .entry)))) ⌝ }
+    requires { ⌜ MayMove (now s) at (142 + k) k h ⌝ }
+    ensures { λ r. ⌜ StepsAs (now (s .entry)) at h r ⌝ }
 {
     let stage = h.stage;
-    let font = h.font;
-    let x = h.x;
-    let y = h.y;
+    let p = h.position;
     if page_state::before_right(stage) {
         if s.len() - at <= k {
-            if begin::may_begin_right(s, at, font, x) {
+            if begin::may_begin_right(s, at, p) {
                 return Stepped::Short;
             }
             return Stepped::Bad;
         }
         let m = signed_at(s, at + 1, k);
-        let w = command::width_of(m);
-        if w != k {
+        if command::parameter_width(m) != k {
             return Stepped::Bad;
         }
         if m == 0 {
             return Stepped::Bad;
         }
-        let t = sum(x, m);
-        if valid_at(font, t) {
+        let t = sum(p.x.0, m);
+        if valid_at(p.font, t) {
+            let height = p.height;
+            let to = Position {
+                font: p.font,
+                x: Units(t as i32),
+                height: height,
+            };
             return Stepped::Go(
                 PageState {
                     stage: Stage::Moved,
-                    font: font,
-                    x: t as i32,
-                    y: y,
+                    position: to,
                 },
                 k,
             );
@@ -110,37 +133,38 @@ pub fn right(s: &[u8], at: usize, k: usize, h: PageState) -> Stepped
 
 // A move down of k bytes.
 pub fn down(s: &[u8], at: usize, k: usize, h: PageState) -> Stepped
-    requires { ⌜ ((at < length (now s)) × (getD (now s) at 0 ≡ 156 + k)) × (((1 ≤ k) × (k ≤ 4)) × Near h) ⌝ }
-    ensures { λ r. ⌜ ((is : List Item) → length is < 1048576 → stepOf is h r ≡ R.step (R.inPage (pageStateOf is h)) (getD (now (s .entry)) at 0) (drop (at + 1) (now (s .entry)))) ⌝ }
+    requires { ⌜ MayMove (now s) at (156 + k) k h ⌝ }
+    ensures { λ r. ⌜ StepsAs (now (s .entry)) at h r ⌝ }
 {
     let stage = h.stage;
-    let font = h.font;
-    let x = h.x;
-    let y = h.y;
+    let p = h.position;
+    let x = p.x;
     if page_state::before_down(stage) {
-        if page_state::valid_in(font, x) {
+        if page_state::valid_in(p.font, x) {
             if s.len() - at <= k {
-                if begin::may_begin_down(s, at, y) {
+                if begin::may_begin_down(s, at, p) {
                     return Stepped::Short;
                 }
                 return Stepped::Bad;
             }
             let m = signed_at(s, at + 1, k);
-            let w = command::width_of(m);
-            if w != k {
+            if command::parameter_width(m) != k {
                 return Stepped::Bad;
             }
             if m == 0 {
                 return Stepped::Bad;
             }
-            let t = sum(y, m);
+            let t = sum(position::PER_QUANTUM * p.height.0, m);
             if is_down(t) {
+                let to = Position {
+                    font: p.font,
+                    x: x,
+                    height: height_at(t),
+                };
                 return Stepped::Go(
                     PageState {
                         stage: Stage::Lowered,
-                        font: font,
-                        x: x,
-                        y: t as i32,
+                        position: to,
                     },
                     k,
                 );
@@ -155,13 +179,12 @@ pub fn down(s: &[u8], at: usize, k: usize, h: PageState) -> Stepped
 // put1.
 pub fn put(s: &[u8], at: usize, h: PageState) -> Stepped
     requires { ⌜ (at < length (now s)) × (getD (now s) at 0 ≡ 133) ⌝ }
-    ensures { λ r. ⌜ ((is : List Item) → length is < 1048576 → stepOf is h r ≡ R.step (R.inPage (pageStateOf is h)) (getD (now (s .entry)) at 0) (drop (at + 1) (now (s .entry)))) ⌝ }
+    ensures { λ r. ⌜ StepsAs (now (s .entry)) at h r ⌝ }
 {
     let stage = h.stage;
-    let font = h.font;
-    let x = h.x;
+    let x = h.position.x;
     if page_state::before_put(stage) {
-        if page_state::valid_in(font, x) {
+        if page_state::valid_in(h.position.font, x) {
             if s.len() - at < 2 {
                 return Stepped::Short;
             }
@@ -169,7 +192,7 @@ pub fn put(s: &[u8], at: usize, h: PageState) -> Stepped
             if c < 1 {
                 return Stepped::Bad;
             }
-            if 108 < c {
+            if LAST_CODE < c {
                 return Stepped::Bad;
             }
             return Stepped::Put(c);

@@ -4,6 +4,7 @@ use mathlib.Core.Path.{_≡_, refl, sym, ap, subst, _∙_}
 use mathlib.Core.Bool.{Bool, true, false, not, cond, _&&_}
 use mathlib.Core.List.{List, [], _∷_, _++_}
 use Prim.Native.Nat.{ℕ, _+_, _-_, _≤_, _<_}
+use native.Mathlib.Nat.{suc-ne-zero}
 use native.Mathlib.Omega.{arith}
 use borrow.Author.Tests.{lt-ltb, le-ltb, ltb-true, ltb-false}
 use lib.Dec.{ltb}
@@ -15,7 +16,8 @@ use Rattle.extents.specs.FontMarks.{uses}
 use Rattle.dvi.specs.Writer.{nameOf}
 use Rattle.dvi2.specs.Command.{FNTNUM0, FNT1}
 use Rattle.dvi2.specs.Writer.{selects, definition}
-use Rattle.dvi2_reading.specs.Reading.{PageCommand, ending, defining, selecting, across, downward, putting, inBytes, PageState, isReady, isMore, mayCome, inPage, pageStateAfter, mayBegin, refuse, short, go, step, next}
+use Rattle.dvi2_reading.specs.PageReading.{PageCommand, ending, defining, selecting, across, downward, putting, inBytes, PageState, isReady, isMore, mayCome}
+use Rattle.dvi2_reading.specs.Reading.{inPage, pageStateAfter, mayBegin, refuse, short, go, step, next}
 use Rattle.dvi2_reading.specs.MayLaws.{way₁, way₂, as-such}
 use Rattle.dvi2_reading.specs.CommandLaws.{page-next, inBytes-command}
 use Rattle.dvi2_reading.specs.SizeLaws.{Command}
@@ -69,7 +71,7 @@ module _ (h : PageState) (b : ℕ) (ps : List ℕ) where
       no (putting c) m a k = omega arith
 
   no-truth : {X : Type 0} (t : Bool) → t ≡ true → t ≡ false → X
-  no-truth t p q = let z : true ≡ false = sym p ∙ q in let y : _≡_ {A = ℕ} 0 1 = cc in absurd (omega arith)
+  no-truth t p q = let z : true ≡ false = sym p ∙ q in absurd (suc-ne-zero 0 cc)
 
   module _ (l : 171 ≤ b) (u : b ≤ 234) where
     pub low-bad : mayCome h (selecting (b - 171)) ≡ false → step (inPage h) b ps ≡ refuse

@@ -11,11 +11,13 @@ use lib.Dec.{ltb}
 use lib.ListN.{length, getD, drop, drop-of-length-le}
 use lib.Seq.{drop-cons}
 use Rattle.galley_file.specs.declared.item.Item.{Item}
+use Rattle.galley_file.specs.Galley.{maxItems}
 use Rattle.galley_file.specs.Item.{charactersOf}
 use Rattle.extents.specs.FontMarks.{uses, isMarked}
 use Rattle.dvi2.specs.Writer.{definition}
-use Rattle.dvi2_reading.specs.Reading as R
-use Rattle.dvi2_reading.specs.Reading.{someBelow, mayCome, isReady, defining, step, inPage, refuse, short, go, pageStateAfter}
+use Rattle.dvi2_reading.specs.PageReading as Page
+use Rattle.dvi2_reading.specs.PageReading.{someBelow, mayCome, isReady, defining}
+use Rattle.dvi2_reading.specs.Reading.{step, inPage, refuse, short, go, pageStateAfter}
 use Rattle.dvi2_reading.specs.BytesLaws.{some-found, found-some}
 use Rattle.dvi2_state.specs.declared.page_state.PageState.{PageState}
 use Rattle.dvi2_page.specs.declared.matching.Match.the-variants.{Whole, Short, Other}
@@ -23,11 +25,11 @@ use Rattle.dvi2_page.specs.Match.{compared}
 use Rattle.dvi2_state.specs.Page.{stageOf, pageStateOf}
 use Rattle.dvi2_page.specs.Fonts.{Known, isFree}
 use Rattle.dvi2_page.proofs.Choices.{define-none, define-some, define-not, define-other, define-short, define-go}
-use Rattle.dvi2_moves.proofs.Rights.{clash}
+use Rattle.dvi2_moves.proofs.CommandKinds.{no-truth}
 use Rattle.dvi2_page.proofs.Selects.{used-not-free, unused-free}
 
-module _ (S : List ℕ) (at : ℕ) (h : PageState) (is : List Item) (l : length is < 1048576) (low high : ℕ) (k : Known low high is) (o : getD S at 0 ≡ 243) where
-  abbrev H : R.PageState
+module _ (S : List ℕ) (at : ℕ) (h : PageState) (is : List Item) (l : length is < maxItems) (low high : ℕ) (k : Known low high is) (o : getD S at 0 ≡ 243) where
+  abbrev H : Page.PageState
   H = pageStateOf is h
 
   abbrev B : ℕ
@@ -38,7 +40,7 @@ module _ (S : List ℕ) (at : ℕ) (h : PageState) (is : List Item) (l : length 
 
   define-is : (f : ℕ) → mayCome H (defining f) ≡ (isReady (stageOf (h .stage)) && (ltb f 120 && not (uses f (charactersOf is))))
   unfolding mayCome
-  define-is f = rw (lt-ltb (length is) 1048576 l)
+  define-is f = rw (lt-ltb (length is) maxItems l)
 
   pub d-not-ready : isReady (stageOf (h .stage)) ≡ false → refuse ≡ step (inPage H) B P
   d-not-ready e = sym (define-none H B P o (λ f u. define-is f ∙ ap (λ (t : Bool). t && (ltb f 120 && not (uses f (charactersOf is)))) e))
@@ -63,7 +65,7 @@ module _ (S : List ℕ) (at : ℕ) (h : PageState) (is : List Item) (l : length 
     d-none n e = sym (define-none H B P o (λ f u. free-is f u ∙ off f (isFree (charactersOf is) f) refl u))
       where
         off : (f : ℕ) (t : Bool) → isFree (charactersOf is) f ≡ t → f < 120 → t ≡ false
-        off f true q u = absurd (clash _ (found-some 120 (isFree (charactersOf is)) f u q) e)
+        off f true q u = absurd (no-truth _ (found-some 120 (isFree (charactersOf is)) f u q) e)
         off f false q u = refl
 
     module _ (n : at + 1 < length S) (f : ℕ) (e : getD S (at + 1) 0 ≡ f) where

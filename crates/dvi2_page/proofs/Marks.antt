@@ -4,7 +4,7 @@ use mathlib.Core.Path.{_≡_, refl, sym, ap, _∙_}
 use mathlib.Core.Bool.{Bool, true, false, not, cond, _&&_}
 use mathlib.Core.List.{List}
 use mathlib.Core.Option.{Option, none, some}
-use Prim.Native.Nat.{ℕ, _-_, _≤_, _<_}
+use Prim.Native.Nat.{ℕ, _≤_, _<_}
 use native.Mathlib.Omega.{arith}
 use borrow.Author.Tests.{eq-eqb, ne-eqb, eqb-true, eqb-false}
 use lib.Dec.{eqb}
@@ -12,8 +12,8 @@ use Rattle.galley_file.specs.declared.item.Item.{Item}
 use Rattle.galley_file.specs.Item.{charactersOf}
 use Rattle.extents.specs.FontMarks.{uses, isMarked}
 use Rattle.extents.specs.FontMarksLaws.{marked-used}
-use Rattle.dvi2_reading.specs.Reading.{isFont, mayChoose, ready, named}
-use Rattle.dvi2_reading.specs.Reading as R
+use Rattle.dvi2_reading.specs.PageReading.{isFont, mayChoose, ready, named}
+use Rattle.dvi2_reading.specs.PageReading as Page
 use Rattle.dvi.specs.FontOrNone.{fontOrNone}
 use Rattle.dvi2_page.specs.Fonts.{Known}
 
@@ -27,20 +27,20 @@ font-is o f l = go (eqb o 255) refl
     go false e = refl
 
 module _ (o f low high : ℕ) (is : List Item) (k : Known low high is) where
-  pub choose-big : (s : R.Stage) → 120 ≤ f → ((g : ℕ) → fontOrNone o ≡ some g → g < 120) → false ≡ mayChoose s (charactersOf is) (fontOrNone o) f
-  choose-big R.ready l n = go (uses f (charactersOf is)) refl
+  pub choose-big : (s : Page.Stage) → 120 ≤ f → ((g : ℕ) → fontOrNone o ≡ some g → g < 120) → false ≡ mayChoose s (charactersOf is) (fontOrNone o) f
+  choose-big Page.ready l n = go (uses f (charactersOf is)) refl
     where
       go : (t : Bool) → uses f (charactersOf is) ≡ t → false ≡ (t && not (isFont (fontOrNone o) f))
       go true e = let b = k .small f e in absurd (omega arith)
       go false e = refl
-  choose-big R.named l n = go (fontOrNone o) refl
+  choose-big Page.named l n = go (fontOrNone o) refl
     where
       go : (p : Option ℕ) → fontOrNone o ≡ p → false ≡ isFont p f
       go none e = refl
       go (some g) e = let b = n g e in sym (ne-eqb g f (λ (q : g ≡ f). omega arith))
-  choose-big R.chosen l n = refl
-  choose-big R.moved l n = refl
-  choose-big R.lowered l n = refl
+  choose-big Page.chosen l n = refl
+  choose-big Page.moved l n = refl
+  choose-big Page.lowered l n = refl
 
   module _ (l : f < 120) where
     pub choose-same : f ≡ o → false ≡ mayChoose ready (charactersOf is) (fontOrNone o) f

@@ -3,7 +3,8 @@
 use mathlib.Core.Path.{_≡_, refl, sym}
 use mathlib.Core.Bool.{Bool, true, false, cond}
 use mathlib.Core.List.{List, [], _∷_, _++_}
-use Prim.Native.Nat.{ℕ, suc, _+_, _-_, _≤_, _<_}
+use Prim.Native.Nat.{ℕ, suc, _+_, _≤_, _<_}
+use native.Mathlib.Nat.{suc-ne-zero}
 use native.Mathlib.Omega.{arith}
 use Rattle.dvi2_reading.specs.StepLaws.{Alike, begins-it, holds-it}
 use borrow.Author.Tests.{eqb-true, eqb-false, eq-eqb, ne-eqb}
@@ -35,12 +36,12 @@ compared-whole s e i l = rw (drop-of-length-le e {i = i} l)
 pub whole-is : (s e : List ℕ) → compared s e ≡ Whole → s ≡ e ++ drop (length e) s
 unfolding compared
 whole-is s [] n = refl
-whole-is [] (x ∷ e) n = let z : _≡_ {A = ℕ} 0 1 = cc in absurd (omega arith)
+whole-is [] (x ∷ e) n = absurd (suc-ne-zero 0 cc)
 whole-is (y ∷ s) (x ∷ e) n = go (λ k. whole-is s e k) (eqb y x) refl n
   where
     go : (compared s e ≡ Whole → s ≡ e ++ drop (length e) s) → (t : Bool) → eqb y x ≡ t → cond t (compared s e) Other ≡ Whole → y ∷ s ≡ x ∷ e ++ drop (length e) s
     go f true q k = (λ i. eqb-true y x q i ∷ f k i)
-    go f false q k = let z : _≡_ {A = ℕ} 0 1 = cc in absurd (omega arith)
+    go f false q k = absurd (suc-ne-zero 0 cc)
 
 pub record Begun (s e : List ℕ) : Type 0 where
   pub more : List ℕ
@@ -49,18 +50,18 @@ pub record Begun (s e : List ℕ) : Type 0 where
 
 pub short-is : (s e : List ℕ) → compared s e ≡ Short → Begun s e
 unfolding compared
-short-is s [] n = let z : _≡_ {A = ℕ} 0 1 = cc in absurd (omega arith)
+short-is s [] n = absurd (suc-ne-zero 0 cc)
 short-is [] (x ∷ e) n = record { more = x ∷ e; whole-is = refl; some-more = omega arith }
 short-is (y ∷ s) (x ∷ e) n = go (λ k. short-is s e k) (eqb y x) refl n
   where
     go : (compared s e ≡ Short → Begun s e) → (t : Bool) → eqb y x ≡ t → cond t (compared s e) Other ≡ Short → Begun (y ∷ s) (x ∷ e)
     go f true q k = let r = f k in record { more = r .more; whole-is = λ i. sym (eqb-true y x q) i ∷ r .whole-is i; some-more = r .some-more }
-    go f false q k = let z : _≡_ {A = ℕ} 0 1 = cc in absurd (omega arith)
+    go f false q k = absurd (suc-ne-zero 0 cc)
 
 pub other-is : (s e : List ℕ) → compared s e ≡ Other → Alike s e → ⊥
 unfolding compared
-other-is s [] n a = let z : _≡_ {A = ℕ} 0 1 = cc in omega arith
-other-is [] (x ∷ e) n a = let z : _≡_ {A = ℕ} 0 1 = cc in omega arith
+other-is s [] n a = suc-ne-zero 0 cc
+other-is [] (x ∷ e) n a = suc-ne-zero 0 cc
 other-is (y ∷ s) (x ∷ e) n a = go (λ k t. other-is s e k t) (eqb y x) refl n a
   where
     go : (compared s e ≡ Other → Alike s e → ⊥) → (t : Bool) → eqb y x ≡ t → cond t (compared s e) Other ≡ Other → Alike (y ∷ s) (x ∷ e) → ⊥

@@ -13,32 +13,34 @@ use lib.Seq.{drop-cons}
 use Rattle.octets.specs.FieldLaws.{both}
 use Rattle.galley_file.specs.declared.character.Character.{Character}
 use Rattle.galley_file.specs.declared.item.Item.{Item}
+use Rattle.galley_file.specs.Galley.{maxItems}
 use Rattle.galley_file.specs.Item.{charactersOf}
-use Rattle.dvi2_reading.specs.Reading as R
-use Rattle.dvi2_reading.specs.Reading.{someBelow, mayCome, mayChoose, selecting, step, inPage, refuse, short, go, pageStateAfter}
+use Rattle.dvi2_reading.specs.PageReading as Page
+use Rattle.dvi2_reading.specs.PageReading.{someBelow, mayCome, mayChoose, selecting}
+use Rattle.dvi2_reading.specs.Reading.{step, inPage, refuse, short, go, pageStateAfter}
 use Rattle.dvi2_reading.specs.BytesLaws.{some-found, found-some}
 use Rattle.dvi2_state.specs.declared.page_state.PageState.{PageState}
 use Rattle.dvi.specs.FontOrNone.{fontOrNone}
-use Rattle.dvi2_state.specs.Page.{stageOf, pageStateOf, Near}
+use Rattle.dvi2_state.specs.Page.{stageOf, pageStateOf, SoundPage}
 use Rattle.dvi2_page.specs.Fonts.{Known, choosesHigh, isFree}
 use Rattle.dvi2_page.proofs.Choices.{low-bad, low-go, high-none, high-some, high-bad, high-go}
 use Rattle.extents.specs.FontMarks.{isMarked}
 use Rattle.extents.specs.FontMarksLaws.{marked-used}
 use Rattle.dvi2_page.proofs.Marks.{choose-big}
-use Rattle.dvi2_moves.proofs.Rights.{clash}
+use Rattle.dvi2_moves.proofs.CommandKinds.{no-truth}
 
 -- no font below 64
-pub none-low : (n : ℕ) (s : R.Stage) (cs : List Character) (o : Option ℕ) → n ≤ 64 → someBelow n (choosesHigh s cs o) ≡ false
+pub none-low : (n : ℕ) (s : Page.Stage) (cs : List Character) (o : Option ℕ) → n ≤ 64 → someBelow n (choosesHigh s cs o) ≡ false
 unfolding someBelow choosesHigh
 none-low zero s cs o l = refl
 none-low (suc n) s cs o l = rw (lt-leb 64 n (omega arith)) (none-low n s cs o (omega arith))
 
-pub chooses-high : (s : R.Stage) (cs : List Character) (o : Option ℕ) (f : ℕ) → 64 ≤ f → choosesHigh s cs o f ≡ mayChoose s cs o f
+pub chooses-high : (s : Page.Stage) (cs : List Character) (o : Option ℕ) (f : ℕ) → 64 ≤ f → choosesHigh s cs o f ≡ mayChoose s cs o f
 unfolding choosesHigh
 chooses-high s cs o f l = rw (le-leb 64 f l)
 
-module _ (S : List ℕ) (at : ℕ) (h : PageState) (near : Near h) (is : List Item) (l : length is < 1048576) (low high : ℕ) (k : Known low high is) where
-  abbrev H : R.PageState
+module _ (S : List ℕ) (at : ℕ) (h : PageState) (sound : SoundPage h) (is : List Item) (l : length is < maxItems) (low high : ℕ) (k : Known low high is) where
+  abbrev H : Page.PageState
   H = pageStateOf is h
 
   abbrev B : ℕ
@@ -48,11 +50,11 @@ module _ (S : List ℕ) (at : ℕ) (h : PageState) (near : Near h) (is : List It
   P = drop (at + 1) S
 
   abbrev chooses : ℕ → Bool
-  chooses f = mayChoose (stageOf (h .stage)) (charactersOf is) (fontOrNone (h .font)) f
+  chooses f = mayChoose (stageOf (h .stage)) (charactersOf is) (fontOrNone (h .position .font)) f
 
   select-is : (f : ℕ) → mayCome H (selecting f) ≡ chooses f
   unfolding mayCome
-  select-is f = rw (lt-ltb (length is) 1048576 l)
+  select-is f = rw (lt-ltb (length is) maxItems l)
 
   pub s-low-go : 171 ≤ B → B ≤ 234 → chooses (B - 171) ≡ true → go (pageStateAfter H (selecting (B - 171))) 0 ≡ step (inPage H) B P
   s-low-go a b c = sym (low-go H B P a b (select-is (B - 171) ∙ c))
@@ -64,14 +66,14 @@ module _ (S : List ℕ) (at : ℕ) (h : PageState) (near : Near h) (is : List It
     none-here : length S - at < 2 → P ≡ []
     none-here n = drop-of-length-le S {i = at + 1} (omega arith)
 
-    pub s-short : length S - at < 2 → someBelow 120 (choosesHigh (stageOf (h .stage)) (charactersOf is) (fontOrNone (h .font))) ≡ true → short ≡ step (inPage H) B P
+    pub s-short : length S - at < 2 → someBelow 120 (choosesHigh (stageOf (h .stage)) (charactersOf is) (fontOrNone (h .position .font))) ≡ true → short ≡ step (inPage H) B P
     unfolding choosesHigh
     s-short n e =
-        let f = some-found 120 (choosesHigh (stageOf (h .stage)) (charactersOf is) (fontOrNone (h .font))) e in
+        let f = some-found 120 (choosesHigh (stageOf (h .stage)) (charactersOf is) (fontOrNone (h .position .font))) e in
         let b = both (leb 64 (f .found)) (chooses (f .found)) (f .holds) in
         sym (high-some H B P o (none-here n) (f .found) (leb-true 64 (f .found) (b .0)) (f .is-below) (select-is (f .found) ∙ b .1))
 
-    pub s-none : length S - at < 2 → someBelow 120 (choosesHigh (stageOf (h .stage)) (charactersOf is) (fontOrNone (h .font))) ≡ false → refuse ≡ step (inPage H) B P
+    pub s-none : length S - at < 2 → someBelow 120 (choosesHigh (stageOf (h .stage)) (charactersOf is) (fontOrNone (h .position .font))) ≡ false → refuse ≡ step (inPage H) B P
     s-none n e =
         sym (high-none H B P o (none-here n)
         (λ f a b. select-is f ∙ off f (chooses f) refl a b)
@@ -79,11 +81,11 @@ module _ (S : List ℕ) (at : ℕ) (h : PageState) (near : Near h) (is : List It
       where
         off : (f : ℕ) (t : Bool) → chooses f ≡ t → 64 ≤ f → f < 120 → t ≡ false
         off f true q a b =
-            absurd (clash _ (found-some 120 (choosesHigh (stageOf (h .stage)) (charactersOf is) (fontOrNone (h .font))) f b (chooses-high (stageOf (h .stage)) (charactersOf is) (fontOrNone (h .font)) f a ∙ q)) e)
+            absurd (no-truth _ (found-some 120 (choosesHigh (stageOf (h .stage)) (charactersOf is) (fontOrNone (h .position .font))) f b (chooses-high (stageOf (h .stage)) (charactersOf is) (fontOrNone (h .position .font)) f a ∙ q)) e)
         off f false q a b = refl
 
         small : (f : ℕ) (t : Bool) → leb 120 f ≡ t → chooses f ≡ true → f < 120
-        small f true q c = absurd (clash (chooses f) c (sym (choose-big (h .font) f low high is k (stageOf (h .stage)) (leb-true 120 f q) (near .font-near))))
+        small f true q c = absurd (no-truth (chooses f) c (sym (choose-big (h .position .font) f low high is k (stageOf (h .stage)) (leb-true 120 f q) (sound .font-valid))))
         small f false q c = leb-false 120 f q
 
     module _ (n : at + 1 < length S) where

@@ -8,15 +8,17 @@ use native.Mathlib.Omega.{arith}
 use borrow.Author.Tests.{le-ltb}
 use lib.ListN.{length, getD, drop}
 use Rattle.galley_file.specs.declared.item.Item.{Item}
-use Rattle.dvi2_reading.specs.Reading as R
-use Rattle.dvi2_reading.specs.Reading.{PageCommand, ending, defining, selecting, across, downward, putting, isReady, step, inPage, between, refuse, go}
+use Rattle.galley_file.specs.Galley.{maxItems}
+use Rattle.dvi2_reading.specs.PageReading as Page
+use Rattle.dvi2_reading.specs.PageReading.{PageCommand, ending, defining, selecting, across, downward, putting, isReady}
+use Rattle.dvi2_reading.specs.Reading.{step, inPage, between, refuse, go}
 use Rattle.dvi2_state.specs.declared.page_state.PageState.{PageState}
 use Rattle.dvi2_state.specs.Page.{stageOf, pageStateOf}
 use Rattle.dvi2_moves.proofs.CommandKinds.{Kind}
 use Rattle.dvi2_moves.proofs.Pages.{eop-go, eop-bad, full-bad, other-bad}
 
 module _ (S : List ℕ) (at : ℕ) (h : PageState) (is : List Item) where
-  abbrev H : R.PageState
+  abbrev H : Page.PageState
   H = pageStateOf is h
 
   abbrev B : ℕ
@@ -31,8 +33,8 @@ module _ (S : List ℕ) (at : ℕ) (h : PageState) (is : List Item) where
   pub s-early : B ≡ 140 → isReady (stageOf (h .stage)) ≡ false → refuse ≡ step (inPage H) B P
   s-early e r = sym (eop-bad H B P e r)
 
-  pub s-full : (B ≡ 140 → ⊥) → 1048576 ≤ length is → refuse ≡ step (inPage H) B P
-  s-full e l = sym (full-bad H B P e (le-ltb (length is) 1048576 l))
+  pub s-full : (B ≡ 140 → ⊥) → maxItems ≤ length is → refuse ≡ step (inPage H) B P
+  s-full e l = sym (full-bad H B P e (le-ltb (length is) maxItems l))
 
   -- below the moves, between them, between the moves and the fonts, after fnt1
   pub s-low : (B ≡ 140 → ⊥) → (B ≡ 133 → ⊥) → B < 143 → refuse ≡ step (inPage H) B P

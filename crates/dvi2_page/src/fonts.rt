@@ -13,14 +13,14 @@ ghost use mathlib.Core.Bool.{true};
 ghost use mathlib.Core.List.{List};
 ghost use mathlib.Core.Option.{some};
 ghost use Prim.Native.Nat.{ℕ, _+_, _≤_, _<_};
-ghost use lib.ListN.{length, getD, drop};
+ghost use lib.ListN.{length, getD};
 ghost use Rattle.galley_file.specs.declared.item.Item.{Item};
 ghost use Rattle.galley_file.specs.Item.{charactersOf};
 ghost use Rattle.dvi2.specs.Writer as W;
 ghost use Rattle.dvi.specs.FontOrNone.{fontOrNone};
-ghost use Rattle.dvi2_reading.specs.Reading as R;
-ghost use Rattle.dvi2_state.specs.Page.{stageOf, pageStateOf, Near, stepOf};
-ghost use Rattle.dvi2_page.specs.Fonts.{Known, choosesHigh, isFree};
+ghost use Rattle.dvi2_reading.specs.PageReading as Page;
+ghost use Rattle.dvi2_state.specs.Page.{stageOf, SoundPage};
+ghost use Rattle.dvi2_page.specs.Fonts.{Known, StepsWith, choosesHigh, isFree};
 
 const FNTNUM0: u8 = 171;
 
@@ -29,7 +29,7 @@ const FONTS: u8 = 120;
 // Whether font f may be chosen at a stage, after the font `last`.
 fn may_choose(stage: Stage, last: u8, used: Fonts, f: u8) -> bool
     requires { ⌜ ((g : ℕ) → fontOrNone last ≡ some g → g < 120) ⌝ }
-    ensures { λ r. ⌜ ((is : List Item) → Known (used .low) (used .high) is → r ≡ R.mayChoose (stageOf stage) (charactersOf is) (fontOrNone last) f) ⌝ }
+    ensures { λ r. ⌜ ((is : List Item) → Known (used .low) (used .high) is → r ≡ Page.mayChoose (stageOf stage) (charactersOf is) (fontOrNone last) f) ⌝ }
 {
     if FONTS <= f {
         return false;
@@ -51,7 +51,7 @@ fn may_choose(stage: Stage, last: u8, used: Fonts, f: u8) -> bool
 // Whether some font from 64 on may be chosen.
 fn may_begin_font(stage: Stage, last: u8, used: Fonts) -> bool
     requires { ⌜ ((g : ℕ) → fontOrNone last ≡ some g → g < 120) ⌝ }
-    ensures { λ r. ⌜ ((is : List Item) → Known (used .low) (used .high) is → r ≡ R.someBelow 120 (choosesHigh (stageOf stage) (charactersOf is) (fontOrNone last))) ⌝ }
+    ensures { λ r. ⌜ ((is : List Item) → Known (used .low) (used .high) is → r ≡ Page.someBelow 120 (choosesHigh (stageOf stage) (charactersOf is) (fontOrNone last))) ⌝ }
 {
     let mut f: u8 = 64;
     while f < FONTS {
@@ -65,7 +65,7 @@ fn may_begin_font(stage: Stage, last: u8, used: Fonts) -> bool
 
 // Whether some font is not used.
 fn some_free(used: Fonts) -> bool
-    ensures { λ r. ⌜ ((is : List Item) → Known (used .low) (used .high) is → r ≡ R.someBelow 120 (isFree (charactersOf is))) ⌝ }
+    ensures { λ r. ⌜ ((is : List Item) → Known (used .low) (used .high) is → r ≡ Page.someBelow 120 (isFree (charactersOf is))) ⌝ }
 {
     let mut f: u8 = 0;
     while f < FONTS {
@@ -80,12 +80,12 @@ fn some_free(used: Fonts) -> bool
 
 // fnt_num_0 to fnt_num_63.
 pub fn select_low(s: &[u8], at: usize, h: PageState, used: Fonts) -> Stepped
-    requires { ⌜ ((at < length (now s)) × ((171 ≤ getD (now s) at 0) × (getD (now s) at 0 ≤ 234))) × Near h ⌝ }
-    ensures { λ r. ⌜ ((is : List Item) → length is < 1048576 → Known (used .low) (used .high) is → stepOf is h r ≡ R.step (R.inPage (pageStateOf is h)) (getD (now (s .entry)) at 0) (drop (at + 1) (now (s .entry)))) ⌝ }
+    requires { ⌜ ((at < length (now s)) × ((171 ≤ getD (now s) at 0) × (getD (now s) at 0 ≤ 234))) × SoundPage h ⌝ }
+    ensures { λ r. ⌜ StepsWith (now (s .entry)) at h used r ⌝ }
 {
     let f = s[at] - FNTNUM0;
     let stage = h.stage;
-    if may_choose(stage, h.font, used, f) {
+    if may_choose(stage, h.position.font, used, f) {
         let g = page_state::with_font(h, Stage::Chosen, f);
         return Stepped::Go(g, 0);
     }
@@ -94,11 +94,11 @@ pub fn select_low(s: &[u8], at: usize, h: PageState, used: Fonts) -> Stepped
 
 // fnt1.
 pub fn select_high(s: &[u8], at: usize, h: PageState, used: Fonts) -> Stepped
-    requires { ⌜ ((at < length (now s)) × (getD (now s) at 0 ≡ 235)) × Near h ⌝ }
-    ensures { λ r. ⌜ ((is : List Item) → length is < 1048576 → Known (used .low) (used .high) is → stepOf is h r ≡ R.step (R.inPage (pageStateOf is h)) (getD (now (s .entry)) at 0) (drop (at + 1) (now (s .entry)))) ⌝ }
+    requires { ⌜ ((at < length (now s)) × (getD (now s) at 0 ≡ 235)) × SoundPage h ⌝ }
+    ensures { λ r. ⌜ StepsWith (now (s .entry)) at h used r ⌝ }
 {
     let stage = h.stage;
-    let last = h.font;
+    let last = h.position.font;
     if s.len() - at < 2 {
         if may_begin_font(stage, last, used) {
             return Stepped::Short;
@@ -128,8 +128,8 @@ pub fn definition(f: u8) -> [u8; 20]
 
 // fnt_def1, with font f after it.
 fn define_font(s: &[u8], at: usize, h: PageState, used: Fonts, f: u8) -> Stepped
-    requires { ⌜ ((at + 1 < length (now s)) × ((getD (now s) at 0 ≡ 243) × (getD (now s) (at + 1) 0 ≡ f))) × (R.isReady (stageOf (h .stage)) ≡ true) ⌝ }
-    ensures { λ r. ⌜ ((is : List Item) → length is < 1048576 → Known (used .low) (used .high) is → stepOf is h r ≡ R.step (R.inPage (pageStateOf is h)) (getD (now (s .entry)) at 0) (drop (at + 1) (now (s .entry)))) ⌝ }
+    requires { ⌜ ((at + 1 < length (now s)) × ((getD (now s) at 0 ≡ 243) × (getD (now s) (at + 1) 0 ≡ f))) × (Page.isReady (stageOf (h .stage)) ≡ true) ⌝ }
+    ensures { λ r. ⌜ StepsWith (now (s .entry)) at h used r ⌝ }
 {
     if FONTS <= f {
         return Stepped::Bad;
@@ -149,7 +149,7 @@ fn define_font(s: &[u8], at: usize, h: PageState, used: Fonts, f: u8) -> Stepped
 // fnt_def1.
 pub fn define(s: &[u8], at: usize, h: PageState, used: Fonts) -> Stepped
     requires { ⌜ (at < length (now s)) × (getD (now s) at 0 ≡ 243) ⌝ }
-    ensures { λ r. ⌜ ((is : List Item) → length is < 1048576 → Known (used .low) (used .high) is → stepOf is h r ≡ R.step (R.inPage (pageStateOf is h)) (getD (now (s .entry)) at 0) (drop (at + 1) (now (s .entry)))) ⌝ }
+    ensures { λ r. ⌜ StepsWith (now (s .entry)) at h used r ⌝ }
 {
     let stage = h.stage;
     if page_state::is_ready(stage) {

@@ -10,11 +10,10 @@ use extents::fonts::Fonts;
 ghost use mathlib.Core.Path.{_≡_};
 ghost use mathlib.Core.List.{List};
 ghost use Prim.Native.Nat.{_+_, _≤_, _<_};
-ghost use lib.ListN.{length, getD, drop};
+ghost use lib.ListN.{length, getD};
 ghost use Rattle.galley_file.specs.declared.item.Item.{Item};
-ghost use Rattle.dvi2_reading.specs.Reading as R;
-ghost use Rattle.dvi2_state.specs.Page.{pageStateOf, Near, stepOf};
-ghost use Rattle.dvi2_page.specs.Fonts.{Known};
+ghost use Rattle.dvi2_state.specs.Page.{SoundPage, StepIs, StepsAs};
+ghost use Rattle.dvi2_page.specs.Fonts.{Known, StepsWith};
 
 pub const MAX_ITEMS: usize = 1_048_576;
 
@@ -39,8 +38,8 @@ const FNTDEF1: u8 = 243;
 
 // A command of a font.
 fn font_step(s: &[u8], at: usize, h: PageState, used: Fonts) -> Stepped
-    requires { ⌜ ((at < length (now s)) × (161 ≤ getD (now s) at 0)) × Near h ⌝ }
-    ensures { λ r. ⌜ ((is : List Item) → length is < 1048576 → Known (used .low) (used .high) is → stepOf is h r ≡ R.step (R.inPage (pageStateOf is h)) (getD (now (s .entry)) at 0) (drop (at + 1) (now (s .entry)))) ⌝ }
+    requires { ⌜ ((at < length (now s)) × (161 ≤ getD (now s) at 0)) × SoundPage h ⌝ }
+    ensures { λ r. ⌜ StepsWith (now (s .entry)) at h used r ⌝ }
 {
     let op = s[at];
     if op < FNTNUM0 {
@@ -60,8 +59,8 @@ fn font_step(s: &[u8], at: usize, h: PageState, used: Fonts) -> Stepped
 
 // A move, or put1.
 fn move_step(s: &[u8], at: usize, h: PageState) -> Stepped
-    requires { ⌜ ((at < length (now s)) × ((getD (now s) at 0 ≡ 140 → ⊥) × (getD (now s) at 0 ≤ 160))) × Near h ⌝ }
-    ensures { λ r. ⌜ ((is : List Item) → length is < 1048576 → stepOf is h r ≡ R.step (R.inPage (pageStateOf is h)) (getD (now (s .entry)) at 0) (drop (at + 1) (now (s .entry)))) ⌝ }
+    requires { ⌜ ((at < length (now s)) × ((getD (now s) at 0 ≡ 140 → ⊥) × (getD (now s) at 0 ≤ 160))) × SoundPage h ⌝ }
+    ensures { λ r. ⌜ StepsAs (now (s .entry)) at h r ⌝ }
 {
     let op = s[at];
     if op == PUT1 {
@@ -81,8 +80,8 @@ fn move_step(s: &[u8], at: usize, h: PageState) -> Stepped
 
 // The command at `at`, after `count` items with these fonts.
 pub fn step(s: &[u8], at: usize, h: PageState, count: usize, used: Fonts) -> Stepped
-    requires { ⌜ (at < length (now s)) × Near h ⌝ }
-    ensures { λ r. ⌜ ((is : List Item) → length is ≡ count → Known (used .low) (used .high) is → stepOf is h r ≡ R.step (R.inPage (pageStateOf is h)) (getD (now (s .entry)) at 0) (drop (at + 1) (now (s .entry)))) ⌝ }
+    requires { ⌜ (at < length (now s)) × SoundPage h ⌝ }
+    ensures { λ r. ⌜ ((is : List Item) → length is ≡ count → Known (used .low) (used .high) is → StepIs (now (s .entry)) at h is r) ⌝ }
 {
     let op = s[at];
     if op == EOP {

@@ -20,18 +20,18 @@ use Rattle.dvi2.specs.Writer.{firstWriting}
 use Rattle.dvi2.specs.WriterLaws.{writing-at}
 use Rattle.dvi2_reading.specs.Beginning.{Writable}
 use Rattle.dvi2_reading.specs.Reading.{inPage, newPageState, gives, bad, atEnd, readFile}
-use Rattle.dvi2_reading.specs.Reading as R
+use Rattle.dvi2_reading.specs.PageReading as Page
 use Rattle.dvi2_reading.specs.Reached.{writingOf}
 use Rattle.dvi2_reading.specs.Standing.{Standing}
 use Rattle.dvi2_reading.specs.StandingLaws.{standing-end}
 use Rattle.dvi2_state.specs.declared.page_state.PageState.{PageState}
 use Rattle.dvi2_state.specs.Page.{pageStateOf}
 use Rattle.dvi2_turn.specs.declared.tally.Tally.{Tally}
-use Rattle.dvi2_turn.specs.Tally.{TallyIs, Small}
+use Rattle.dvi2_turn.specs.Tally.{TallyIs, TallyRanged}
 use Rattle.dvi2_reader.specs.Pass.{Given}
 use Rattle.dvi2_turn.specs.Turn.{Turning}
 use Rattle.dvi2_turn.proofs.Stands.{last-valid}
-use Rattle.dvi2_turn.proofs.Tallies.{small}
+use Rattle.dvi2_turn.proofs.Tallies.{tally-ranged}
 
 pub record Going (s before : List ℕ) (at : ℕ) (h : PageState) (t : Tally) (to : ℕ) (out : List ℕ) : Type 0 where
   pub items : List Item
@@ -42,14 +42,14 @@ pub record Going (s before : List ℕ) (at : ℕ) (h : PageState) (t : Tally) (t
 pub going-start : (s before : List ℕ) (at : ℕ) (h : PageState) (t : Tally) → Standing s (inPage (newPageState [])) at → pageStateOf [] h ≡ newPageState [] → TallyIs t [] → Going s before at h t 0 before
 unfolding fields
 going-start s before at h t k e n =
-    record { items = []; standing = subst (λ (g : R.PageState). Standing s (inPage g) at) (sym e) k; tally = n; puts = putIfRoom-none before 0 }
+    record { items = []; standing = subst (λ (g : Page.PageState). Standing s (inPage g) at) (sym e) k; tally = n; puts = putIfRoom-none before 0 }
 
 module _ (s before : List ℕ) (at : ℕ) (h : PageState) (t : Tally) (to : ℕ) (out : List ℕ) (g : Going s before at h t to out) where
   writable : Writable (g .items)
   writable = g .standing .reached .writable
 
-  pub going-small : Small t
-  going-small = small t (g .items) (g .tally) writable
+  pub going-ranged : TallyRanged t
+  going-ranged = tally-ranged t (g .items) (g .tally) writable
 
   pub going-room : to < 4294967296
   going-room = omega (arith, g .puts .next-is, length-fields New (g .items), all-counted (g .items), writable .few)

@@ -3,10 +3,11 @@
 use mathlib.Core.Path.{_≡_, refl, sym, ap, subst, _∙_}
 use mathlib.Core.List.{List, _++_}
 use Prim.Native.Nat.{ℕ, _≤_, _<_}
+use native.Mathlib.Nat.{suc-ne-zero}
 use native.Mathlib.Omega.{arith}
 use borrow.Author.Tests.{lt-ltb, le-ltb}
 use lib.ListN.{length, drop}
-use Rattle.octets.specs.Answer.{accepted, refused, Gives, refusal, written, ifRoom, dviTooLong, noGalleyRoom, notOurs}
+use Rattle.octets.specs.Answer.{accepted, refused, Gives, refusal, written, ifRoom, fileTooLong, noGalleyRoom, notOurs}
 use Rattle.octets.specs.AnswerLaws.{room-short, room-enough, gives as outcome-gives}
 use Rattle.octets.specs.PutIfRoom.{PutIfRoom}
 use Rattle.octets.specs.Write.{sets-start}
@@ -24,9 +25,9 @@ items-same e = cc
 
 module _ (s : List ℕ) where
   -- 20
-  pub long-gives : (buffer : List ℕ) → maxDvi2 < length s → Gives (refused dviTooLong 0) (read2Result s) buffer buffer
+  pub long-gives : (buffer : List ℕ) → maxDvi2 < length s → Gives (refused fileTooLong 0) (read2Result s) buffer buffer
   unfolding read2Result
-  long-gives buffer l = outcome-gives {r = refusal dviTooLong 0} (rw (lt-ltb maxDvi2 (length s) l)) refl refl
+  long-gives buffer l = outcome-gives {r = refusal fileTooLong 0} (rw (lt-ltb maxDvi2 (length s) l)) refl refl
 
   module _ (l : length s ≤ maxDvi2) where
     -- 46
@@ -58,7 +59,7 @@ module _ (s : List ℕ) where
           let q : p .items ≡ g .items = items-same (sym (p .read-as) ∙ g .read-as) in
           let w : PutIfRoom buffer 0 (galley New (g .items)) later m = subst (λ (js : List Item). PutIfRoom buffer 0 (galley New js) later m) q (p .puts) in
           w .buffer-is (omega (arith, h)) ∙ sets-start buffer (galley New (g .items)) h
-      second-pass later (Fault place) p h = let z : gives (g .items) ≡ bad place = sym (g .read-as) ∙ p in let y : _≡_ {A = ℕ} 0 1 = cc in absurd (omega arith)
+      second-pass later (Fault place) p h = let z : gives (g .items) ≡ bad place = sym (g .read-as) ∙ p in absurd (suc-ne-zero 0 cc)
 
       pub whole-gives : (later : List ℕ) (r : Reading) → Passed s buffer later r → n ≤ length buffer → Gives (accepted n) (read2Result s) buffer later
       whole-gives later r p h =

@@ -104,7 +104,7 @@ pub fn read_dvi2(dvi: &[u8], galley: &mut [u8]) -> Answer
     ensures { λ r. ⌜ Gives (outcomeOf r) (read2Result (now (dvi .entry))) (now (galley .entry)) (now (galley .exit)) ⌝ }
 {
     if MAX_DVI2 < dvi.len() {
-        return Answer::Refused(answer::DVI_TOO_LONG, 0);
+        return Answer::Refused(answer::FILE_TOO_LONG, 0);
     }
     let began = expect::head(dvi);
     match began {

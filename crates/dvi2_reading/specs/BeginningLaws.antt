@@ -4,7 +4,6 @@
 -- Assumes nothing.
 use mathlib.Core.Path.{_≡_, sym, ap, subst, _∙_}
 use mathlib.Core.List.{List, [], _++_, append-assoc, append-nil}
-use mathlib.Core.Option.{none}
 use Prim.Native.Nat.{ℕ, zero, suc, _+_, _≤_, _<_}
 use native.Mathlib.Omega.{arith}
 use lib.ListN.{length, take, drop, take-append-drop}
@@ -12,7 +11,6 @@ use lib.Seq.{drop-cons, take-all, take-take}
 use Rattle.octets.specs.OctetsLaws.{by-test}
 use Rattle.galley_file.specs.declared.item.Item.{Item}
 use Rattle.dvi2_reading.specs.Beginning.{Made, Begins, commandSize, CommandAt, first, next, Refused, badCommand, endsEarly}
-use Rattle.dvi2_reading.specs.Reading.{start}
 
 -- ---- beginnings
 

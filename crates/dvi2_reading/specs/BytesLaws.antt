@@ -4,13 +4,14 @@ use mathlib.Core.Path.{_≡_, refl, sym, ap, subst, _∙_}
 use mathlib.Core.Bool.{Bool, true, false, _&&_, _||_}
 use mathlib.Core.List.{List, [], _∷_, _++_}
 use Prim.Native.Nat.{ℕ, zero, suc, _+_, _≤_, _<_}
+use native.Mathlib.Nat.{suc-ne-zero}
 use native.Mathlib.Omega.{arith}
 use borrow.Author.Tests.{eq-eqb, eqb-true, eqb-false}
 use lib.Dec.{eqb}
 use lib.ListN.{length, take, drop}
 use lib.Seq.{take-at, drop-at}
 use Rattle.octets.specs.FieldLaws.{both}
-use Rattle.dvi2_reading.specs.Reading.{same, begins, someBelow}
+use Rattle.dvi2_reading.specs.PageReading.{same, begins, someBelow}
 
 pub both-true : (t u : Bool) → t ≡ true → u ≡ true → (t && u) ≡ true
 both-true t u p q = rw (p, q)
@@ -29,8 +30,8 @@ right-true false u p = p
 pub same-is : (xs ys : List ℕ) → same xs ys ≡ true → xs ≡ ys
 unfolding same
 same-is [] [] e = refl
-same-is [] (y ∷ ys) e = let z : _≡_ {A = ℕ} 0 1 = cc in absurd (omega arith)
-same-is (x ∷ xs) [] e = let z : _≡_ {A = ℕ} 0 1 = cc in absurd (omega arith)
+same-is [] (y ∷ ys) e = absurd (suc-ne-zero 0 cc)
+same-is (x ∷ xs) [] e = absurd (suc-ne-zero 0 cc)
 same-is (x ∷ xs) (y ∷ ys) e =
     let b = both (eqb x y) (same xs ys) e in
     (λ i. eqb-true x y (b .0) i ∷ same-is xs ys (b .1) i)
@@ -47,7 +48,7 @@ pub record Longer (xs ys : List ℕ) : Type 0 where
 pub begins-is : (xs ys : List ℕ) → begins xs ys ≡ true → Longer xs ys
 unfolding begins
 begins-is [] ys e = record { more = ys; whole-is = refl }
-begins-is (x ∷ xs) [] e = let z : _≡_ {A = ℕ} 0 1 = cc in absurd (omega arith)
+begins-is (x ∷ xs) [] e = absurd (suc-ne-zero 0 cc)
 begins-is (x ∷ xs) (y ∷ ys) e =
     let b = both (eqb x y) (begins xs ys) e in
     let l = begins-is xs ys (b .1) in
@@ -68,7 +69,7 @@ pub record Below (n : ℕ) (p : ℕ → Bool) : Type 0 where
 
 pub some-found : (n : ℕ) (p : ℕ → Bool) → someBelow n p ≡ true → Below n p
 unfolding someBelow
-some-found zero p e = let z : _≡_ {A = ℕ} 0 1 = cc in absurd (omega arith)
+some-found zero p e = absurd (suc-ne-zero 0 cc)
 some-found (suc n) p e =
     either (p n) (someBelow n p) e (Below (suc n) p)
     (λ h. record { found = n; is-below = omega arith; holds = h })

@@ -1,19 +1,23 @@
 -- The commands of a character are a way inside a page.
+--     character-path     from any page so reached to the page after the character
 -- Assumes nothing.
 use mathlib.Core.Path.{_≡_, refl, sym, ap, subst, _∙_}
 use mathlib.Core.Bool.{Bool, true, false, not, cond, _&&_}
 use mathlib.Core.List.{List, [], _∷_, _++_}
 use mathlib.Core.Option.{Option, none, some}
 use Prim.Native.Nat.{ℕ, suc, _+_, _-_, _*_, _%_, _≤_, _<_}
+use native.Mathlib.Nat.{suc-ne-zero}
 use native.Mathlib.Omega.{arith}
 use borrow.Author.Tests.{lt-ltb, le-leb, leb-true, eqb-true, eq-eqb}
 use lib.Dec.{ltb, leb, eqb}
 use lib.IntN.{ℤ, pos, negsuc, _+ℤ_, _-ℤ_, _*ℤ_}
 use lib.ListN.{length}
 use lib.Signed.{mag, leZ}
-use Rattle.integers.specs.Parts.{integers, up, dn, sum-parts, dif-parts, eqZ, eqZ-true}
+use Rattle.integers.specs.Parts.{integers, up, dn, dif-parts}
+use Rattle.integers.specs.Equality.{eqZ, eqZ-true}
 use Rattle.octets.specs.FieldLaws.{both}
 use Rattle.measure.specs.Place.{heightEnd}
+use Rattle.measure.specs.TargetLaws.{move-ends}
 use Rattle.galley_file.specs.Font.{sizeIndex, isDouble}
 use Rattle.galley_file.specs.declared.character.Character.{Character}
 use Rattle.galley_file.specs.declared.item.Item.{Item}
@@ -26,7 +30,8 @@ use Rattle.extents.specs.FontMarks.{uses}
 use Rattle.dvi.specs.Writer.{Position}
 use Rattle.dvi2.specs.Command.{PUT1, RIGHT1, DOWN1}
 use Rattle.dvi2.specs.Writer.{hOf, vOf, positionAt, selects, definition, fontCommands, fontChange, shortest, move, commandsOf}
-use Rattle.dvi2_reading.specs.Reading.{defining, selecting, across, downward, putting, inBytes, Stage, ready, named, chosen, moved, lowered, PageState, beforeRight, beforeDown, beforePut, isMore, isFont, validIn, isDown, mayCome, inPage, heightOf, characterOf, withFont, pageStateAfter}
+use Rattle.dvi2_reading.specs.PageReading.{defining, selecting, across, downward, putting, inBytes, Stage, ready, named, chosen, moved, lowered, PageState, beforeRight, beforeDown, beforePut, isMore, isFont, validIn, isDown, mayCome, lowest}
+use Rattle.dvi2_reading.specs.Reading.{inPage, heightOf, characterOf, withFont, pageStateAfter}
 use Rattle.dvi2_reading.specs.BytesLaws.{both-true}
 use Rattle.dvi2_reading.specs.SizeLaws.{put-command, definition-command, selects-command, right-command, down-command}
 use Rattle.dvi2_reading.specs.CommandLaws.{page-next}
@@ -46,23 +51,20 @@ mag-dif a b h k = go (a -ℤ b) (dif-parts a b)
     go (pos n) e = omega (arith, up-mag a, up-mag b)
     go (negsuc n) e = omega (arith, up-mag a, up-mag b)
 
-pub back-and-there : (a b : ℤ) → a +ℤ (b -ℤ a) ≡ b
-back-and-there a b = omega (integers, dif-parts b a, sum-parts a (b -ℤ a))
-
 none-moved : (a b : ℤ) → b -ℤ a ≡ pos 0 → a ≡ b
 none-moved a b e = omega (integers, dif-parts b a)
 
 pub down-mag : (y : ℤ) → isDown y ≡ true → mag y < 4000000
 unfolding isDown
-down-mag (pos n) e = let b = both (eqb (n % 3) 0) (leb n 3000000) e in let l = leb-true n 3000000 (b .1) in omega arith
-down-mag (negsuc n) e = let z : _≡_ {A = ℕ} 0 1 = cc in absurd (omega arith)
+down-mag (pos n) e = let b = both (eqb (n % 3) 0) (leb n lowest) e in let l = leb-true n lowest (b .1) in omega arith
+down-mag (negsuc n) e = absurd (suc-ne-zero 0 cc)
 
 thrice-down : (h : ℤ) → leZ (pos 0) h ≡ true → leZ h heightEnd ≡ true → (isDown (pos 3 *ℤ h) ≡ true) × (heightOf (pos 3 *ℤ h) ≡ h)
 unfolding isDown heightOf
 thrice-down (pos n) l u =
     let k = leb-true n 1000000 u in
-    (both-true (eqb (3 * n % 3) 0) (leb (3 * n) 3000000) (eq-eqb (3 * n % 3) 0 (omega arith)) (le-leb (3 * n) 3000000 (omega arith)), ap pos (omega arith))
-thrice-down (negsuc n) l u = let z : _≡_ {A = ℕ} 0 1 = cc in absurd (omega arith)
+    (both-true (eqb (3 * n % 3) 0) (leb (3 * n) lowest) (eq-eqb (3 * n % 3) 0 (omega arith)) (le-leb (3 * n) lowest (omega arith)), ap pos (omega arith))
+thrice-down (negsuc n) l u = absurd (suc-ne-zero 0 cc)
 
 not-so : (t : Bool) → t ≡ false → not t ≡ true
 not-so t e = rw e
@@ -137,17 +139,57 @@ module _ (is : List Item) (l : length is < maxItems) where
               }
           by-font false q = other (some g) e q (rw q)
 
-  -- to the place across
-  record Righted (s : Stage) (f : ℕ) (x y to : ℤ) : Type 0 where
-    pub at-stage : Stage
-    pub before : beforeDown at-stage ≡ true
-    pub path :
-        Path (inPage (midpage s (record { font = some f; x = x; y = y }))) (move RIGHT1 (to -ℤ x))
-        (inPage (midpage at-stage (record { font = some f; x = to; y = y })))
+  -- ---- a move, right or down
 
-  right-path : (s : Stage) (f : ℕ) (x y to : ℤ) → beforeRight s ≡ true → mag x < 4000 → validX (isDouble (sizeIndex f)) to ≡ true → Righted s f x y to
+  -- from one place to another, to a stage that may go on
+  record Moves (op : ℕ) (s : Stage) (goesOn : Stage → Bool) (at : ℤ → Position) (from to : ℤ) : Type 0 where
+    pub at-stage : Stage
+    pub before : goesOn at-stage ≡ true
+    pub path : Path (inPage (midpage s (at from))) (move op (to -ℤ from)) (inPage (midpage at-stage (at to)))
+
+  -- no command where the place stays; else one, to the stage after it
+  move-path : (op : ℕ) (s after : Stage) (goesOn : Stage → Bool) (at : ℤ → Position) (from to : ℤ) → goesOn s ≡ true → goesOn after ≡ true
+      → (eqZ (to -ℤ from) (pos 0) ≡ false → Path (inPage (midpage s (at from))) (shortest op (to -ℤ from)) (inPage (midpage after (at (from +ℤ (to -ℤ from))))))
+      → Moves op s goesOn at from to
+  move-path op s after goesOn at from to g h one = go (eqZ (to -ℤ from) (pos 0)) refl
+    where
+      m : ℤ
+      m = to -ℤ from
+
+      go : (t : Bool) → eqZ m (pos 0) ≡ t → Moves op s goesOn at from to
+      go true q =
+          let z = eqZ-true m (pos 0) q in
+          record {
+            at-stage = s;
+            before = g;
+            path =
+                subst (λ (w : List ℕ). Path (inPage (midpage s (at from))) w (inPage (midpage s (at to)))) (sym (move-none op m z))
+                (subst (λ (a : ℤ). Path (inPage (midpage s (at from))) [] (inPage (midpage s (at a)))) (none-moved from to z) stop);
+          }
+      go false q =
+          record {
+            at-stage = after;
+            before = h;
+            path =
+                subst (λ (w : List ℕ). Path (inPage (midpage s (at from))) w (inPage (midpage after (at to)))) (sym (move-some op m q))
+                (subst (λ (a : ℤ). Path (inPage (midpage s (at from))) (shortest op m) (inPage (midpage after (at a)))) (move-ends from to) (one q));
+          }
+
+  right-path : (s : Stage) (f : ℕ) (x y to : ℤ) → beforeRight s ≡ true → mag x < 4000 → validX (isDouble (sizeIndex f)) to ≡ true
+      → Moves RIGHT1 s beforeDown (λ a. record { font = some f; x = a; y = y }) x to
   unfolding mayCome pageStateAfter inBytes
-  right-path s f x y to b k v = go (eqZ (to -ℤ x) (pos 0)) refl
+  right-path s f x y to b k v =
+      move-path RIGHT1 s moved beforeDown (λ a. record { font = some f; x = a; y = y }) x to (before-down s b) refl
+      (λ q.
+      let m = to -ℤ x in
+      let a : validIn (some f) (x +ℤ m) ≡ true = subst (λ (z : ℤ). validX (isDouble (sizeIndex f)) z ≡ true) (sym (move-ends x to)) v in
+      path-one
+      (page-next (midpage s (record { font = some f; x = x; y = y })) (across m)
+      (let g = x-mag (isDouble (sizeIndex f)) to v in mag-dif to x (omega arith) (omega arith))
+      (both-true (isMore is) (beforeRight s && (not (eqZ m (pos 0)) && validIn (some f) (x +ℤ m))) is-more
+      (both-true (beforeRight s) (not (eqZ m (pos 0)) && validIn (some f) (x +ℤ m)) b
+      (both-true (not (eqZ m (pos 0))) (validIn (some f) (x +ℤ m)) (not-so (eqZ m (pos 0)) q) a))))
+      (right-command m))
     where
       before-down : (s : Stage) → beforeRight s ≡ true → beforeDown s ≡ true
       before-down ready e = e
@@ -156,49 +198,21 @@ module _ (is : List Item) (l : length is < maxItems) where
       before-down moved e = refl
       before-down lowered e = e
 
-      go : (t : Bool) → eqZ (to -ℤ x) (pos 0) ≡ t → Righted s f x y to
-      go true q =
-          let z = eqZ-true (to -ℤ x) (pos 0) q in
-          record {
-            at-stage = s;
-            before = before-down s b;
-            path =
-                subst (λ (w : List ℕ). Path (inPage (midpage s (record { font = some f; x = x; y = y }))) w (inPage (midpage s (record { font = some f; x = to; y = y }))))
-                (sym (move-none RIGHT1 (to -ℤ x) z))
-                (subst (λ (a : ℤ). Path (inPage (midpage s (record { font = some f; x = x; y = y }))) [] (inPage (midpage s (record { font = some f; x = a; y = y }))))
-                (none-moved x to z) stop);
-          }
-      go false q =
-          let m = to -ℤ x in
-          let r = back-and-there x to in
-          let a : validIn (some f) (x +ℤ m) ≡ true = subst (λ (z : ℤ). validX (isDouble (sizeIndex f)) z ≡ true) (sym r) v in
-          record {
-            at-stage = moved;
-            before = refl;
-            path =
-                subst (λ (w : List ℕ). Path (inPage (midpage s (record { font = some f; x = x; y = y }))) w (inPage (midpage moved (record { font = some f; x = to; y = y }))))
-                (sym (move-some RIGHT1 m q))
-                (subst (λ (z : ℤ). Path (inPage (midpage s (record { font = some f; x = x; y = y }))) (shortest RIGHT1 m) (inPage (midpage moved (record { font = some f; x = z; y = y })))) r
-                (path-one
-                (page-next (midpage s (record { font = some f; x = x; y = y })) (across m)
-                (let g = x-mag (isDouble (sizeIndex f)) to v in mag-dif to x (omega arith) (omega arith))
-                (both-true (isMore is) (beforeRight s && (not (eqZ m (pos 0)) && validIn (some f) (x +ℤ m))) is-more
-                (both-true (beforeRight s) (not (eqZ m (pos 0)) && validIn (some f) (x +ℤ m)) b
-                (both-true (not (eqZ m (pos 0))) (validIn (some f) (x +ℤ m)) (not-so (eqZ m (pos 0)) q) a))))
-                (right-command m)));
-          }
-
-  -- to the place down
-  record Lowered (s : Stage) (f : ℕ) (x y to : ℤ) : Type 0 where
-    pub at-stage : Stage
-    pub before : beforePut at-stage ≡ true
-    pub path :
-        Path (inPage (midpage s (record { font = some f; x = x; y = y }))) (move DOWN1 (to -ℤ y))
-        (inPage (midpage at-stage (record { font = some f; x = x; y = to })))
-
-  down-path : (s : Stage) (f : ℕ) (x y to : ℤ) → beforeDown s ≡ true → isDown y ≡ true → validX (isDouble (sizeIndex f)) x ≡ true → isDown to ≡ true → Lowered s f x y to
+  down-path : (s : Stage) (f : ℕ) (x y to : ℤ) → beforeDown s ≡ true → isDown y ≡ true → validX (isDouble (sizeIndex f)) x ≡ true → isDown to ≡ true
+      → Moves DOWN1 s beforePut (λ a. record { font = some f; x = x; y = a }) y to
   unfolding mayCome pageStateAfter inBytes
-  down-path s f x y to b k v d = go (eqZ (to -ℤ y) (pos 0)) refl
+  down-path s f x y to b k v d =
+      move-path DOWN1 s lowered beforePut (λ a. record { font = some f; x = x; y = a }) y to (before-put s b) refl
+      (λ q.
+      let m = to -ℤ y in
+      let a : isDown (y +ℤ m) ≡ true = subst (λ (z : ℤ). isDown z ≡ true) (sym (move-ends y to)) d in
+      path-one
+      (page-next (midpage s (record { font = some f; x = x; y = y })) (downward m) (mag-dif to y (down-mag to d) (down-mag y k))
+      (both-true (isMore is) (beforeDown s && (not (eqZ m (pos 0)) && (validIn (some f) x && isDown (y +ℤ m)))) is-more
+      (both-true (beforeDown s) (not (eqZ m (pos 0)) && (validIn (some f) x && isDown (y +ℤ m))) b
+      (both-true (not (eqZ m (pos 0))) (validIn (some f) x && isDown (y +ℤ m)) (not-so (eqZ m (pos 0)) q)
+      (both-true (validIn (some f) x) (isDown (y +ℤ m)) v a)))))
+      (down-command m))
     where
       before-put : (s : Stage) → beforeDown s ≡ true → beforePut s ≡ true
       before-put ready e = e
@@ -206,38 +220,6 @@ module _ (is : List Item) (l : length is < maxItems) where
       before-put chosen e = e
       before-put moved e = e
       before-put lowered e = refl
-
-      go : (t : Bool) → eqZ (to -ℤ y) (pos 0) ≡ t → Lowered s f x y to
-      go true q =
-          let z = eqZ-true (to -ℤ y) (pos 0) q in
-          record {
-            at-stage = s;
-            before = before-put s b;
-            path =
-                subst (λ (w : List ℕ). Path (inPage (midpage s (record { font = some f; x = x; y = y }))) w (inPage (midpage s (record { font = some f; x = x; y = to }))))
-                (sym (move-none DOWN1 (to -ℤ y) z))
-                (subst (λ (a : ℤ). Path (inPage (midpage s (record { font = some f; x = x; y = y }))) [] (inPage (midpage s (record { font = some f; x = x; y = a }))))
-                (none-moved y to z) stop);
-          }
-      go false q =
-          let m = to -ℤ y in
-          let r = back-and-there y to in
-          let a : isDown (y +ℤ m) ≡ true = subst (λ (z : ℤ). isDown z ≡ true) (sym r) d in
-          record {
-            at-stage = lowered;
-            before = refl;
-            path =
-                subst (λ (w : List ℕ). Path (inPage (midpage s (record { font = some f; x = x; y = y }))) w (inPage (midpage lowered (record { font = some f; x = x; y = to }))))
-                (sym (move-some DOWN1 m q))
-                (subst (λ (z : ℤ). Path (inPage (midpage s (record { font = some f; x = x; y = y }))) (shortest DOWN1 m) (inPage (midpage lowered (record { font = some f; x = x; y = z })))) r
-                (path-one
-                (page-next (midpage s (record { font = some f; x = x; y = y })) (downward m) (mag-dif to y (down-mag to d) (down-mag y k))
-                (both-true (isMore is) (beforeDown s && (not (eqZ m (pos 0)) && (validIn (some f) x && isDown (y +ℤ m)))) is-more
-                (both-true (beforeDown s) (not (eqZ m (pos 0)) && (validIn (some f) x && isDown (y +ℤ m))) b
-                (both-true (not (eqZ m (pos 0))) (validIn (some f) x && isDown (y +ℤ m)) (not-so (eqZ m (pos 0)) q)
-                (both-true (validIn (some f) x) (isDown (y +ℤ m)) v a)))))
-                (down-command m)));
-          }
 
   put-path : (s : Stage) (c : Character) → beforePut s ≡ true → Valid heightEnd c → heightOf (vOf c) ≡ c .height .0
       → Path (inPage (midpage s (positionAt c))) (PUT1 ∷ c .code ∷ []) (inPage (record { items = is ++ (Placed c ∷ []); stage = ready; position = positionAt c }))

@@ -1,4 +1,5 @@
 -- The commands inside a page: bytes and back; and what `next` says of a command.
+--     MoveFits             the number of a move fits four bytes
 --     commandOf-inBytes    the bytes of a command are read as it
 --     page-next            a command that may come leads on
 --     next-page            a command that leads on is one that may come
@@ -8,6 +9,7 @@ use mathlib.Core.Bool.{Bool, true, false, cond, _&&_}
 use mathlib.Core.List.{List, [], _∷_}
 use mathlib.Core.Option.{none, some}
 use Prim.Native.Nat.{ℕ, zero, suc, _+_, _-_, _≤_, _<_}
+use native.Mathlib.Nat.{suc-ne-zero}
 use native.Mathlib.Omega.{arith}
 use borrow.Author.Tests.{ltb-true, le-leb, ne-eqb}
 use lib.Dec.{ltb, leb, eqb}
@@ -16,20 +18,21 @@ use Rattle.octets.specs.Octets.{signed, signedBytes}
 use Rattle.octets.specs.OctetsLaws.{by-cond, signed-signedBytes}
 use Rattle.octets.specs.FieldLaws.{both}
 use Rattle.dvi2.specs.Command.{PUT1, EOP, RIGHT1, DOWN1, FNTNUM0, FNT1, FNTDEF1}
-use Rattle.dvi2.specs.Writer.{widthOf, selects, definition, shortest}
-use Rattle.dvi2.specs.WriterLaws.{widthOf-range, widthOf-holds}
-use Rattle.dvi2_reading.specs.Reading.{same, PageCommand, ending, defining, selecting, across, downward, putting, inBytes, commandOf, PageState, mayCome, State, inPage, pageStateAfter, pageNext, only, next}
+use Rattle.dvi2.specs.Writer.{parameterWidth, selects, definition, shortest}
+use Rattle.dvi2.specs.WriterLaws.{parameterWidth-range, parameterWidth-holds}
+use Rattle.dvi2_reading.specs.PageReading.{same, PageCommand, ending, defining, selecting, across, downward, putting, inBytes, commandOf, PageState, mayCome}
+use Rattle.dvi2_reading.specs.Reading.{State, inPage, pageStateAfter, pageNext, only, next}
 use Rattle.dvi2_reading.specs.BytesLaws.{same-is, same-self}
 use Rattle.dvi2_reading.specs.SizeLaws.{Command, eop-command, put-command, definition-command, selects-command, right-command, down-command}
 
--- a move of less than 31 bits
-abbrev pub Small : PageCommand → Type 0
-Small ending = Unit {0}
-Small (defining f) = Unit {0}
-Small (selecting f) = Unit {0}
-Small (across m) = mag m < 2147483648
-Small (downward m) = mag m < 2147483648
-Small (putting c) = Unit {0}
+-- the number of a move fits four bytes
+abbrev pub MoveFits : PageCommand → Type 0
+MoveFits ending = Unit {0}
+MoveFits (defining f) = Unit {0}
+MoveFits (selecting f) = Unit {0}
+MoveFits (across m) = mag m < 2147483648
+MoveFits (downward m) = mag m < 2147483648
+MoveFits (putting c) = Unit {0}
 
 select-of : (f : ℕ) → commandOf (selects f) ≡ selecting f
 unfolding selects commandOf
@@ -58,21 +61,21 @@ of-width op (suc (suc (suc zero))) bs d a b c e l h = c
 of-width op (suc (suc (suc (suc zero)))) bs d a b c e l h = e
 of-width op (suc (suc (suc (suc (suc k))))) bs d a b c e l h = absurd (omega arith)
 
-pub commandOf-inBytes : (d : PageCommand) → Small d → commandOf (inBytes d) ≡ d
+pub commandOf-inBytes : (d : PageCommand) → MoveFits d → commandOf (inBytes d) ≡ d
 unfolding inBytes commandOf definition shortest
 commandOf-inBytes ending s = refl
 commandOf-inBytes (defining f) s = refl
 commandOf-inBytes (selecting f) s = select-of f
 commandOf-inBytes (across m) s =
-    let r = widthOf-range m in
-    let bs = signedBytes (widthOf m) m in
-    of-width RIGHT1 (widthOf m) bs (across (signed bs)) refl refl refl refl (r .0) (r .1)
-    ∙ ap across (signed-signedBytes (widthOf m) m (widthOf-holds m s))
+    let r = parameterWidth-range m in
+    let bs = signedBytes (parameterWidth m) m in
+    of-width RIGHT1 (parameterWidth m) bs (across (signed bs)) refl refl refl refl (r .0) (r .1)
+    ∙ ap across (signed-signedBytes (parameterWidth m) m (parameterWidth-holds m s))
 commandOf-inBytes (downward m) s =
-    let r = widthOf-range m in
-    let bs = signedBytes (widthOf m) m in
-    of-width DOWN1 (widthOf m) bs (downward (signed bs)) refl refl refl refl (r .0) (r .1)
-    ∙ ap downward (signed-signedBytes (widthOf m) m (widthOf-holds m s))
+    let r = parameterWidth-range m in
+    let bs = signedBytes (parameterWidth m) m in
+    of-width DOWN1 (parameterWidth m) bs (downward (signed bs)) refl refl refl refl (r .0) (r .1)
+    ∙ ap downward (signed-signedBytes (parameterWidth m) m (parameterWidth-holds m s))
 commandOf-inBytes (putting c) s = refl
 
 pub inBytes-command : (d : PageCommand) → Command (inBytes d)
@@ -86,7 +89,7 @@ inBytes-command (putting c) = put-command c
 
 -- ---- what leads on
 
-pub page-next : (h : PageState) (d : PageCommand) → Small d → mayCome h d ≡ true → next (inPage h) (inBytes d) ≡ some (pageStateAfter h d)
+pub page-next : (h : PageState) (d : PageCommand) → MoveFits d → mayCome h d ≡ true → next (inPage h) (inBytes d) ≡ some (pageStateAfter h d)
 unfolding next pageNext
 page-next h d s m =
     ap (pageNext h (inBytes d)) (commandOf-inBytes d s) ∙ rw (same-self (inBytes d), m)
@@ -94,7 +97,7 @@ page-next h d s m =
 -- an option that is there
 pub only-some : (t : Bool) (q r : State) → cond t (some q) none ≡ some r → (t ≡ true) × (q ≡ r)
 only-some true q r e = (refl, cc)
-only-some false q r e = let z : _≡_ {A = ℕ} 0 1 = cc in absurd (omega arith)
+only-some false q r e = absurd (suc-ne-zero 0 cc)
 
 pub record Came (h : PageState) (c : List ℕ) (r : State) : Type 0 where
   pub which : PageCommand

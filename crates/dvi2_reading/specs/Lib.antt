@@ -1,5 +1,6 @@
 -- The files of the second edition, read back: where a file is refused, how it is read, and that the two agree.
 pub mod Beginning
+pub mod PageReading
 pub mod Reading
 pub mod BytesLaws
 pub mod SizeLaws
@@ -7,6 +8,8 @@ pub mod CommandLaws
 pub mod Reached
 pub mod PieceLaws
 pub mod WayLaws
+pub mod PageFontLaws
+pub mod PageMoveLaws
 pub mod PageLaws
 pub mod LiveLaws
 pub mod StateLaws

@@ -4,7 +4,6 @@
 use mathlib.Core.Path.{_≡_, refl, sym, ap, _∙_}
 use mathlib.Core.Bool.{true}
 use mathlib.Core.List.{List, [], _∷_, _++_, append-assoc, append-nil}
-use mathlib.Core.Option.{some}
 use Prim.Native.Nat.{ℕ, _+_, _-_, _<_}
 use native.Mathlib.Omega.{arith}
 use lib.IntN.{ℤ, pos, _-ℤ_}
@@ -21,7 +20,8 @@ use Rattle.extents.specs.FontMarks.{uses}
 use Rattle.dvi2.specs.Command.{PUT1, EOP, RIGHT1, DOWN1}
 use Rattle.dvi2.specs.Writer.{hOf, vOf, selects, fontChange, move, commandsOf, Writing, itemBytes, dvi2File}
 use Rattle.dvi2_reading.specs.Beginning.{Writable, Begins}
-use Rattle.dvi2_reading.specs.Reading.{across, Stage, ready, named, chosen, moved, lowered, PageState, isDown, heightOf}
+use Rattle.dvi2_reading.specs.PageReading.{across, Stage, ready, named, chosen, moved, lowered, PageState, isDown}
+use Rattle.dvi2_reading.specs.Reading.{heightOf}
 use Rattle.dvi2_reading.specs.Reached.{writingOf, openBytes, Way, Staged, PageReached}
 use Rattle.dvi2_reading.specs.PieceLaws.{writable-more, open-more, closeBytes, file-open, thrice, height-valid, zero-valid}
 use Rattle.dvi2_reading.specs.WayLaws.{way-here, way-put}

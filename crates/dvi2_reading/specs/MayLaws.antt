@@ -7,14 +7,17 @@ use mathlib.Core.Bool.{Bool, true, false, not, _&&_, _||_}
 use mathlib.Core.List.{List, [], _∷_, _++_}
 use mathlib.Core.Option.{some}
 use Prim.Native.Nat.{ℕ, _+_, _-_, _*_, _/_, _%_, _<_}
+use native.Mathlib.Nat.{suc-ne-zero}
 use native.Mathlib.Omega.{arith}
 use borrow.Author.Tests.{lt-ltb, ltb-true, leb-true, eqb-true}
 use lib.Dec.{ltb, leb, eqb}
 use lib.IntN.{ℤ, pos, negsuc, _+ℤ_, _-ℤ_}
 use lib.ListN.{length}
 use lib.Signed.{mag, leZ}
-use Rattle.integers.specs.Parts.{integers, up, dn, dif-parts, eqZ}
+use Rattle.integers.specs.Parts.{integers, up, dn, dif-parts}
+use Rattle.integers.specs.Equality.{eqZ}
 use Rattle.octets.specs.FieldLaws.{both}
+use Rattle.measure.specs.Target.{entryX}
 use Rattle.galley_file.specs.Font.{sizeIndex, isDouble}
 use Rattle.galley_file.specs.declared.item.Item.the-variants.{Cut}
 use Rattle.galley_file.specs.Character.{validX}
@@ -23,11 +26,12 @@ use Rattle.galley_file.specs.Galley.{maxItems}
 use Rattle.extents.specs.FontMarks.{uses}
 use Rattle.dvi2.specs.Command.{PUT1}
 use Rattle.dvi2.specs.Writer.{preambleBytes}
-use Rattle.dvi2_reading.specs.Reading.{begins, someBelow, PageCommand, ending, defining, selecting, across, downward, putting, inBytes, PageState, isReady, beforeRight, beforeDown, beforePut, isMore, validIn, isDown, mayCome, State, start, opened, inPage, between, closing, withFont, pageStateAfter, newPageState, firstBop, furtherBop, postOf, closingOf, next, mayBeginAs, mayBeginIn, mayBegin}
+use Rattle.dvi2_reading.specs.PageReading.{begins, someBelow, PageCommand, ending, defining, selecting, across, downward, putting, inBytes, PageState, isReady, beforeRight, beforeDown, beforePut, isMore, validIn, isDown, mayCome, lowest}
+use Rattle.dvi2_reading.specs.Reading.{State, start, opened, inPage, between, closing, withFont, pageStateAfter, newPageState, firstBop, furtherBop, postOf, closingOf, next, mayBeginAs, mayBeginIn, mayBegin, places, heights}
 use Rattle.dvi2_reading.specs.BytesLaws.{both-true, either, left-true, right-true, Longer, begins-is, is-begins, some-found, found-some}
-use Rattle.dvi2_reading.specs.CommandLaws.{Small, page-next, next-page, only-is, is-only}
+use Rattle.dvi2_reading.specs.CommandLaws.{MoveFits, page-next, next-page, only-is, is-only}
 use Rattle.dvi2_reading.specs.Reached.{writingOf, PageReached, Reached}
-use Rattle.dvi2_reading.specs.PieceLaws.{there-and-back}
+use Rattle.dvi2_reading.specs.PieceLaws.{there-and-back, between-mag}
 use Rattle.dvi2_reading.specs.WayLaws.{font-there}
 use Rattle.dvi2_reading.specs.PageLaws.{page-reached}
 use Rattle.dvi2_reading.specs.StateLaws.{Onward, to-post, to-page, onward}
@@ -44,8 +48,8 @@ pub record Leads (q : State) (s : List ℕ) : Type 0 where
 -- a place across, counted from -55
 pub record Counted (z : ℤ) : Type 0 where
   pub count : ℕ
-  pub is-below : count < 3295
-  pub place-is : pos count -ℤ pos 55 ≡ z
+  pub is-below : count < places
+  pub place-is : entryX count ≡ z
 
 pub counted : (d : Bool) (z : ℤ) → validX d z ≡ true → Counted z
 counted true (pos n) e =
@@ -60,21 +64,21 @@ counted false (pos n) e =
     let b = both (leZ (pos 0) (pos n)) (leZ (pos n) (pos 3239)) e in
     let l = leb-true n 3239 (b .1) in
     record { count = n + 55; is-below = omega arith; place-is = omega (integers, dif-parts (pos (n + 55)) (pos 55)) }
-counted false (negsuc n) e = let z : _≡_ {A = ℕ} 0 1 = cc in absurd (omega arith)
+counted false (negsuc n) e = absurd (suc-ne-zero 0 cc)
 
 pub record Lowered (z : ℤ) : Type 0 where
   pub count : ℕ
-  pub is-below : count < 1000001
+  pub is-below : count < heights
   pub place-is : pos (3 * count) ≡ z
 
 pub down-counted : (z : ℤ) → isDown z ≡ true → Lowered z
 unfolding isDown
 down-counted (pos n) e =
-    let b = both (eqb (n % 3) 0) (leb n 3000000) e in
-    let l = leb-true n 3000000 (b .1) in
+    let b = both (eqb (n % 3) 0) (leb n lowest) e in
+    let l = leb-true n lowest (b .1) in
     let m = eqb-true (n % 3) 0 (b .0) in
     record { count = n / 3; is-below = omega arith; place-is = ap pos (omega arith) }
-down-counted (negsuc n) e = let z : _≡_ {A = ℕ} 0 1 = cc in absurd (omega arith)
+down-counted (negsuc n) e = absurd (suc-ne-zero 0 cc)
 
 -- ---- inside a page
 
@@ -90,44 +94,44 @@ module _ (h : PageState) (s : List ℕ) where
       right-true (someBelow 120 (λ f. mayBeginAs h s (defining f))) _
       (left-true (someBelow 120 (λ f. mayBeginAs h s (selecting f))) _ (found-some 120 (λ f. mayBeginAs h s (selecting f)) f l e))
 
-  pub way₃ : (n : ℕ) → n < 3295 → mayBeginAs h s (across ((pos n -ℤ pos 55) -ℤ h .position .x)) ≡ true → mayBeginIn h s ≡ true
+  pub way₃ : (n : ℕ) → n < places → mayBeginAs h s (across (entryX n -ℤ h .position .x)) ≡ true → mayBeginIn h s ≡ true
   unfolding mayBeginIn
   way₃ n l e =
       right-true (someBelow 120 (λ f. mayBeginAs h s (defining f))) _
       (right-true (someBelow 120 (λ f. mayBeginAs h s (selecting f))) _
-      (left-true (someBelow 3295 (λ n. mayBeginAs h s (across ((pos n -ℤ pos 55) -ℤ h .position .x)))) _
-      (found-some 3295 (λ n. mayBeginAs h s (across ((pos n -ℤ pos 55) -ℤ h .position .x))) n l e)))
+      (left-true (someBelow places (λ n. mayBeginAs h s (across (entryX n -ℤ h .position .x)))) _
+      (found-some places (λ n. mayBeginAs h s (across (entryX n -ℤ h .position .x))) n l e)))
 
-  pub way₄ : (n : ℕ) → n < 1000001 → mayBeginAs h s (downward (pos (3 * n) -ℤ h .position .y)) ≡ true → mayBeginIn h s ≡ true
+  pub way₄ : (n : ℕ) → n < heights → mayBeginAs h s (downward (pos (3 * n) -ℤ h .position .y)) ≡ true → mayBeginIn h s ≡ true
   unfolding mayBeginIn
   way₄ n l e =
       right-true (someBelow 120 (λ f. mayBeginAs h s (defining f))) _
       (right-true (someBelow 120 (λ f. mayBeginAs h s (selecting f))) _
-      (right-true (someBelow 3295 (λ n. mayBeginAs h s (across ((pos n -ℤ pos 55) -ℤ h .position .x)))) _
-      (left-true (someBelow 1000001 (λ n. mayBeginAs h s (downward (pos (3 * n) -ℤ h .position .y)))) _
-      (found-some 1000001 (λ n. mayBeginAs h s (downward (pos (3 * n) -ℤ h .position .y))) n l e))))
+      (right-true (someBelow places (λ n. mayBeginAs h s (across (entryX n -ℤ h .position .x)))) _
+      (left-true (someBelow heights (λ n. mayBeginAs h s (downward (pos (3 * n) -ℤ h .position .y)))) _
+      (found-some heights (λ n. mayBeginAs h s (downward (pos (3 * n) -ℤ h .position .y))) n l e))))
 
   pub way₅ : mayBeginAs h s (putting 1) ≡ true → mayBeginIn h s ≡ true
   unfolding mayBeginIn
   way₅ e =
       right-true (someBelow 120 (λ f. mayBeginAs h s (defining f))) _
       (right-true (someBelow 120 (λ f. mayBeginAs h s (selecting f))) _
-      (right-true (someBelow 3295 (λ n. mayBeginAs h s (across ((pos n -ℤ pos 55) -ℤ h .position .x)))) _
-      (right-true (someBelow 1000001 (λ n. mayBeginAs h s (downward (pos (3 * n) -ℤ h .position .y)))) _ e)))
+      (right-true (someBelow places (λ n. mayBeginAs h s (across (entryX n -ℤ h .position .x)))) _
+      (right-true (someBelow heights (λ n. mayBeginAs h s (downward (pos (3 * n) -ℤ h .position .y)))) _ e)))
 
   pub as-such : (d : PageCommand) (z : List ℕ) → inBytes d ≡ s ++ z → mayCome h d ≡ true → mayBeginAs h s d ≡ true
   unfolding mayBeginAs
   as-such d z b m = both-true (begins s (inBytes d)) (mayCome h d) (is-begins s (inBytes d) z b) m
 
 module _ (h : PageState) (bs : List ℕ) (k : PageReached h bs) (s : List ℕ) where
-  by-command : (d : PageCommand) → Small d → mayBeginAs h s d ≡ true → Leads (inPage h) s
+  by-command : (d : PageCommand) → MoveFits d → mayBeginAs h s d ≡ true → Leads (inPage h) s
   unfolding mayBeginAs
   by-command d m e =
       let b = both (begins s (inBytes d)) (mayCome h d) e in
       record { whole = inBytes d; after-it = pageStateAfter h d; leads = page-next h d m (b .1); longer = begins-is s (inBytes d) (b .0) }
 
-  x-dif : (n : ℕ) → n < 3295 → mag (pos n -ℤ pos 55) < 4000000
-  x-dif n l = go (pos n -ℤ pos 55) (dif-parts (pos n) (pos 55))
+  x-dif : (n : ℕ) → n < places → mag (entryX n) < 4000000
+  x-dif n l = go (entryX n) (dif-parts (pos n) (pos 55))
     where
       go : (z : ℤ) → up z + (0 + 55) ≡ n + 0 + dn z → mag z < 4000000
       go (pos m) e = omega arith
@@ -142,15 +146,15 @@ module _ (h : PageState) (bs : List ℕ) (k : PageReached h bs) (s : List ℕ) w
       either (someBelow 120 (λ f. mayBeginAs h s (selecting f))) _ e₂ (Leads (inPage h) s)
       (λ a. let b = some-found 120 (λ f. mayBeginAs h s (selecting f)) a in by-command (selecting (b .found)) tt (b .holds))
       (λ e₃.
-      either (someBelow 3295 (λ n. mayBeginAs h s (across ((pos n -ℤ pos 55) -ℤ h .position .x)))) _ e₃ (Leads (inPage h) s)
+      either (someBelow places (λ n. mayBeginAs h s (across (entryX n -ℤ h .position .x)))) _ e₃ (Leads (inPage h) s)
       (λ a.
-      let b = some-found 3295 (λ n. mayBeginAs h s (across ((pos n -ℤ pos 55) -ℤ h .position .x))) a in
-      let x = k .x-small in
-      by-command (across ((pos (b .found) -ℤ pos 55) -ℤ h .position .x)) (mag-dif (pos (b .found) -ℤ pos 55) (h .position .x) (x-dif (b .found) (b .is-below)) (omega arith)) (b .holds))
+      let b = some-found places (λ n. mayBeginAs h s (across (entryX n -ℤ h .position .x))) a in
+      let x = between-mag (h .position .x) (k .x-between) in
+      by-command (across (entryX (b .found) -ℤ h .position .x)) (mag-dif (entryX (b .found)) (h .position .x) (x-dif (b .found) (b .is-below)) (omega arith)) (b .holds))
       (λ e₄.
-      either (someBelow 1000001 (λ n. mayBeginAs h s (downward (pos (3 * n) -ℤ h .position .y)))) _ e₄ (Leads (inPage h) s)
+      either (someBelow heights (λ n. mayBeginAs h s (downward (pos (3 * n) -ℤ h .position .y)))) _ e₄ (Leads (inPage h) s)
       (λ a.
-      let b = some-found 1000001 (λ n. mayBeginAs h s (downward (pos (3 * n) -ℤ h .position .y))) a in
+      let b = some-found heights (λ n. mayBeginAs h s (downward (pos (3 * n) -ℤ h .position .y))) a in
       let l = b .is-below in
       by-command (downward (pos (3 * b .found) -ℤ h .position .y)) (mag-dif (pos (3 * b .found)) (h .position .y) (omega arith) (down-mag (h .position .y) (k .y-down))) (b .holds))
       (λ a. by-command (putting 1) tt a))))
@@ -177,7 +181,7 @@ module _ (h : PageState) (bs : List ℕ) (k : PageReached h bs) (s : List ℕ) w
       let b₃ = both (not (eqZ m (pos 0))) (validIn (h .position .font) (h .position .x +ℤ m)) (b₂ .1) in
       let t = font-there (h .position .font) (h .position .x +ℤ m) (b₃ .1) in
       let n = counted (isDouble (sizeIndex (t .font))) (h .position .x +ℤ m) (t .x-valid) in
-      let q : (pos (n .count) -ℤ pos 55) -ℤ h .position .x ≡ m = ap (λ (a : ℤ). a -ℤ h .position .x) (n .place-is) ∙ there-and-back (h .position .x) m in
+      let q : entryX (n .count) -ℤ h .position .x ≡ m = ap (λ (a : ℤ). a -ℤ h .position .x) (n .place-is) ∙ there-and-back (h .position .x) m in
       way₃ h s (n .count) (n .is-below) (subst (λ (a : ℤ). mayBeginAs h s (across a) ≡ true) (sym q) (as-such h s (across m) z b e))
   lead-page (downward m) z b e p l =
       let T₄ = validIn (h .position .font) (h .position .x) && isDown (h .position .y +ℤ m) in
@@ -221,7 +225,7 @@ may-lead (between is) bs s k e =
     (λ a.
     let b = both (isMore is) (begins s (furtherBop (writingOf is))) a in
     only-lead (between is) (inPage (newPageState (is ++ (Cut ∷ [])))) s (furtherBop (writingOf is)) (b .1) (page-path is (ltb-true (length is) maxItems (b .0))))
-may-lead (closing is []) bs s k e = let z : _≡_ {A = ℕ} 0 1 = cc in absurd (omega arith)
+may-lead (closing is []) bs s k e = absurd (suc-ne-zero 0 cc)
 may-lead (closing is (c ∷ es)) bs s k e = only-lead (closing is (c ∷ es)) (closing is es) s c e (is-only c (closing is es))
 
 pub lead-may : (q r : State) (bs s z c : List ℕ) → Reached q bs → next q c ≡ some r → c ≡ s ++ z → 0 < length s → length s < length c → mayBegin q s ≡ true
@@ -238,5 +242,5 @@ lead-may (between is) r bs s z c k n b p l = go (onward is c r n)
     go (to-page e m q) =
         right-true (begins s (postOf is)) (isMore is && begins s (furtherBop (writingOf is)))
         (both-true (isMore is) (begins s (furtherBop (writingOf is))) (lt-ltb (length is) maxItems m) (is-begins s (furtherBop (writingOf is)) z (sym e ∙ b)))
-lead-may (closing is []) r bs s z c k n b p l = let y : _≡_ {A = ℕ} 0 1 = cc in absurd (omega arith)
+lead-may (closing is []) r bs s z c k n b p l = absurd (suc-ne-zero 0 cc)
 lead-may (closing is (d ∷ es)) r bs s z c k n b p l = is-begins s d z (sym (only-is c d (closing is es) r n .bytes-are) ∙ b)

@@ -3,9 +3,9 @@
 -- Assumes nothing.
 use mathlib.Core.Path.{_≡_, refl, sym, ap, subst, _∙_}
 use mathlib.Core.Bool.{true}
-use mathlib.Core.List.{List, [], _∷_, _++_, append-assoc, append-nil, foldl-append}
+use mathlib.Core.List.{List, [], _∷_, _++_, append-assoc, append-nil, foldl-append, flatten}
 use mathlib.Core.Option.{some}
-use Prim.Native.Nat.{ℕ, _+_, _-_, _<_}
+use Prim.Native.Nat.{ℕ, _+_, _<_}
 use native.Mathlib.Omega.{arith}
 use borrow.Author.Tests.{lt-ltb}
 use lib.IntN.{ℤ}
@@ -19,15 +19,16 @@ use Rattle.galley_file.specs.Galley.{maxItems, AllValid, more}
 use Rattle.extents.specs.FontMarks.{uses}
 use Rattle.dvi.specs.Writer.{Position, startPosition}
 use Rattle.dvi2.specs.Command.{EOP}
-use Rattle.dvi2.specs.Writer.{positionAt, commandsOf, preambleBytes, bopBytes, Writing, firstWriting, itemBytes, writingAfter, itemsBytes, writingAfterAll, pagesBytes, dvi2File}
+use Rattle.dvi2.specs.Writer.{positionAt, commandsOf, preambleBytes, bopBytes, Writing, firstWriting, itemBytes, writingAfter, itemsBytes, pagesBytes, dvi2File}
 use Rattle.dvi2_reading.specs.Beginning.{Writable}
-use Rattle.dvi2_reading.specs.Reading.{same, ending, inBytes, ready, mayCome, start, opened, inPage, between, closing, pageStateAfter, newPageState, firstBop, furtherBop, postOf, closingOf, next}
+use Rattle.dvi2_reading.specs.PageReading.{same, ending, inBytes, ready, mayCome}
+use Rattle.dvi2_reading.specs.Reading.{start, opened, inPage, between, closing, pageStateAfter, newPageState, firstBop, furtherBop, postOf, closingOf, next}
 use Rattle.dvi2_reading.specs.BytesLaws.{same-self}
 use Rattle.dvi2_reading.specs.SizeLaws.{preamble-command, eop-command}
 use Rattle.dvi2_reading.specs.CommandLaws.{page-next, is-only}
-use Rattle.dvi2_reading.specs.Reached.{writingOf, PageReached, joined, Commands, no-more, one-more}
-use Rattle.dvi2_reading.specs.PieceLaws.{behind-is, file-pages}
-use Rattle.dvi2_reading.specs.StateLaws.{close-joined, closing-commands, first-command, further-command, of-post, first-page}
+use Rattle.dvi2_reading.specs.Reached.{writingOf, PageReached, Commands, no-more, one-more}
+use Rattle.dvi2_reading.specs.PieceLaws.{behind-is, file-pages, between-mag}
+use Rattle.dvi2_reading.specs.StateLaws.{close-flatten, closing-commands, first-command, further-command, of-post, first-page}
 use Rattle.dvi2_reading.specs.Path.{Path, stop, step, path-append, path-one, path-reached}
 use Rattle.dvi2_reading.specs.CharacterPath.{character-path}
 
@@ -61,7 +62,7 @@ item-path is position bs k (Placed c) v l =
           (λ (w : List ℕ).
           Path (inPage (record { items = is; stage = ready; position = position })) w (inPage (record { items = is ++ (Placed c ∷ []); stage = ready; position = positionAt c })))
           (λ i. commandsOf (uses (c .font) (sym (behind-is is) i)) (k .staged .position-is i) c)
-          (character-path is l position c (k .x-small) (k .y-down) v);
+          (character-path is l position c (between-mag (position .x) (k .x-between)) (k .y-down) v);
     }
 item-path is position bs k Cut v l =
     record {
@@ -110,8 +111,8 @@ items-path (j ∷ js) is position bs k w =
           a (rest .path)));
     }
 
-closing-path : (is : List Item) (es : List (List ℕ)) → Commands es → Path (closing is es) (joined es) (closing is [])
-unfolding joined next
+closing-path : (is : List Item) (es : List (List ℕ)) → Commands es → Path (closing is es) (flatten es) (closing is [])
+unfolding flatten next
 closing-path is [] no-more = stop
 closing-path is (e ∷ es) (one-more c cs) = step (is-only e (closing is es)) c (closing-path is es cs)
 
@@ -135,8 +136,8 @@ pub file-path : (is : List Item) → Writable is → Path start (dvi2File is) (c
 unfolding newPageState firstBop pagesBytes
 file-path is w =
     let k = items-path is [] startPosition (preambleBytes ++ firstBop) first-page w in
-    let tail : Path (between is) (postOf is ++ joined (closingOf is)) (closing is []) =
+    let tail : Path (between is) (postOf is ++ flatten (closingOf is)) (closing is []) =
     step (post-path is) (of-post is) (closing-path is (closingOf is) (closing-commands is)) in
     let pages : Path start (pagesBytes is) (between is) =
     step start-path preamble-command (step opened-path first-command (path-append (k .path) (path-one (end-path is (k .to-position)) eop-command))) in
-    subst (λ (l : List ℕ). Path start l (closing is [])) (sym (file-pages is ∙ ap (λ (l : List ℕ). pagesBytes is ++ l) (close-joined is))) (path-append pages tail)
+    subst (λ (l : List ℕ). Path start l (closing is [])) (sym (file-pages is ∙ ap (λ (l : List ℕ). pagesBytes is ++ l) (close-flatten is))) (path-append pages tail)

@@ -1,17 +1,26 @@
 -- Lists of items that the writer takes, numbers, and changes of font.
+--     writable-more                  one item more
+--     pages-open, file-open          all pages and the file, by what stands through the items
+--     thrice, height-valid           a place down is three times a valid height
+--     x-between, x-mag               a valid place across is on the page
+--     change-new, change-used        the commands that change the font, new or used before
+--     used-small                     a font of a valid list is one of the 120
+--     more-bytes                     one piece more
 -- Assumes nothing.
 use mathlib.Core.Path.{_≡_, refl, sym, ap, subst, _∙_}
-use mathlib.Core.Bool.{Bool, true, false, not, cond, _||_}
+use mathlib.Core.Bool.{Bool, true, false, cond, _||_}
 use mathlib.Core.List.{List, [], _∷_, _++_, append-assoc}
 use mathlib.Core.Option.{Option, none, some}
 use Prim.Native.Nat.{ℕ, _+_, _-_, _*_, _/_, _%_, _<_}
+use native.Mathlib.Nat.{suc-ne-zero}
 use native.Mathlib.Omega.{arith}
 use borrow.Author.Tests.{leb-true, eqb-true, eq-eqb, le-leb}
 use lib.Dec.{leb, eqb}
 use lib.IntN.{ℤ, pos, negsuc, _+ℤ_, _-ℤ_, _*ℤ_}
 use lib.ListN.{length, length-append}
-use lib.Signed.{mag, leZ}
-use Rattle.integers.specs.Parts.{integers, sum-parts, dif-parts, eqZ, true-eqZ}
+use lib.Signed.{mag, leZ, _≤ℤ_}
+use Rattle.integers.specs.Parts.{integers, sum-parts, dif-parts}
+use Rattle.integers.specs.Equality.{eqZ, true-eqZ}
 use Rattle.octets.specs.FieldLaws.{both}
 use Rattle.measure.specs.Place.{heightEnd, within}
 use Rattle.octets.specs.TransducerLaws.{transduced-more}
@@ -27,7 +36,8 @@ use Rattle.dvi2.specs.Command.{EOP}
 use Rattle.dvi2.specs.Writer.{selects, definition, fontCommands, fontChange, shortest, move, preambleBytes, bopBytes, firstWriting, itemBytes, itemsBytes, pagesBytes, postambleBytes, commandBytes, bytes223, fillers, dvi2File, writingAfter}
 use Rattle.dvi2.specs.WriterLaws.{writing-behind}
 use Rattle.dvi2_reading.specs.Beginning.{Writable}
-use Rattle.dvi2_reading.specs.Reading.{isFont, isDown, heightOf, firstBop}
+use Rattle.dvi2_reading.specs.PageReading.{isFont, isDown, lowest}
+use Rattle.dvi2_reading.specs.Reading.{heightOf, firstBop}
 use Rattle.dvi2_reading.specs.BytesLaws.{both-true, either}
 use Rattle.dvi2_reading.specs.Reached.{writingOf, openBytes}
 
@@ -95,24 +105,29 @@ move-some op m e = rw e
 pub thrice : (y : ℤ) → isDown y ≡ true → pos 3 *ℤ heightOf y ≡ y
 unfolding isDown heightOf
 thrice (pos n) e =
-    let b = both (eqb (n % 3) 0) (leb n 3000000) e in
+    let b = both (eqb (n % 3) 0) (leb n lowest) e in
     let z = eqb-true (n % 3) 0 (b .0) in
     ap pos (omega arith)
-thrice (negsuc n) e = let z : _≡_ {A = ℕ} 0 1 = cc in absurd (omega arith)
+thrice (negsuc n) e = absurd (suc-ne-zero 0 cc)
 
 pub height-valid : (y : ℤ) → isDown y ≡ true → within heightEnd (heightOf y) ≡ true
 unfolding isDown heightOf
 height-valid (pos n) e =
-    let b = both (eqb (n % 3) 0) (leb n 3000000) e in
-    let l = leb-true n 3000000 (b .1) in
+    let b = both (eqb (n % 3) 0) (leb n lowest) e in
+    let l = leb-true n lowest (b .1) in
     both-true (leb 0 (n / 3)) (leb (n / 3) 1000000) (le-leb 0 (n / 3) (omega arith)) (le-leb (n / 3) 1000000 (omega arith))
-height-valid (negsuc n) e = let z : _≡_ {A = ℕ} 0 1 = cc in absurd (omega arith)
+height-valid (negsuc n) e = absurd (suc-ne-zero 0 cc)
+
+pub x-between : (d : Bool) (x : ℤ) → validX d x ≡ true → (negsuc 54 ≤ℤ x) × (x ≤ℤ pos 3239)
+x-between true x e = let h = both (leZ (negsuc 54) x) (leZ x (pos 3184)) e in (omega (integers, h .0), omega (integers, h .1))
+x-between false x e = let h = both (leZ (pos 0) x) (leZ x (pos 3239)) e in (omega (integers, h .0), omega (integers, h .1))
+
+pub between-mag : (x : ℤ) → (negsuc 54 ≤ℤ x) × (x ≤ℤ pos 3239) → mag x < 4000
+between-mag (pos n) b = omega integers
+between-mag (negsuc n) b = omega integers
 
 pub x-mag : (d : Bool) (x : ℤ) → validX d x ≡ true → mag x < 4000
-x-mag true (pos n) e = let b = both (leZ (negsuc 54) (pos n)) (leZ (pos n) (pos 3184)) e in let l = leb-true n 3184 (b .1) in omega arith
-x-mag true (negsuc n) e = let b = both (leZ (negsuc 54) (negsuc n)) (leZ (negsuc n) (pos 3184)) e in let l = leb-true n 54 (b .0) in omega arith
-x-mag false (pos n) e = let b = both (leZ (pos 0) (pos n)) (leZ (pos n) (pos 3239)) e in let l = leb-true n 3239 (b .1) in omega arith
-x-mag false (negsuc n) e = let z : _≡_ {A = ℕ} 0 1 = cc in absurd (omega arith)
+x-mag d x e = between-mag x (x-between d x e)
 
 pub zero-valid : (d : Bool) → validX d (pos 0) ≡ true
 zero-valid true = refl
@@ -157,9 +172,13 @@ change-none cs f = rw (eq-eqb f f refl)
 -- a font that is used is one of the 120
 pub used-small : (f : ℕ) (is : List Item) → AllValid heightEnd is → uses f (charactersOf is) ≡ true → f < 120
 unfolding uses charactersOf
-used-small f [] v u = let z : _≡_ {A = ℕ} 0 1 = cc in absurd (omega arith)
+used-small f [] v u = absurd (suc-ne-zero 0 cc)
 used-small f (Placed c ∷ is) (more v vs) u =
     either (eqb (c .font) f) (uses f (charactersOf is)) u (f < 120)
     (λ e. subst (λ (g : ℕ). g < 120) (eqb-true (c .font) f e) (valid-parts {c = c} v .font))
     (λ e. used-small f is vs e)
 used-small f (Cut ∷ is) (more v vs) u = used-small f is vs u
+
+-- one piece more
+pub more-bytes : (bs o rest c : List ℕ) → bs ≡ o ++ rest → bs ++ c ≡ o ++ (rest ++ c)
+more-bytes bs o rest c e = ap (λ (l : List ℕ). l ++ c) e ∙ append-assoc o rest c

@@ -6,12 +6,12 @@
 -- Assumes nothing.
 use mathlib.Core.Path.{_≡_}
 use mathlib.Core.Bool.{true}
-use mathlib.Core.List.{List, [], _∷_, _++_}
+use mathlib.Core.List.{List, [], _∷_, _++_, flatten}
 use mathlib.Core.Option.{some}
 use Prim.Native.Nat.{ℕ, _<_}
-use lib.IntN.{_-ℤ_}
+use lib.IntN.{pos, negsuc, _-ℤ_}
 use lib.ListN.{length}
-use lib.Signed.{mag}
+use lib.Signed.{_≤ℤ_}
 use Rattle.galley_file.specs.Font.{sizeIndex, isDouble}
 use Rattle.galley_file.specs.Character.{validX}
 use Rattle.galley_file.specs.declared.item.Item.{Item}
@@ -23,7 +23,8 @@ use Rattle.dvi2.specs.Command.{RIGHT1, DOWN1}
 use Rattle.dvi2.specs.Writer.{selects, definition, fontChange, move, preambleBytes, Writing, firstWriting, itemsBytes, writingAfterAll, pagesBytes, dvi2File}
 use Rattle.dvi2_reading.specs.Beginning.{Writable}
 use Rattle.dvi2_reading.specs.SizeLaws.{Command}
-use Rattle.dvi2_reading.specs.Reading.{Stage, ready, named, chosen, moved, lowered, PageState, isDown, withFont, firstBop, State, start, opened, inPage, between, closing}
+use Rattle.dvi2_reading.specs.PageReading.{Stage, ready, named, chosen, moved, lowered, PageState, isDown}
+use Rattle.dvi2_reading.specs.Reading.{withFont, firstBop, State, start, opened, inPage, between, closing}
 
 abbrev pub writingOf : List Item → Writing
 writingOf is = writingAfterAll firstWriting is
@@ -82,17 +83,13 @@ Staged lowered is position rest = AtLowered is position rest
 
 pub record PageReached (h : PageState) (bs : List ℕ) : Type 0 where
   pub writable : Writable (h .items)
-  pub x-small : mag (h .position .x) < 4000
+  pub x-between : (negsuc 54 ≤ℤ h .position .x) × (h .position .x ≤ℤ pos 3239)
   pub y-down : isDown (h .position .y) ≡ true
   pub rest : List ℕ
   pub bytes-are : bs ≡ openBytes (h .items) ++ rest
   pub staged : Staged (h .stage) (h .items) (h .position) rest
 
 -- ---- in any state
-
-unfoldable pub joined : List (List ℕ) → List ℕ
-joined [] = []
-joined (e ∷ es) = e ++ joined es
 
 pub record Between (is : List Item) (bs : List ℕ) : Type 0 where
   pub writable : Writable is
@@ -105,7 +102,7 @@ pub data Commands : List (List ℕ) → Type 0 where
 
 pub record Closing (is : List Item) (es : List (List ℕ)) (bs : List ℕ) : Type 0 where
   pub writable : Writable is
-  pub bytes-are : bs ++ joined es ≡ dvi2File is
+  pub bytes-are : bs ++ flatten es ≡ dvi2File is
   pub commands : Commands es
 
 abbrev pub Reached : State → List ℕ → Type 0

@@ -3,10 +3,10 @@
 -- Assumes nothing.
 use mathlib.Core.Path.{_≡_, refl, sym, ap, subst, _∙_}
 use mathlib.Core.Bool.{Bool, true, false, cond}
-use mathlib.Core.List.{List, [], _∷_, _++_, append-assoc, append-nil}
+use mathlib.Core.List.{List, [], _∷_, _++_, append-assoc, append-nil, flatten}
 use mathlib.Core.Option.{Option, none, some}
 use Prim.Native.Nat.{ℕ, zero, suc, _+_, _≤_, _<_}
-use native.Mathlib.Nat.{add-zero}
+use native.Mathlib.Nat.{add-zero, suc-ne-zero}
 use native.Mathlib.Omega.{arith}
 use borrow.Author.Tests.{leb-true, leb-false}
 use lib.Dec.{leb}
@@ -20,7 +20,7 @@ use Rattle.dvi2_reading.specs.Reading as R
 use Rattle.dvi2_reading.specs.BytesLaws.{cut-first, cut-before}
 use Rattle.dvi2_reading.specs.SizeLaws.{Command}
 use Rattle.dvi2_reading.specs.StableLaws.{parameters-kept}
-use Rattle.dvi2_reading.specs.Reached.{joined, Reached}
+use Rattle.dvi2_reading.specs.Reached.{Reached}
 use Rattle.dvi2_reading.specs.StateLaws.{next-command, next-reached, live}
 use Rattle.dvi2_reading.specs.Path.{Path, path-first, path-none, path-past}
 use Rattle.dvi2_reading.specs.PathLaws.{file-path}
@@ -60,7 +60,7 @@ record Stands (q : State) (bs s : List ℕ) : Type 0 where
 module _ (q : State) (bs : List ℕ) where
   -- at the end of the file
   at-end : Stands q bs [] → Comes (bs ++ []) (atEnd q (length bs))
-  unfolding atEnd joined
+  unfolding atEnd flatten
   at-end k = go q (k .reached) (k .ahead)
     where
       early : (q : State) → Reached q bs → Ahead q bs → ((is : List Item) → q ≡ closing is [] → ⊥) → Comes (bs ++ []) (bad (length bs))
@@ -70,12 +70,12 @@ module _ (q : State) (bs : List ℕ) where
           (λ is m. n is (path-none (a .goes-on is [] m) refl)))
 
       go : (q : State) → Reached q bs → Ahead q bs → Comes (bs ++ []) (atEnd q (length bs))
-      go start r a = early start r a (λ is e. let z : _≡_ {A = ℕ} 0 1 = cc in omega arith)
-      go opened r a = early opened r a (λ is e. let z : _≡_ {A = ℕ} 0 1 = cc in omega arith)
-      go (inPage h) r a = early (inPage h) r a (λ is e. let z : _≡_ {A = ℕ} 0 1 = cc in omega arith)
-      go (between is) r a = early (between is) r a (λ js e. let z : _≡_ {A = ℕ} 0 1 = cc in omega arith)
+      go start r a = early start r a (λ is e. suc-ne-zero 0 cc)
+      go opened r a = early opened r a (λ is e. suc-ne-zero 0 cc)
+      go (inPage h) r a = early (inPage h) r a (λ is e. suc-ne-zero 0 cc)
+      go (between is) r a = early (between is) r a (λ js e. suc-ne-zero 0 cc)
       go (closing is []) r a = comes-items (record { writable = r .writable; file-is = r .bytes-are })
-      go (closing is (e ∷ es)) r a = early (closing is (e ∷ es)) r a (λ js d. let z : _≡_ {A = ℕ} 0 1 = cc in omega arith)
+      go (closing is (e ∷ es)) r a = early (closing is (e ∷ es)) r a (λ js d. suc-ne-zero 0 cc)
 
   module _ (b : ℕ) (ps : List ℕ) (k : Stands q bs (b ∷ ps)) where
     abbrev size : ℕ
@@ -119,7 +119,7 @@ module _ (q : State) (bs : List ℕ) where
         clash (sym n ∙ ap (R.next q) (sym e) ∙ f .leads))
       where
         clash : {r : State} → none ≡ some r → ⊥
-        clash e = let z : _≡_ {A = ℕ} 0 1 = cc in omega arith
+        clash e = suc-ne-zero 0 cc
 
     -- a command that is cut short
     module _ (h : length ps < size) where
@@ -159,7 +159,7 @@ module _ (q : State) (bs : List ℕ) where
           not-whole (f .first) (drop (length (f .first)) (b ∷ ps)) (f .one) (cut-before (f .first) (f .then-rest) (b ∷ ps) (o .rest) j l)))
         where
           clash : true ≡ false → ⊥
-          clash e = let z : _≡_ {A = ℕ} 0 1 = cc in omega arith
+          clash e = suc-ne-zero 0 cc
 
     -- a whole command that leads on
     whole-on : (r : State) → size ≤ length ps → R.next q (b ∷ take size ps) ≡ some r → Stands r (bs ++ (b ∷ take size ps)) (drop size ps)

@@ -1,169 +1,35 @@
 -- How a file of the second edition is read: command by command, each only if the writer may have made it there (document 02, "The second edition of DVI"). `Beginning`
 -- says what this comes to.
---     same, begins      two lists are equal; one is a beginning of the other
---     PageCommand       the commands that the writer uses inside a page, and inBytes their bytes
---     commandOf         the only one of them that some bytes can be
---     PageState              how far a page is read: the items that are whole, and what is there of the next character
---     mayCome           a command may come next, and pageStateAfter the state after it
---     State             how far a file is read
---     next              the state after a whole command
---     mayBegin          a command that may come next begins so
---     step              what the next command leads to
---     read              the items of a file, or the place where it is refused
---     read2Result       what the reader gives for a file and a buffer of so many bytes
-use Prim.Native.Nat.{ℕ, zero, suc, _+_, _-_, _*_, _/_, _%_}
-use mathlib.Core.Bool.{Bool, true, false, not, cond, _&&_, _||_}
+--     State              how far a file is read
+--     pageStateAfter     the state after a command of a page
+--     next               the state after a whole command
+--     mayBegin           a command that may come next begins so
+--     step               what the next command leads to
+--     read               the items of a file, or the place where it is refused
+--     read2Result        what the reader gives for a file and a buffer of so many bytes
+use Prim.Native.Nat.{ℕ, zero, suc, _+_, _-_, _*_, _/_}
+use mathlib.Core.Bool.{Bool, false, cond, _&&_, _||_}
 use mathlib.Core.List.{List, [], _∷_, _++_, map}
 use mathlib.Core.Option.{Option, none, some, Option·getD}
-use lib.Dec.{ltb, leb, eqb}
+use lib.Dec.{ltb, leb}
 use lib.IntN.{ℤ, pos, negsuc, _+ℤ_, _-ℤ_}
-use lib.ListN.{length, getD, take}
-use Rattle.integers.specs.Parts.{eqZ}
-use Rattle.octets.specs.Octets.{bytes, signed}
-use Rattle.octets.specs.Answer.{Result, refusal, written, ifRoom, dviTooLong, noGalleyRoom, notOurs}
-use Rattle.galley_file.specs.Font.{sizeIndex, isDouble}
+use lib.ListN.{length, take}
+use Rattle.octets.specs.Octets.{bytes}
+use Rattle.octets.specs.Answer.{Result, refusal, written, ifRoom, fileTooLong, noGalleyRoom, notOurs}
+use Rattle.measure.specs.Target.{entryX}
 use Rattle.galley_file.specs.declared.character.Character.{Character}
 use Rattle.galley_file.specs.declared.form.Form.the-variants.{New}
 use Rattle.galley_file.specs.declared.item.Item.{Item}
 use Rattle.galley_file.specs.declared.item.Item.the-variants.{Placed, Cut}
-use Rattle.galley_file.specs.Character.{validX}
 use Rattle.galley_file.specs.Item.{charactersOf}
-use Rattle.galley_file.specs.Galley.{maxItems, galley}
-use Rattle.extents.specs.FontMarks.{uses, usedFonts}
+use Rattle.galley_file.specs.Galley.{galley}
+use Rattle.extents.specs.FontMarks.{usedFonts}
 use Rattle.dvi.specs.Writer.{Position, startPosition}
-use Rattle.dvi2.specs.Command.{PUT1, EOP, RIGHT1, DOWN1, FNTNUM0, FNT1, FNTDEF1, POSTPOST}
+use Rattle.dvi2.specs.Command.{POSTPOST}
 use Rattle.dvi2.specs.File.{maxDvi2}
-use Rattle.dvi2.specs.Writer.{selects, definition, shortest, preambleBytes, bopBytes, Writing, firstWriting, writingAfterAll, pagesBytes, postBytes, commandBytes, fillers}
+use Rattle.dvi2.specs.Writer.{definition, preambleBytes, bopBytes, Writing, firstWriting, writingAfterAll, pagesBytes, postBytes, commandBytes, fillers}
 use Rattle.dvi2_reading.specs.Beginning.{parameters}
-
--- ---- lists of bytes
-
-unfoldable pub same : List ℕ → List ℕ → Bool
-same [] [] = true
-same [] (y ∷ ys) = false
-same (x ∷ xs) [] = false
-same (x ∷ xs) (y ∷ ys) = eqb x y && same xs ys
-
--- the first begins the second
-unfoldable pub begins : List ℕ → List ℕ → Bool
-begins [] ys = true
-begins (x ∷ xs) [] = false
-begins (x ∷ xs) (y ∷ ys) = eqb x y && begins xs ys
-
--- some number below n
-unfoldable pub someBelow : ℕ → (ℕ → Bool) → Bool
-someBelow zero p = false
-someBelow (suc n) p = p n || someBelow n p
-
--- ---- the commands of a page
-
-pub data PageCommand : Type 0 where
-  ending : PageCommand  -- eop
-  defining : ℕ → PageCommand  -- fnt_def1
-  selecting : ℕ → PageCommand  -- fnt_num or fnt1
-  across : ℤ → PageCommand  -- right
-  downward : ℤ → PageCommand  -- down
-  putting : ℕ → PageCommand  -- put1
-
--- as the writer has them
-unfoldable pub inBytes : PageCommand → List ℕ
-inBytes ending = EOP ∷ []
-inBytes (defining f) = definition f
-inBytes (selecting f) = selects f
-inBytes (across m) = shortest RIGHT1 m
-inBytes (downward m) = shortest DOWN1 m
-inBytes (putting c) = PUT1 ∷ c ∷ []
-
--- by the opcode; the bytes are then compared
-unfoldable pub commandOf : List ℕ → PageCommand
-commandOf [] = ending
-commandOf (op ∷ ps) =
-    cond (eqb op PUT1) (putting (getD ps 0 0))
-    (cond (eqb op EOP) ending
-    (cond (eqb op FNTDEF1) (defining (getD ps 0 0))
-    (cond (eqb op FNT1) (selecting (getD ps 0 0))
-    (cond (leb FNTNUM0 op) (selecting (op - FNTNUM0)) (cond (leb DOWN1 op) (downward (signed ps)) (across (signed ps)))))))
-
--- ---- how far a page is read
-
--- what is there of the next character
-pub data Stage : Type 0 where
-  ready : Stage  -- nothing
-  named : Stage  -- the definition of its font
-  chosen : Stage  -- its font, that differs from the last
-  moved : Stage  -- a move right, and perhaps the font
-  lowered : Stage  -- a move down, and perhaps these
-
-pub record PageState : Type 0 where
-  -- the items before it
-  pub items : List Item
-  pub stage : Stage
-  -- the font and the place to which the commands so far lead
-  pub position : Position
-
-abbrev pub isReady : Stage → Bool
-isReady ready = true
-isReady named = false
-isReady chosen = false
-isReady moved = false
-isReady lowered = false
-
--- a move right, a move down, a put may follow
-abbrev pub beforeRight : Stage → Bool
-beforeRight ready = true
-beforeRight named = false
-beforeRight chosen = true
-beforeRight moved = false
-beforeRight lowered = false
-
-abbrev pub beforeDown : Stage → Bool
-beforeDown ready = true
-beforeDown named = false
-beforeDown chosen = true
-beforeDown moved = true
-beforeDown lowered = false
-
-abbrev pub beforePut : Stage → Bool
-beforePut ready = true
-beforePut named = false
-beforePut chosen = true
-beforePut moved = true
-beforePut lowered = true
-
--- one item more is within the limit
-abbrev pub isMore : List Item → Bool
-isMore is = ltb (length is) maxItems
-
-abbrev pub isFont : Option ℕ → ℕ → Bool
-isFont none f = false
-isFont (some g) f = eqb g f
-
--- after its definition only the font itself; else one that was defined and differs
-abbrev pub mayChoose : Stage → List Character → Option ℕ → ℕ → Bool
-mayChoose ready cs o f = uses f cs && not (isFont o f)
-mayChoose named cs o f = isFont o f
-mayChoose chosen cs o f = false
-mayChoose moved cs o f = false
-mayChoose lowered cs o f = false
-
--- a character of this font may stand there
-abbrev pub validIn : Option ℕ → ℤ → Bool
-validIn none x = false
-validIn (some f) x = validX (isDouble (sizeIndex f)) x
-
--- three times a height
-unfoldable pub isDown : ℤ → Bool
-isDown (pos n) = eqb (n % 3) 0 && leb n 3000000
-isDown (negsuc n) = false
-
-unfoldable pub mayCome : PageState → PageCommand → Bool
-mayCome h ending = isReady (h .stage)
-mayCome h (defining f) = isMore (h .items) && (isReady (h .stage) && (ltb f 120 && not (uses f (charactersOf (h .items)))))
-mayCome h (selecting f) = isMore (h .items) && mayChoose (h .stage) (charactersOf (h .items)) (h .position .font) f
-mayCome h (across m) = isMore (h .items) && (beforeRight (h .stage) && (not (eqZ m (pos 0)) && validIn (h .position .font) (h .position .x +ℤ m)))
-mayCome h (downward m) =
-    isMore (h .items) && (beforeDown (h .stage) && (not (eqZ m (pos 0)) && (validIn (h .position .font) (h .position .x) && isDown (h .position .y +ℤ m))))
-mayCome h (putting c) = isMore (h .items) && (beforePut (h .stage) && (validIn (h .position .font) (h .position .x) && (leb 1 c && leb c 108)))
+use Rattle.dvi2_reading.specs.PageReading.{same, begins, someBelow, PageCommand, ending, defining, selecting, across, downward, putting, inBytes, commandOf, ready, named, chosen, moved, lowered, PageState, isMore, mayCome}
 
 -- ---- the file
 
@@ -245,13 +111,20 @@ next (closing is (e ∷ es)) c = only c e (closing is es)
 unfoldable pub mayBeginAs : PageState → List ℕ → PageCommand → Bool
 mayBeginAs h s d = begins s (inBytes d) && mayCome h d
 
+-- the places across, from -55 to 3,239; the heights, from 0 to 1,000,000
+abbrev pub places : ℕ
+places = 3295
+
+abbrev pub heights : ℕ
+heights = 1000001
+
 -- all that may come, but for eop, which is not cut short, and with one character for all
 unfoldable pub mayBeginIn : PageState → List ℕ → Bool
 mayBeginIn h s =
     someBelow 120 (λ f. mayBeginAs h s (defining f))
     || (someBelow 120 (λ f. mayBeginAs h s (selecting f))
-    || (someBelow 3295 (λ k. mayBeginAs h s (across ((pos k -ℤ pos 55) -ℤ h .position .x)))
-    || (someBelow 1000001 (λ k. mayBeginAs h s (downward (pos (3 * k) -ℤ h .position .y))) || mayBeginAs h s (putting 1))))
+    || (someBelow places (λ k. mayBeginAs h s (across (entryX k -ℤ h .position .x)))
+    || (someBelow heights (λ k. mayBeginAs h s (downward (pos (3 * k) -ℤ h .position .y))) || mayBeginAs h s (putting 1))))
 
 unfoldable pub mayBegin : State → List ℕ → Bool
 mayBegin start s = begins s preambleBytes
@@ -317,4 +190,4 @@ readResult (bad place) = refusal notOurs place
 
 -- 20, 46, 12
 unfoldable pub read2Result : List ℕ → ℕ → Result
-read2Result dvi room = cond (ltb maxDvi2 (length dvi)) (refusal dviTooLong 0) (ifRoom noGalleyRoom room (readResult (readFile dvi)))
+read2Result dvi room = cond (ltb maxDvi2 (length dvi)) (refusal fileTooLong 0) (ifRoom noGalleyRoom room (readResult (readFile dvi)))

@@ -12,12 +12,13 @@ use mathlib.Core.List.{List, [], _∷_, _++_}
 use mathlib.Core.Logic.{_↔_}
 use mathlib.Core.Option.{some}
 use Prim.Native.Nat.{ℕ, suc, _+_, _≤_}
+use native.Mathlib.Nat.{suc-ne-zero}
 use native.Mathlib.Omega.{arith}
 use borrow.Author.Tests.{le-ltb, le-leb}
 use lib.Dec.{ltb, leb}
 use lib.ListN.{length, take, length-append}
 use lib.Seq.{take-at, drop-at}
-use Rattle.octets.specs.Answer.{refusal, written, outcome, ifRoom, dviTooLong, noGalleyRoom, notOurs}
+use Rattle.octets.specs.Answer.{refusal, written, outcome, ifRoom, fileTooLong, noGalleyRoom, notOurs}
 use Rattle.octets.specs.AnswerLaws.{room-made, room-enough, accepted-room}
 use Rattle.galley_file.specs.declared.form.Form.the-variants.{New}
 use Rattle.galley_file.specs.declared.item.Item.{Item}
@@ -65,7 +66,7 @@ reads-back is w = read-path 0 (file-path is w)
 -- ---- exactly
 
 no-items : {X : Type 0} {p : ℕ} {is : List Item} → bad p ≡ gives is → X
-no-items e = let z : _≡_ {A = ℕ} 0 1 = cc in absurd (omega arith)
+no-items e = absurd (suc-ne-zero 0 cc)
 
 items-same : {is js : List Item} → gives is ≡ gives js → is ≡ js
 items-same e = cc
@@ -132,10 +133,10 @@ accepts-exactly s g room = (λ e. there (ltb maxDvi2 (length s)) e, λ k. back k
           galley-is = b;
           fits = accepted-room noGalleyRoom room (length g) (written (galley New is)) (sym (ap outcome e));
         }
-    given (bad place) q e = let w = room-made noGalleyRoom room (refusal notOurs place) g e in let z : _≡_ {A = ℕ} 0 1 = cc in absurd (omega arith)
+    given (bad place) q e = let w = room-made noGalleyRoom room (refusal notOurs place) g e in absurd (suc-ne-zero 0 cc)
 
-    there : (t : Bool) → cond t (refusal dviTooLong 0) (ifRoom noGalleyRoom room (readResult (readFile s))) ≡ written g → GivenBack s g room
-    there true e = let z : _≡_ {A = ℕ} 0 1 = cc in absurd (omega arith)
+    there : (t : Bool) → cond t (refusal fileTooLong 0) (ifRoom noGalleyRoom room (readResult (readFile s))) ≡ written g → GivenBack s g room
+    there true e = absurd (suc-ne-zero 0 cc)
     there false e = given (readFile s) refl e
 
     back : GivenBack s g room → read2Result s room ≡ written g

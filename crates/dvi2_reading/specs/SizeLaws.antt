@@ -14,9 +14,9 @@ use Rattle.octets.specs.Octets.{numberFrom, bytes, signedBytes}
 use Rattle.octets.specs.OctetsLaws.{by-cond, length-signedBytes}
 use Rattle.galley_file.specs.declared.character.Character.{Character}
 use Rattle.dvi.specs.Writer.{nameOf}
-use Rattle.dvi2.specs.Command.{PUT1, BOP, EOP, RIGHT1, DOWN1, FNTNUM0, FNT1, PRE, POST, POSTPOST, firstForms, lastForms, formOf}
-use Rattle.dvi2.specs.Writer.{widthOf, selects, definition, shortest, unitBytes, preambleBytes, bopBytes, postBytes}
-use Rattle.dvi2.specs.WriterLaws.{widthOf-range, length-bop, length-post}
+use Rattle.dvi2.specs.Command.{PUT1, BOP, EOP, RIGHT1, DOWN1, FNTNUM0, FNT1, PRE, POST, POSTPOST, firstLayouts, lastLayouts, layoutOf}
+use Rattle.dvi2.specs.Writer.{parameterWidth, selects, definition, shortest, unitBytes, preambleBytes, bopBytes, postBytes}
+use Rattle.dvi2.specs.WriterLaws.{parameterWidth-range, length-bop, length-post}
 use Rattle.dvi2_reading.specs.Beginning.{sizeOf, parameters, commandSize}
 
 pub record Command (c : List ℕ) : Type 0 where
@@ -40,23 +40,23 @@ unfolding commandSize parameters bytes
 postpost-command n = record { sized = λ w. refl; some-byte = omega arith }
 
 pub fill-command : Command (223 ∷ [])
-unfolding commandSize parameters sizeOf formOf
+unfolding commandSize parameters sizeOf layoutOf
 fill-command = record { sized = λ w. refl; some-byte = omega arith }
 
 pub eop-command : Command (EOP ∷ [])
-unfolding commandSize parameters sizeOf formOf firstForms
+unfolding commandSize parameters sizeOf layoutOf firstLayouts
 eop-command = record { sized = λ w. refl; some-byte = omega arith }
 
 pub put-command : (c : ℕ) → Command (PUT1 ∷ c ∷ [])
-unfolding commandSize parameters sizeOf formOf firstForms
+unfolding commandSize parameters sizeOf layoutOf firstLayouts
 put-command c = record { sized = λ w. refl; some-byte = omega arith }
 
 pub definition-command : (f : ℕ) → Command (definition f)
-unfolding commandSize parameters sizeOf formOf lastForms definition bytes numberFrom nameOf
+unfolding commandSize parameters sizeOf layoutOf lastLayouts definition bytes numberFrom nameOf
 definition-command f = record { sized = λ w. refl; some-byte = omega arith }
 
 pub selects-command : (f : ℕ) → Command (selects f)
-unfolding selects commandSize parameters formOf sizeOf lastForms
+unfolding selects commandSize parameters layoutOf sizeOf lastLayouts
 selects-command f =
     by-cond Command (ltb f 64) _ _
     (λ e. record { sized = λ w. one w (ltb-true f 64 e); some-byte = omega arith })
@@ -87,21 +87,21 @@ of-width op (suc (suc (suc (suc zero)))) bs a b c d l h = d
 of-width op (suc (suc (suc (suc (suc k))))) bs a b c d l h = absurd (omega arith)
 
 pub right-command : (m : ℤ) → Command (shortest RIGHT1 m)
-unfolding shortest commandSize parameters sizeOf formOf firstForms
+unfolding shortest commandSize parameters sizeOf layoutOf firstLayouts
 right-command m =
-    let r = widthOf-range m in
-    let l = length-signedBytes (widthOf m) m in
+    let r = parameterWidth-range m in
+    let l = length-signedBytes (parameterWidth m) m in
     record {
-      sized = λ w. of-width RIGHT1 (widthOf m) (signedBytes (widthOf m) m ++ w) refl refl refl refl (r .0) (r .1) ∙ ap suc (sym l);
+      sized = λ w. of-width RIGHT1 (parameterWidth m) (signedBytes (parameterWidth m) m ++ w) refl refl refl refl (r .0) (r .1) ∙ ap suc (sym l);
       some-byte = omega arith;
     }
 
 pub down-command : (m : ℤ) → Command (shortest DOWN1 m)
-unfolding shortest commandSize parameters sizeOf formOf firstForms
+unfolding shortest commandSize parameters sizeOf layoutOf firstLayouts
 down-command m =
-    let r = widthOf-range m in
-    let l = length-signedBytes (widthOf m) m in
+    let r = parameterWidth-range m in
+    let l = length-signedBytes (parameterWidth m) m in
     record {
-      sized = λ w. of-width DOWN1 (widthOf m) (signedBytes (widthOf m) m ++ w) refl refl refl refl (r .0) (r .1) ∙ ap suc (sym l);
+      sized = λ w. of-width DOWN1 (parameterWidth m) (signedBytes (parameterWidth m) m ++ w) refl refl refl refl (r .0) (r .1) ∙ ap suc (sym l);
       some-byte = omega arith;
     }

@@ -9,7 +9,7 @@ use lib.Dec.{eqb}
 use lib.ListN.{length, getD, take, drop, List·getD-append, take-append-drop, length-drop}
 use lib.Seq.{length-take-le, take-append-le, drop-append-le, getD-take}
 use Rattle.octets.specs.Octets.{number}
-use Rattle.dvi2.specs.Command.{BOP, PRE, POST, POSTPOST, Form, barred, bare, passes, takes, passesText, defines, formOf}
+use Rattle.dvi2.specs.Command.{BOP, PRE, POST, POSTPOST, Layout, barred, bare, passes, takes, passesText, defines, layoutOf}
 use Rattle.dvi2_reading.specs.Beginning.{sizeOf, parameters}
 
 module _ (ps rest : List ℕ) (N : ℕ) (h : N ≤ length ps) where
@@ -23,7 +23,7 @@ module _ (ps rest : List ℕ) (N : ℕ) (h : N ≤ length ps) where
           let m = length-drop i (take N ps) in
           ap (take k) (drop-append-le i (take N ps) w (omega arith)) ∙ take-append-le k (drop i (take N ps)) w (omega arith)
 
-  size-kept : (f : Form) → sizeOf f ps ≡ N → sizeOf f (take N ps ++ rest) ≡ N
+  size-kept : (f : Layout) → sizeOf f ps ≡ N → sizeOf f (take N ps ++ rest) ≡ N
   unfolding sizeOf
   size-kept barred e = e
   size-kept (bare c) e = e
@@ -40,10 +40,10 @@ module _ (ps rest : List ℕ) (N : ℕ) (h : N ≤ length ps) where
   unfolding parameters
   parameters-kept op = go (eqb op BOP) (eqb op PRE) (eqb op POST) (eqb op POSTPOST)
     where
-      go : (a b c d : Bool) → cond a 44 (cond b (14 + getD ps 13 0) (cond c 28 (cond d 5 (sizeOf (formOf op) ps)))) ≡ N
-          → cond a 44 (cond b (14 + getD (take N ps ++ rest) 13 0) (cond c 28 (cond d 5 (sizeOf (formOf op) (take N ps ++ rest))))) ≡ N
+      go : (a b c d : Bool) → cond a 44 (cond b (14 + getD ps 13 0) (cond c 28 (cond d 5 (sizeOf (layoutOf op) ps)))) ≡ N
+          → cond a 44 (cond b (14 + getD (take N ps ++ rest) 13 0) (cond c 28 (cond d 5 (sizeOf (layoutOf op) (take N ps ++ rest))))) ≡ N
       go true b c d e = e
       go false true c d e = ap (λ (n : ℕ). 14 + n) (byte-kept 13 (omega arith)) ∙ e
       go false false true d e = e
       go false false false true e = e
-      go false false false false e = size-kept (formOf op) e
+      go false false false false e = size-kept (layoutOf op) e

@@ -12,6 +12,7 @@ use mathlib.Core.List.{List, [], _∷_, _++_}
 use mathlib.Core.Option.{Option, none, some}
 use Prim.Native.Nat.{ℕ, suc, _+_, _≤_, _<_}
 use native.Mathlib.Numerals.{add-one}
+use native.Mathlib.Nat.{suc-ne-zero}
 use native.Mathlib.Omega.{arith}
 use borrow.Author.Tests.{leb-true, leb-false, lt-ltb}
 use lib.Dec.{leb}
@@ -22,7 +23,8 @@ use Rattle.galley_file.specs.declared.item.Item.the-variants.{Cut}
 use Rattle.galley_file.specs.Galley.{maxItems}
 use Rattle.dvi2.specs.Writer.{preambleBytes, bopBytes, postBytes}
 use Rattle.dvi2_reading.specs.Beginning.{parameters}
-use Rattle.dvi2_reading.specs.Reading.{begins, isMore, State, start, opened, inPage, between, closing, newPageState, firstBop, furtherBop, postOf, closingOf, next, mayBegin, bad, atEnd, Step, refuse, short, go, wholeStep, step, follow, read, readFile}
+use Rattle.dvi2_reading.specs.PageReading.{begins, isMore}
+use Rattle.dvi2_reading.specs.Reading.{State, start, opened, inPage, between, closing, newPageState, firstBop, furtherBop, postOf, closingOf, next, mayBegin, bad, atEnd, Step, refuse, short, go, wholeStep, step, follow, read, readFile}
 use Rattle.dvi2_reading.specs.BytesLaws.{both-true, left-true, right-true, is-begins}
 use Rattle.dvi2_reading.specs.SizeLaws.{Command, preamble-command}
 use Rattle.dvi2_reading.specs.CommandLaws.{is-only}
@@ -46,13 +48,13 @@ step-whole q r b n ps = by-size (leb N (length ps)) refl (next q (b ∷ take N p
 
     by-size : (t : Bool) → leb N (length ps) ≡ t → (o : Option State) → next q (b ∷ take N ps) ≡ o → (u : Bool) → cond t (wholeStep N o) (cond u short refuse) ≡ go r n
         → (n ≤ length ps) × (next q (b ∷ take n ps) ≡ some r)
-    by-size true e none k u h = let z : _≡_ {A = ℕ} 0 1 = cc in absurd (omega arith)
+    by-size true e none k u h = absurd (suc-ne-zero 0 cc)
     by-size true e (some x) k u h =
         let p : x ≡ r = cc in
         let m : N ≡ n = cc in
         (subst (λ (j : ℕ). j ≤ length ps) m (leb-true N (length ps) e), subst (λ (j : ℕ). next q (b ∷ take j ps) ≡ some r) m (k ∙ ap some p))
-    by-size false e o k true h = let z : _≡_ {A = ℕ} 0 1 = cc in absurd (omega arith)
-    by-size false e o k false h = let z : _≡_ {A = ℕ} 0 1 = cc in absurd (omega arith)
+    by-size false e o k true h = absurd (suc-ne-zero 0 cc)
+    by-size false e o k false h = absurd (suc-ne-zero 0 cc)
 
 module _ (s : List ℕ) (q : State) (at : ℕ) (k : Standing s q at) where
   module _ (l : at < length s) where

@@ -5,13 +5,15 @@
 -- Assumes nothing.
 use mathlib.Core.Path.{_≡_, refl, sym, ap, subst, _∙_}
 use mathlib.Core.Bool.{Bool, true, false, cond}
-use mathlib.Core.List.{List, [], _∷_, _++_, map, append-assoc, append-nil, foldl-append}
+use mathlib.Core.List.{List, [], _∷_, _++_, map, append-assoc, append-nil, foldl-append, flatten}
 use mathlib.Core.Option.{none, some}
 use Prim.Native.Nat.{ℕ, zero, suc, _+_, _<_}
+use native.Mathlib.Nat.{suc-ne-zero}
 use native.Mathlib.Omega.{arith}
 use borrow.Author.Tests.{ltb-true}
 use lib.IntN.{pos, negsuc}
 use lib.ListN.{length}
+use Rattle.integers.specs.Parts.{integers}
 use Rattle.octets.specs.Octets.{bytes}
 use Rattle.octets.specs.Transducer.{transduced}
 use Rattle.galley_file.specs.declared.item.Item.{Item}
@@ -20,38 +22,30 @@ use Rattle.galley_file.specs.Item.{charactersOf}
 use Rattle.galley_file.specs.Galley.{maxItems, nil}
 use Rattle.extents.specs.FontMarks.{usedFonts}
 use Rattle.dvi.specs.Writer.{startPosition}
+use Rattle.dvi.specs.WritingLaws.{flatten-append}
 use Rattle.dvi2.specs.Command.{EOP, POSTPOST}
-use Rattle.dvi2.specs.Writer.{definition, preambleBytes, Writing, firstWriting, itemBytes, writingAfter, itemsBytes, writingAfterAll, pagesBytes, definitionBytes, postBytes, postambleBytes, commandBytes, fillers, bytes223, dvi2File}
+use Rattle.dvi2.specs.Writer.{definition, preambleBytes, Writing, firstWriting, itemBytes, writingAfter, pagesBytes, definitionBytes, postBytes, postambleBytes, commandBytes, fillers, bytes223, dvi2File}
 use Rattle.dvi2_reading.specs.Beginning.{Writable, Begins}
-use Rattle.dvi2_reading.specs.Reading.{same, inBytes, isDown, isMore, State, start, opened, inPage, between, closing, pageStateAfter, newPageState, firstBop, furtherBop, postOf, fill, closingOf, only, next}
+use Rattle.dvi2_reading.specs.PageReading.{same, inBytes, isDown, isMore}
+use Rattle.dvi2_reading.specs.Reading.{State, start, opened, inPage, between, closing, pageStateAfter, newPageState, firstBop, furtherBop, postOf, fill, closingOf, only, next}
 use Rattle.dvi2_reading.specs.BytesLaws.{same-is}
 use Rattle.dvi2_reading.specs.SizeLaws.{Command, preamble-command, bop-command, post-command, postpost-command, fill-command, definition-command}
 use Rattle.dvi2_reading.specs.CommandLaws.{inBytes-command, next-page, only-is}
-use Rattle.dvi2_reading.specs.Reached.{writingOf, openBytes, PageReached, joined, Between, Commands, no-more, one-more, Closing, Reached}
+use Rattle.dvi2_reading.specs.Reached.{writingOf, openBytes, PageReached, Between, Commands, no-more, one-more, Closing, Reached}
 use Rattle.dvi2_reading.specs.PieceLaws.{writable-more, open-more, pages-open, closeBytes, file-pages, file-open}
 use Rattle.dvi2_reading.specs.PageLaws.{page-reached}
 use Rattle.dvi2_reading.specs.LiveLaws.{page-live}
 
 -- ---- the postamble
 
-joined-append : (es fs : List (List ℕ)) → joined (es ++ fs) ≡ joined es ++ joined fs
-unfolding joined
-joined-append [] fs = refl
-joined-append (e ∷ es) fs = ap (λ (l : List ℕ). e ++ l) (joined-append es fs) ∙ sym (append-assoc e (joined es) (joined fs))
+flatten-fill : (n : ℕ) → flatten (fill n) ≡ bytes223 n
+unfolding flatten fill bytes223
+flatten-fill zero = refl
+flatten-fill (suc n) = ap (λ (l : List ℕ). 223 ∷ l) (flatten-fill n)
 
-joined-definitions : (fs : List ℕ) → joined (map definition fs) ≡ definitionBytes fs
-unfolding joined definitionBytes
-joined-definitions [] = refl
-joined-definitions (f ∷ fs) = ap (λ (l : List ℕ). definition f ++ l) (joined-definitions fs)
-
-joined-fill : (n : ℕ) → joined (fill n) ≡ bytes223 n
-unfolding joined fill bytes223
-joined-fill zero = refl
-joined-fill (suc n) = ap (λ (l : List ℕ). 223 ∷ l) (joined-fill n)
-
-pub close-joined : (is : List Item) → closeBytes is ≡ postOf is ++ joined (closingOf is)
-unfolding closeBytes postambleBytes postOf closingOf joined
-close-joined is =
+pub close-flatten : (is : List Item) → closeBytes is ≡ postOf is ++ flatten (closingOf is)
+unfolding closeBytes postambleBytes postOf closingOf flatten
+close-flatten is =
     let A = postBytes (writingOf is .bop) (writingOf is .page) (charactersOf is) in
     let D = definitionBytes (usedFonts 120 (charactersOf is)) in
     let Q = POSTPOST ∷ bytes 4 (length (pagesBytes is)) ++ (2 ∷ []) in
@@ -59,8 +53,8 @@ close-joined is =
     append-assoc A (D ++ Q) (bytes223 N)
     ∙ ap (λ (l : List ℕ). A ++ l)
     (append-assoc D Q (bytes223 N)
-    ∙ (λ i. sym (joined-definitions (usedFonts 120 (charactersOf is))) i ++ (Q ++ sym (joined-fill N) i))
-    ∙ sym (joined-append (map definition (usedFonts 120 (charactersOf is))) (Q ∷ fill N)))
+    ∙ ap (λ (l : List ℕ). D ++ (Q ++ l)) (sym (flatten-fill N))
+    ∙ sym (flatten-append (map definition (usedFonts 120 (charactersOf is))) (Q ∷ fill N)))
 
 commands-append : {es fs : List (List ℕ)} → Commands es → Commands fs → Commands (es ++ fs)
 commands-append no-more d = d
@@ -92,7 +86,7 @@ unfolding next
 onward is c r = go (same c (postOf is)) refl (isMore is) refl
   where
     nothing : {X : Type 0} → none ≡ some r → X
-    nothing e = let z : _≡_ {A = ℕ} 0 1 = cc in absurd (omega arith)
+    nothing e = absurd (suc-ne-zero 0 cc)
 
     go : (t : Bool) → same c (postOf is) ≡ t → (u : Bool) → isMore is ≡ u
         → cond t (some (closing is (closingOf is))) (cond u (only c (furtherBop (writingOf is)) (inPage (newPageState (is ++ (Cut ∷ []))))) none) ≡ some r
@@ -127,7 +121,7 @@ next-command (between is) r bs c k e = go (onward is c r e)
     go : Onward is c r → Command c
     go (to-post b l) = subst Command (sym b) (of-post is)
     go (to-page b m l) = subst Command (sym b) (further-command (writingOf is))
-next-command (closing is []) r bs c k e = let z : _≡_ {A = ℕ} 0 1 = cc in absurd (omega arith)
+next-command (closing is []) r bs c k e = absurd (suc-ne-zero 0 cc)
 next-command (closing is (e₁ ∷ es)) r bs c k e = subst Command (sym (only-is c e₁ (closing is es) r e .bytes-are)) (head (k .commands))
   where
     head : Commands (e₁ ∷ es) → Command e₁
@@ -143,11 +137,11 @@ unfolding newPageState startPosition isDown
 new-page is bs w b p =
     record {
       writable = w;
-      x-small = omega arith;
+      x-between = (omega integers, omega integers);
       y-down = refl;
       rest = [];
       bytes-are = b ∙ sym (append-nil (openBytes is));
-      staged = record { position-is = p; rest-is = refl; fonts = λ g e. let z : _≡_ {A = ℕ} 0 1 = cc in absurd (omega arith) };
+      staged = record { position-is = p; rest-is = refl; fonts = λ g e. absurd (suc-ne-zero 0 cc) };
     }
 
 open-none : openBytes [] ≡ preambleBytes ++ firstBop
@@ -183,16 +177,16 @@ post-closing is bs k =
     record {
       writable = k .writable;
       bytes-are =
-          append-assoc bs (postOf is) (joined (closingOf is))
-          ∙ (λ i. k .bytes-are i ++ sym (close-joined is) i)
+          append-assoc bs (postOf is) (flatten (closingOf is))
+          ∙ (λ i. k .bytes-are i ++ sym (close-flatten is) i)
           ∙ sym (file-pages is);
       commands = closing-commands is;
     }
 
 next-closing : (is : List Item) (e : List ℕ) (es : List (List ℕ)) (bs : List ℕ) → Closing is (e ∷ es) bs → Closing is es (bs ++ e)
-unfolding joined
+unfolding flatten
 next-closing is e es bs k =
-    record { writable = k .writable; bytes-are = append-assoc bs e (joined es) ∙ k .bytes-are; commands = tail (k .commands) }
+    record { writable = k .writable; bytes-are = append-assoc bs e (flatten es) ∙ k .bytes-are; commands = tail (k .commands) }
   where
     tail : Commands (e ∷ es) → Commands es
     tail (one-more h t) = t
@@ -217,7 +211,7 @@ module _ (bs c : List ℕ) where
       go : Onward is c r → Reached r (bs ++ c)
       go (to-post b l) = to (closing is (closingOf is)) r (postOf is) b l (post-closing is bs k)
       go (to-page b m l) = to (inPage (newPageState (is ++ (Cut ∷ [])))) r (furtherBop (writingOf is)) b l (cut-page is bs k m)
-  next-reached (closing is []) r k e = let z : _≡_ {A = ℕ} 0 1 = cc in absurd (omega arith)
+  next-reached (closing is []) r k e = absurd (suc-ne-zero 0 cc)
   next-reached (closing is (e₁ ∷ es)) r k e =
       let o = only-is c e₁ (closing is es) r e in
       to (closing is es) r e₁ (o .bytes-are) (o .leads) (next-closing is e₁ es bs k)
@@ -238,4 +232,4 @@ live opened bs k =
     ∙ sym (file-open []))
 live (inPage h) bs k = page-live h bs k
 live (between is) bs k = made is (k .writable) bs (closeBytes is) (ap (λ (l : List ℕ). l ++ closeBytes is) (k .bytes-are) ∙ sym (file-pages is))
-live (closing is es) bs k = made is (k .writable) bs (joined es) (k .bytes-are)
+live (closing is es) bs k = made is (k .writable) bs (flatten es) (k .bytes-are)

@@ -10,6 +10,7 @@ use mathlib.Core.Bool.{Bool, true, false, cond, _&&_}
 use mathlib.Core.List.{List, [], _∷_, _++_, append-assoc, append-nil}
 use mathlib.Core.Option.{Option, none, some}
 use Prim.Native.Nat.{ℕ, _+_, _*_, _<_}
+use native.Mathlib.Nat.{suc-ne-zero}
 use native.Mathlib.Omega.{arith}
 use borrow.Author.Tests.{le-leb, lt-leb, leb-true, leb-false, ltb-true}
 use lib.Dec.{leb}
@@ -17,11 +18,13 @@ use lib.IntN.{pos, _-ℤ_}
 use lib.ListN.{length, take, drop, take-append-drop, length-append}
 use lib.Seq.{take-at}
 use Rattle.octets.specs.FieldLaws.{both}
+use Rattle.measure.specs.Target.{entryX}
 use Rattle.galley_file.specs.declared.item.Item.{Item}
 use Rattle.galley_file.specs.Galley.{maxItems}
 use Rattle.dvi2.specs.Writer.{preambleBytes}
 use Rattle.dvi2_reading.specs.Beginning.{parameters, commandSize}
-use Rattle.dvi2_reading.specs.Reading.{begins, someBelow, PageCommand, defining, selecting, across, downward, putting, inBytes, PageState, isMore, mayCome, State, start, opened, inPage, between, closing, newPageState, firstBop, furtherBop, postOf, only, next, mayBeginAs, mayBeginIn, mayBegin, refuse, short, go, wholeStep, step}
+use Rattle.dvi2_reading.specs.PageReading.{begins, someBelow, PageCommand, defining, selecting, across, downward, putting, inBytes, PageState, isMore, mayCome}
+use Rattle.dvi2_reading.specs.Reading.{State, start, opened, inPage, between, closing, newPageState, firstBop, furtherBop, postOf, only, next, mayBeginAs, mayBeginIn, mayBegin, refuse, short, go, wholeStep, step, places, heights}
 use Rattle.dvi2_reading.specs.BytesLaws.{either, begins-is, some-found}
 use Rattle.dvi2_reading.specs.SizeLaws.{Command}
 use Rattle.dvi2_reading.specs.StableLaws.{parameters-kept}
@@ -101,11 +104,11 @@ module _ (h : PageState) (s : List ℕ) where
       either (someBelow 120 (λ f. mayBeginAs h s (selecting f))) _ e₂ Which
       (λ a. let b = some-found 120 (λ f. mayBeginAs h s (selecting f)) a in which (selecting (b .found)) (b .holds))
       (λ e₃.
-      either (someBelow 3295 (λ n. mayBeginAs h s (across ((pos n -ℤ pos 55) -ℤ h .position .x)))) _ e₃ Which
-      (λ a. let b = some-found 3295 (λ n. mayBeginAs h s (across ((pos n -ℤ pos 55) -ℤ h .position .x))) a in which (across ((pos (b .found) -ℤ pos 55) -ℤ h .position .x)) (b .holds))
+      either (someBelow places (λ n. mayBeginAs h s (across (entryX n -ℤ h .position .x)))) _ e₃ Which
+      (λ a. let b = some-found places (λ n. mayBeginAs h s (across (entryX n -ℤ h .position .x))) a in which (across (entryX (b .found) -ℤ h .position .x)) (b .holds))
       (λ e₄.
-      either (someBelow 1000001 (λ n. mayBeginAs h s (downward (pos (3 * n) -ℤ h .position .y)))) _ e₄ Which
-      (λ a. let b = some-found 1000001 (λ n. mayBeginAs h s (downward (pos (3 * n) -ℤ h .position .y))) a in which (downward (pos (3 * b .found) -ℤ h .position .y)) (b .holds))
+      either (someBelow heights (λ n. mayBeginAs h s (downward (pos (3 * n) -ℤ h .position .y)))) _ e₄ Which
+      (λ a. let b = some-found heights (λ n. mayBeginAs h s (downward (pos (3 * n) -ℤ h .position .y))) a in which (downward (pos (3 * b .found) -ℤ h .position .y)) (b .holds))
       (λ a. which (putting 1) a))))
 
 pub page-refuse : (h : PageState) (b : ℕ) (ps : List ℕ) → ((d : PageCommand) → mayCome h d ≡ true → Alike (b ∷ ps) (inBytes d) → ⊥) → step (inPage h) b ps ≡ refuse
@@ -141,7 +144,7 @@ closing-refuse is e es b ps f = only-cases (closing is (e ∷ es)) (closing is e
 pub ended-refuse : (is : List Item) (b : ℕ) (ps : List ℕ) → step (closing is []) b ps ≡ refuse
 unfolding next mayBegin
 ended-refuse is b ps =
-    none-refuse (closing is []) b ps (λ c w r e n. let z : _≡_ {A = ℕ} 0 1 = cc in omega arith) (λ m. let z : _≡_ {A = ℕ} 0 1 = cc in omega arith)
+    none-refuse (closing is []) b ps (λ c w r e n. suc-ne-zero 0 cc) (λ m. suc-ne-zero 0 cc)
 
 pub between-refuse : (is : List Item) (b : ℕ) (ps : List ℕ) → (Alike (b ∷ ps) (postOf is) → ⊥) → (length is < maxItems → Alike (b ∷ ps) (furtherBop (writingOf is)) → ⊥)
     → step (between is) b ps ≡ refuse

@@ -5,7 +5,7 @@ use mathlib.Core.Bool.{true}
 use mathlib.Core.List.{List, [], _∷_, _++_, append-assoc, append-nil}
 use mathlib.Core.Option.{Option, none, some}
 use Prim.Native.Nat.{ℕ, _+_, _-_}
-use native.Mathlib.Omega.{arith}
+use native.Mathlib.Nat.{suc-ne-zero}
 use lib.IntN.{ℤ, _-ℤ_}
 use Rattle.galley_file.specs.Font.{sizeIndex, isDouble}
 use Rattle.galley_file.specs.declared.character.Character.{Character}
@@ -16,7 +16,7 @@ use Rattle.extents.specs.FontMarks.{uses}
 use Rattle.dvi.specs.Writer.{Position}
 use Rattle.dvi2.specs.Command.{PUT1, RIGHT1, DOWN1}
 use Rattle.dvi2.specs.Writer.{hOf, vOf, fontChange, move, commandsOf, Writing, itemBytes}
-use Rattle.dvi2_reading.specs.Reading.{Stage, ready, named, chosen, moved, lowered, isReady, beforeRight, beforeDown, beforePut, validIn}
+use Rattle.dvi2_reading.specs.PageReading.{Stage, ready, named, chosen, moved, lowered, isReady, beforeRight, beforeDown, beforePut, validIn}
 use Rattle.dvi2_reading.specs.Reached.{writingOf, wayTo, AtReady, Way, Staged}
 use Rattle.dvi2_reading.specs.PieceLaws.{nowhere, move-none, change-none}
 
@@ -56,29 +56,29 @@ pub record There (o : Option ℕ) (x : ℤ) : Type 0 where
   pub x-valid : validX (isDouble (sizeIndex font)) x ≡ true
 
 pub font-there : (o : Option ℕ) (x : ℤ) → validIn o x ≡ true → There o x
-font-there none x e = let z : _≡_ {A = ℕ} 0 1 = cc in absurd (omega arith)
+font-there none x e = absurd (suc-ne-zero 0 cc)
 font-there (some f) x e = record { font = f; font-is = refl; x-valid = e }
 
 pub right-put : (s : Stage) → beforeRight s ≡ true → beforePut s ≡ true
 right-put ready e = e
 right-put named e = e
 right-put chosen e = e
-right-put moved e = let z : _≡_ {A = ℕ} 0 1 = cc in absurd (omega arith)
-right-put lowered e = let z : _≡_ {A = ℕ} 0 1 = cc in absurd (omega arith)
+right-put moved e = absurd (suc-ne-zero 0 cc)
+right-put lowered e = absurd (suc-ne-zero 0 cc)
 
 pub right-down : (s : Stage) → beforeRight s ≡ true → beforeDown s ≡ true
 right-down ready e = e
 right-down named e = e
 right-down chosen e = e
-right-down moved e = let z : _≡_ {A = ℕ} 0 1 = cc in absurd (omega arith)
-right-down lowered e = let z : _≡_ {A = ℕ} 0 1 = cc in absurd (omega arith)
+right-down moved e = absurd (suc-ne-zero 0 cc)
+right-down lowered e = absurd (suc-ne-zero 0 cc)
 
 pub down-put : (s : Stage) → beforeDown s ≡ true → beforePut s ≡ true
 down-put ready e = e
 down-put named e = e
 down-put chosen e = e
 down-put moved e = e
-down-put lowered e = let z : _≡_ {A = ℕ} 0 1 = cc in absurd (omega arith)
+down-put lowered e = absurd (suc-ne-zero 0 cc)
 
 module _ (is : List Item) (position : Position) (rest : List ℕ) where
   ready-way : AtReady is position rest → (f : ℕ) → position .font ≡ some f → Way is position rest
@@ -100,31 +100,31 @@ module _ (is : List Item) (position : Position) (rest : List ℕ) where
 
   pub staged-way : (s : Stage) → Staged s is position rest → beforePut s ≡ true → (f : ℕ) → position .font ≡ some f → Way is position rest
   staged-way ready a b f e = ready-way a f e
-  staged-way named a b f e = let z : _≡_ {A = ℕ} 0 1 = cc in absurd (omega arith)
+  staged-way named a b f e = absurd (suc-ne-zero 0 cc)
   staged-way chosen a b f e = a .way
   staged-way moved a b f e = a .way
   staged-way lowered a b f e = a .way
 
   pub staged-x : (s : Stage) → Staged s is position rest → beforeRight s ≡ true → position .x ≡ writingOf is .position .x
   staged-x ready a b = ap (λ (p : Position). p .x) (a .position-is)
-  staged-x named a b = let z : _≡_ {A = ℕ} 0 1 = cc in absurd (omega arith)
+  staged-x named a b = absurd (suc-ne-zero 0 cc)
   staged-x chosen a b = a .x-is
-  staged-x moved a b = let z : _≡_ {A = ℕ} 0 1 = cc in absurd (omega arith)
-  staged-x lowered a b = let z : _≡_ {A = ℕ} 0 1 = cc in absurd (omega arith)
+  staged-x moved a b = absurd (suc-ne-zero 0 cc)
+  staged-x lowered a b = absurd (suc-ne-zero 0 cc)
 
   pub staged-y : (s : Stage) → Staged s is position rest → beforeDown s ≡ true → position .y ≡ writingOf is .position .y
   staged-y ready a b = ap (λ (p : Position). p .y) (a .position-is)
-  staged-y named a b = let z : _≡_ {A = ℕ} 0 1 = cc in absurd (omega arith)
+  staged-y named a b = absurd (suc-ne-zero 0 cc)
   staged-y chosen a b = a .y-is
   staged-y moved a b = a .y-is
-  staged-y lowered a b = let z : _≡_ {A = ℕ} 0 1 = cc in absurd (omega arith)
+  staged-y lowered a b = absurd (suc-ne-zero 0 cc)
 
   pub staged-ready : (s : Stage) → isReady s ≡ true → Staged s is position rest → AtReady is position rest
   staged-ready ready b a = a
-  staged-ready named b a = let z : _≡_ {A = ℕ} 0 1 = cc in absurd (omega arith)
-  staged-ready chosen b a = let z : _≡_ {A = ℕ} 0 1 = cc in absurd (omega arith)
-  staged-ready moved b a = let z : _≡_ {A = ℕ} 0 1 = cc in absurd (omega arith)
-  staged-ready lowered b a = let z : _≡_ {A = ℕ} 0 1 = cc in absurd (omega arith)
+  staged-ready named b a = absurd (suc-ne-zero 0 cc)
+  staged-ready chosen b a = absurd (suc-ne-zero 0 cc)
+  staged-ready moved b a = absurd (suc-ne-zero 0 cc)
+  staged-ready lowered b a = absurd (suc-ne-zero 0 cc)
 
 -- the font of a way
 pub font-same : {is : List Item} {position : Position} {rest : List ℕ} (w : Way is position rest) {x : ℤ} (t : There (position .font) x) → t .font ≡ w .font

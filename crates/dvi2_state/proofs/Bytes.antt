@@ -1,23 +1,22 @@
 -- What begins a move, byte by byte; and where a character of a font may stand.
 -- Assumes nothing.
 use mathlib.Core.Path.{_≡_, refl, sym, ap, _∙_}
-use mathlib.Core.Bool.{Bool, true, false, _&&_}
-use mathlib.Core.Option.{Option, some}
+use mathlib.Core.Bool.{Bool, true, false}
+use mathlib.Core.Option.{Option}
 use mathlib.Core.List.{List, _++_, append-nil}
 use Prim.Native.Nat.{ℕ, zero, suc, _+_, _-_, _≤_, _<_}
 use native.Mathlib.Omega.{arith}
 use borrow.Author.Tests.{eq-eqb, ne-eqb}
-use lib.IntN.{ℤ, pos, negsuc}
-use lib.Signed.{leZ}
+use lib.IntN.{ℤ}
 use lib.ListN.{length, getD, drop, drop-of-length-le}
 use lib.Seq.{sets, drop-cons}
 use Rattle.octets.specs.Octets.{bytes, residue, signedBytes}
 use Rattle.octets.specs.OctetsLaws.{word-bytes}
 use Rattle.octets.specs.Write.{sets-start}
-use Rattle.dvi2.specs.Writer.{widthOf, shortest}
+use Rattle.dvi2.specs.Writer.{parameterWidth, shortest}
 use Rattle.galley_file.specs.Font.{sizeIndex, isDouble}
 use Rattle.galley_file.specs.Character.{validX}
-use Rattle.dvi2_reading.specs.Reading.{begins, validIn}
+use Rattle.dvi2_reading.specs.PageReading.{begins, validIn}
 use Rattle.dvi.specs.FontOrNone.{fontOrNone, font-some}
 
 -- ---- beginnings, byte by byte
@@ -45,15 +44,8 @@ pub no-font : (x : ℤ) (f : ℕ) → f ≡ 255 → false ≡ validIn (fontOrNon
 unfolding fontOrNone
 no-font x f e = rw (eq-eqb f 255 e)
 
-pub valid-double : (x : ℤ) (f i : ℕ) (d : Bool) → (f ≡ 255 → ⊥) → i ≡ sizeIndex f → d ≡ isDouble i → d ≡ true → (leZ (negsuc 54) x && leZ x (pos 3184)) ≡ validIn (fontOrNone f) x
-valid-double x f i d n a b e =
-    let k : isDouble (sizeIndex f) ≡ true = ap isDouble (sym a) ∙ sym b ∙ e in
-    sym (ap (λ (o : Option ℕ). validIn o x) (font-some f n) ∙ ap (λ (t : Bool). validX t x) k)
-
-pub valid-single : (x : ℤ) (f i : ℕ) (d : Bool) → (f ≡ 255 → ⊥) → i ≡ sizeIndex f → d ≡ isDouble i → d ≡ false → (leZ (pos 0) x && leZ x (pos 3239)) ≡ validIn (fontOrNone f) x
-valid-single x f i d n a b e =
-    let k : isDouble (sizeIndex f) ≡ false = ap isDouble (sym a) ∙ sym b ∙ e in
-    sym (ap (λ (o : Option ℕ). validIn o x) (font-some f n) ∙ ap (λ (t : Bool). validX t x) k)
+pub valid-font : (x : ℤ) (f i : ℕ) (d : Bool) → (f ≡ 255 → ⊥) → i ≡ sizeIndex f → d ≡ isDouble i → validX d x ≡ validIn (fontOrNone f) x
+valid-font x f i d n a b = ap (λ (t : Bool). validX t x) (b ∙ ap isDouble a) ∙ sym (ap (λ (o : Option ℕ). validIn o x) (font-some f n))
 
 pub four-left : (k : ℕ) → 1 ≤ k → k ≤ 4 → (k ≡ 1 → ⊥) → (k ≡ 2 → ⊥) → (k ≡ 3 → ⊥) → 4 ≡ k
 four-left zero l h a b c = absurd (omega arith)
@@ -83,7 +75,7 @@ drop-signed m k h = drop-bytes (residue 4294967296 m) k h ∙ word-bytes k m h
 pub over-four : (e xs : List ℕ) → length e ≡ 4 → length xs ≡ 4 → sets e 0 xs ≡ xs
 over-four e xs l m = sets-start e xs (omega arith) ∙ ap (λ (t : List ℕ). xs ++ t) (drop-of-length-le e {i = length xs} (omega arith)) ∙ append-nil xs
 
-module _ (s : List ℕ) (at : ℕ) (op w : ℕ) (m : ℤ) (h : at < length s) (e : w ≡ widthOf m) where
+module _ (s : List ℕ) (at : ℕ) (op w : ℕ) (m : ℤ) (h : at < length s) (e : w ≡ parameterWidth m) where
   pub move-other : (getD s at 0 ≡ op + (w - 1) → ⊥) → begins (drop at s) (shortest op m) ≡ false
   unfolding begins shortest
   move-other n = rw (drop-cons s at 0 h, ← e, ne-eqb (getD s at 0) (op + (w - 1)) n)

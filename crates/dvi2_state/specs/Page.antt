@@ -1,22 +1,28 @@
--- The code's types as those of the definitions.
---     stageOf, positionOf, pageStateOf     a state of a page, after some items
---     Near                                 the place is not far
---     stepOf                               a step
-use Prim.Native.Nat.{ℕ, _*_, _<_}
+-- The code's types as those of the definitions, and what a step is.
+--     stageOf, pageStateOf        a state of a page, after some items
+--     SoundPage                   its position is on the page, and its font is one of the 120
+--     stepOf                      a step
+--     StepIs                      a step is that of the command at a place, after these items
+--     StepsAs                     and so it is after any items to which one can be added
+--     MayMove                     a move of some bytes stands at a place
+--     rightBegins, downBegins     some bytes begin a move from a position to a place
+use Prim.Native.Nat.{ℕ, _+_, _≤_, _<_}
 use mathlib.Core.Path.{_≡_}
 use mathlib.Core.Bool.{Bool, not, _&&_}
 use mathlib.Core.List.{List, [], _∷_, _++_}
-use mathlib.Core.Option.{Option, some}
+use mathlib.Core.Option.{some}
 use lib.IntN.{ℤ, pos, _-ℤ_}
-use Rattle.integers.specs.Parts.{eqZ}
-use Rattle.dvi2.specs.Command.{RIGHT1, DOWN1}
-use Rattle.dvi2.specs.Writer.{shortest}
-use Rattle.dvi.specs.FontOrNone.{fontOrNone}
-use Rattle.dvi2_reading.specs.Reading.{begins}
-use lib.Signed.{mag}
+use lib.ListN.{length, getD, drop}
+use Rattle.integers.specs.Equality.{eqZ}
 use Rattle.galley_file.specs.declared.item.Item.{Item}
 use Rattle.galley_file.specs.declared.item.Item.the-variants.{Placed}
+use Rattle.galley_file.specs.Galley.{maxItems}
 use Rattle.dvi.specs.Writer.{Position}
+use Rattle.dvi.specs.FontOrNone.{fontOrNone}
+use Rattle.dvi2.specs.Command.{RIGHT1, DOWN1}
+use Rattle.dvi2.specs.Writer.{shortest}
+use Rattle.dvi2_commands.specs.Position.{positionOf, OnPage}
+use Rattle.dvi2_reading.specs.PageReading as Page
 use Rattle.dvi2_reading.specs.Reading as R
 use Rattle.dvi2_state.specs.declared.page_state.Stage.{Stage}
 use Rattle.dvi2_state.specs.declared.page_state.Stage.the-variants.{Ready, Named, Chosen, Moved, Lowered}
@@ -24,37 +30,46 @@ use Rattle.dvi2_state.specs.declared.page_state.PageState.{PageState}
 use Rattle.dvi2_state.specs.declared.page_state.Stepped.{Stepped}
 use Rattle.dvi2_state.specs.declared.page_state.Stepped.the-variants.{Bad, Short, End, Put, Go}
 
-abbrev pub stageOf : Stage → R.Stage
-stageOf Ready = R.ready
-stageOf Named = R.named
-stageOf Chosen = R.chosen
-stageOf Moved = R.moved
-stageOf Lowered = R.lowered
+abbrev pub stageOf : Stage → Page.Stage
+stageOf Ready = Page.ready
+stageOf Named = Page.named
+stageOf Chosen = Page.chosen
+stageOf Moved = Page.moved
+stageOf Lowered = Page.lowered
 
-abbrev pub positionOf : PageState → Position
-positionOf h = record { font = fontOrNone (h .font); x = h .x; y = h .y }
+abbrev pub pageStateOf : List Item → PageState → Page.PageState
+pageStateOf is h = record { items = is; stage = stageOf (h .stage); position = positionOf (h .position) }
 
-abbrev pub pageStateOf : List Item → PageState → R.PageState
-pageStateOf is h = record { items = is; stage = stageOf (h .stage); position = positionOf h }
-
--- the place is not far
-pub record Near (h : PageState) : Type 0 where
-  pub x-near : mag (h .x) < 4000
-  pub y-near : mag (h .y) < 4000000
-  pub font-near : (f : ℕ) → fontOrNone (h .font) ≡ some f → f < 120
+pub record SoundPage (h : PageState) : Type 0 where
+  pub on-page : OnPage (positionOf (h .position))
+  pub font-valid : (f : ℕ) → fontOrNone (h .position .font) ≡ some f → f < 120
 
 abbrev pub stepOf : List Item → PageState → Stepped → R.Step
 stepOf is h Bad = R.refuse
 stepOf is h Short = R.short
 stepOf is h End = R.go (R.between is) 0
-stepOf is h (Put c) = R.go (R.inPage (record { items = is ++ (Placed (R.characterOf (positionOf h) c) ∷ []); stage = R.ready; position = positionOf h })) 1
+stepOf is h (Put c) =
+    R.go (R.inPage (record { items = is ++ (Placed (R.characterOf (positionOf (h .position)) c) ∷ []); stage = Page.ready; position = positionOf (h .position) })) 1
 stepOf is h (Go g n) = R.go (R.inPage (pageStateOf is g)) n
 
--- these bytes begin a move right from x to the place k - 55, where a character of this font may stand
-unfoldable pub rightBegins : List ℕ → Option ℕ → ℤ → ℕ → Bool
-rightBegins s o x k =
-    begins s (shortest RIGHT1 ((pos k -ℤ pos 55) -ℤ x)) && (not (eqZ ((pos k -ℤ pos 55) -ℤ x) (pos 0)) && R.validIn o (pos k -ℤ pos 55))
+abbrev pub StepIs : List ℕ → ℕ → PageState → List Item → Stepped → Type 0
+StepIs s at h is r = stepOf is h r ≡ R.step (R.inPage (pageStateOf is h)) (getD s at 0) (drop (at + 1) s)
 
--- these bytes begin a move down from y to the height k
-unfoldable pub downBegins : List ℕ → ℤ → ℕ → Bool
-downBegins s y k = begins s (shortest DOWN1 (pos (3 * k) -ℤ y)) && not (eqZ (pos (3 * k) -ℤ y) (pos 0))
+abbrev pub StepsAs : List ℕ → ℕ → PageState → Stepped → Type 0
+StepsAs s at h r = (is : List Item) → length is < maxItems → StepIs s at h is r
+
+-- a command with this opcode stands at a place: a move of k bytes, from a sound state
+pub record MayMove (s : List ℕ) (at op k : ℕ) (h : PageState) : Type 0 where
+  pub inside : at < length s
+  pub opcode-is : getD s at 0 ≡ op
+  pub some-bytes : 1 ≤ k
+  pub few-bytes : k ≤ 4
+  pub sound : SoundPage h
+
+-- a move right to this place, where a character of the position's font may stand
+unfoldable pub rightBegins : List ℕ → Position → ℤ → Bool
+rightBegins s p to = Page.begins s (shortest RIGHT1 (to -ℤ p .x)) && (not (eqZ (to -ℤ p .x) (pos 0)) && Page.validIn (p .font) to)
+
+-- a move down to this place
+unfoldable pub downBegins : List ℕ → Position → ℤ → Bool
+downBegins s p to = Page.begins s (shortest DOWN1 (to -ℤ p .y)) && not (eqZ (to -ℤ p .y) (pos 0))

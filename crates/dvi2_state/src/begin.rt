@@ -1,23 +1,34 @@
 // Moves that are cut short: whether one that may come begins so.
 use crate::page_state;
 use dvi2_commands::command;
+use dvi2_commands::position;
+use dvi2_commands::position::Position;
+use measure::Quanta;
+use measure::Units;
 use octets::number;
 ghost use mathlib.Core.Path.{_≡_};
-ghost use mathlib.Core.Bool.{not, _&&_};
-ghost use Prim.Native.Nat.{_≤_, _<_};
-ghost use lib.IntN.{pos, _-ℤ_};
+ghost use Prim.Native.Nat.{_*_, _≤_, _<_};
+ghost use lib.IntN.{pos, negsuc, _*ℤ_};
 ghost use lib.ListN.{length, drop};
-ghost use lib.Signed.{mag};
-ghost use Rattle.integers.specs.Parts.{eqZ};
+ghost use lib.Signed.{_≤ℤ_};
+ghost use Rattle.measure.specs.Place.{carriageEnd, heightEnd};
+ghost use Rattle.measure.specs.Target.{entryX};
 ghost use Rattle.dvi2.specs.Writer as W;
-ghost use Rattle.dvi.specs.FontOrNone.{fontOrNone};
+ghost use Rattle.dvi2_commands.specs.Position.{positionOf, OnPage};
+ghost use Rattle.dvi2_reading.specs.PageReading as Page;
 ghost use Rattle.dvi2_reading.specs.Reading as R;
 ghost use Rattle.dvi2_state.specs.Page.{rightBegins, downBegins};
+
+// The places across, from -DOUBLE_SHIFT to CARRIAGE_END.
+const PLACES: u32 = 3_295;
+
+// The heights, from 0 to HEIGHT_END.
+const HEIGHTS: u32 = 1_000_001;
 
 // Whether s, from `at` to its end, begins what stands in e from `from` on.
 fn begins_from(s: &[u8], at: usize, e: &[u8], from: usize) -> bool
     requires { ⌜ (at ≤ length (now s)) × (from ≤ length (now e)) ⌝ }
-    ensures { λ r. ⌜ r ≡ R.begins (drop at (now (s .entry))) (drop from (now (e .entry))) ⌝ }
+    ensures { λ r. ⌜ r ≡ Page.begins (drop at (now (s .entry))) (drop from (now (e .entry))) ⌝ }
 {
     let mut i = at;
     let mut j = from;
@@ -37,9 +48,9 @@ fn begins_from(s: &[u8], at: usize, e: &[u8], from: usize) -> bool
 // Whether s, from `at` to its end, begins the move by m with the first opcode op.
 fn begins_move(s: &[u8], at: usize, op: u8, m: i32) -> bool
     requires { ⌜ (at < length (now s)) × (op ≤ 200) ⌝ }
-    ensures { λ r. ⌜ r ≡ R.begins (drop at (now (s .entry))) (W.shortest op m) ⌝ }
+    ensures { λ r. ⌜ r ≡ Page.begins (drop at (now (s .entry))) (W.shortest op m) ⌝ }
 {
-    let w = command::width_of(m);
+    let w = command::parameter_width(m);
     if s[at] as usize != op as usize + (w - 1) {
         return false;
     }
@@ -48,28 +59,29 @@ fn begins_move(s: &[u8], at: usize, op: u8, m: i32) -> bool
     begins_from(s, at + 1, &e, 4 - w)
 }
 
-// Whether s, from `at` to its end, begins a move right from x to a place where a character of font f may stand.
-fn right_begins(s: &[u8], at: usize, f: u8, x: i32, to: i32) -> bool
-    requires { ⌜ (at < length (now s)) × ((mag x < 4000) × (mag to < 4000)) ⌝ }
-    ensures { λ r. ⌜ r ≡ (R.begins (drop at (now (s .entry))) (W.shortest 143 (to -ℤ x)) && (not (eqZ (to -ℤ x) (pos 0)) && R.validIn (fontOrNone f) to)) ⌝ }
+// Whether s, from `at` to its end, begins a move right from p to a place where a character of its font may stand.
+fn right_begins(s: &[u8], at: usize, p: Position, to: Units) -> bool
+    requires { ⌜ (at < length (now s)) × (OnPage (positionOf p) × ((negsuc 54 ≤ℤ to .0) × (to .0 ≤ℤ carriageEnd))) ⌝ }
+    ensures { λ r. ⌜ r ≡ rightBegins (drop at (now (s .entry))) (positionOf p) (to .0) ⌝ }
 {
-    if x == to {
+    let m = to.0 - p.x.0;
+    if m == 0 {
         return false;
     }
-    if !page_state::valid_in(f, to) {
+    if !page_state::valid_in(p.font, to) {
         return false;
     }
-    begins_move(s, at, command::RIGHT1, to - x)
+    begins_move(s, at, command::RIGHT1, m)
 }
 
 // The same of any such place.
-pub fn may_begin_right(s: &[u8], at: usize, f: u8, x: i32) -> bool
-    requires { ⌜ (at < length (now s)) × (mag x < 4000) ⌝ }
-    ensures { λ r. ⌜ r ≡ R.someBelow 3295 (rightBegins (drop at (now (s .entry))) (fontOrNone f) x) ⌝ }
+pub fn may_begin_right(s: &[u8], at: usize, p: Position) -> bool
+    requires { ⌜ (at < length (now s)) × OnPage (positionOf p) ⌝ }
+    ensures { λ r. ⌜ r ≡ Page.someBelow R.places (λ k. rightBegins (drop at (now (s .entry))) (positionOf p) (entryX k)) ⌝ }
 {
     let mut k: u32 = 0;
-    while k < 3295 {
-        if right_begins(s, at, f, x, k as i32 - 55) {
+    while k < PLACES {
+        if right_begins(s, at, p, Units(k as i32 - measure::DOUBLE_SHIFT.0)) {
             return true;
         }
         k += 1;
@@ -77,25 +89,26 @@ pub fn may_begin_right(s: &[u8], at: usize, f: u8, x: i32) -> bool
     false
 }
 
-// Whether s, from `at` to its end, begins a move down from y to another place.
-fn down_begins(s: &[u8], at: usize, y: i32, to: i32) -> bool
-    requires { ⌜ (at < length (now s)) × ((mag y < 4000000) × (mag to < 4000000)) ⌝ }
-    ensures { λ r. ⌜ r ≡ (R.begins (drop at (now (s .entry))) (W.shortest 157 (to -ℤ y)) && not (eqZ (to -ℤ y) (pos 0))) ⌝ }
+// Whether s, from `at` to its end, begins a move down from p to another height.
+fn down_begins(s: &[u8], at: usize, p: Position, to: Quanta) -> bool
+    requires { ⌜ (at < length (now s)) × (OnPage (positionOf p) × ((pos 0 ≤ℤ to .0) × (to .0 ≤ℤ heightEnd))) ⌝ }
+    ensures { λ r. ⌜ r ≡ downBegins (drop at (now (s .entry))) (positionOf p) (pos 3 *ℤ to .0) ⌝ }
 {
-    if y == to {
+    let m = position::PER_QUANTUM * (to.0 - p.height.0);
+    if m == 0 {
         return false;
     }
-    begins_move(s, at, command::DOWN1, to - y)
+    begins_move(s, at, command::DOWN1, m)
 }
 
 // The same of any height.
-pub fn may_begin_down(s: &[u8], at: usize, y: i32) -> bool
-    requires { ⌜ (at < length (now s)) × (mag y < 4000000) ⌝ }
-    ensures { λ r. ⌜ r ≡ R.someBelow 1000001 (downBegins (drop at (now (s .entry))) y) ⌝ }
+pub fn may_begin_down(s: &[u8], at: usize, p: Position) -> bool
+    requires { ⌜ (at < length (now s)) × OnPage (positionOf p) ⌝ }
+    ensures { λ r. ⌜ r ≡ Page.someBelow R.heights (λ k. downBegins (drop at (now (s .entry))) (positionOf p) (pos (3 * k))) ⌝ }
 {
     let mut k: u32 = 0;
-    while k < 1_000_001 {
-        if down_begins(s, at, y, (3 * k) as i32) {
+    while k < HEIGHTS {
+        if down_begins(s, at, p, Quanta(k as i32)) {
             return true;
         }
         k += 1;

@@ -1,11 +1,12 @@
 // What is there of the next character of a page, and what a command leads to.
 use dvi::font_byte;
+use dvi2_commands::position::Position;
+use galley_file::character;
 use galley_file::font;
+use measure::Units;
 ghost use mathlib.Core.Path.{_≡_};
-ghost use mathlib.Core.Bool.{_&&_};
-ghost use lib.Signed.{leZ};
 ghost use Rattle.dvi.specs.FontOrNone.{fontOrNone};
-ghost use Rattle.dvi2_reading.specs.Reading as R;
+ghost use Rattle.dvi2_reading.specs.PageReading as Page;
 ghost use Rattle.dvi2_state.specs.Page.{stageOf};
 
 // What is there of the next character.
@@ -20,9 +21,7 @@ pub enum Stage {
 // That, and the font and the place to which the commands so far lead.
 pub struct PageState {
     pub stage: Stage,
-    pub font: u8,
-    pub x: i32,
-    pub y: i32,
+    pub position: Position,
 }
 
 pub enum Stepped {
@@ -39,7 +38,7 @@ pub enum Stepped {
 }
 
 pub fn is_ready(s: Stage) -> bool
-    ensures { λ r. ⌜ r ≡ R.isReady (stageOf s) ⌝ }
+    ensures { λ r. ⌜ r ≡ Page.isReady (stageOf s) ⌝ }
 {
     match s {
         Stage::Ready => true,
@@ -51,7 +50,7 @@ pub fn is_ready(s: Stage) -> bool
 }
 
 pub fn before_right(s: Stage) -> bool
-    ensures { λ r. ⌜ r ≡ R.beforeRight (stageOf s) ⌝ }
+    ensures { λ r. ⌜ r ≡ Page.beforeRight (stageOf s) ⌝ }
 {
     match s {
         Stage::Ready => true,
@@ -63,7 +62,7 @@ pub fn before_right(s: Stage) -> bool
 }
 
 pub fn before_down(s: Stage) -> bool
-    ensures { λ r. ⌜ r ≡ R.beforeDown (stageOf s) ⌝ }
+    ensures { λ r. ⌜ r ≡ Page.beforeDown (stageOf s) ⌝ }
 {
     match s {
         Stage::Ready => true,
@@ -75,7 +74,7 @@ pub fn before_down(s: Stage) -> bool
 }
 
 pub fn before_put(s: Stage) -> bool
-    ensures { λ r. ⌜ r ≡ R.beforePut (stageOf s) ⌝ }
+    ensures { λ r. ⌜ r ≡ Page.beforePut (stageOf s) ⌝ }
 {
     match s {
         Stage::Ready => true,
@@ -86,34 +85,27 @@ pub fn before_put(s: Stage) -> bool
     }
 }
 
-// Whether x is at least `low` and at most `high`.
-fn between(low: i32, x: i32, high: i32) -> bool
-    ensures { λ r. ⌜ r ≡ leZ low x && leZ x high ⌝ }
-{
-    if low <= x { x <= high } else { false }
-}
-
 // Whether a character of font f may stand at x.
-pub fn valid_in(f: u8, x: i32) -> bool
-    ensures { λ r. ⌜ r ≡ R.validIn (fontOrNone f) x ⌝ }
+pub fn valid_in(f: u8, x: Units) -> bool
+    ensures { λ r. ⌜ r ≡ Page.validIn (fontOrNone f) (x .0) ⌝ }
 {
     if f == font_byte::NO_FONT {
         return false;
     }
-    if font::is_double(font::size_index(f)) {
-        between(-55, x, 3184)
-    } else {
-        between(0, x, 3239)
-    }
+    character::valid_x(font::is_double(font::size_index(f)), x)
 }
 
 pub fn with_font(h: PageState, stage: Stage, f: u8) -> PageState
-    ensures { λ r. ⌜ r ≡ record { stage = stage; font = f; x = h .x; y = h .y } ⌝ }
+    ensures { λ r. ⌜ r ≡ record { stage = stage; position = record { font = f; x = h .position .x; height = h .position .height } } ⌝ }
 {
+    let x = h.position.x;
+    let height = h.position.height;
     PageState {
         stage: stage,
-        font: f,
-        x: h.x,
-        y: h.y,
+        position: Position {
+            font: f,
+            x: x,
+            height: height,
+        },
     }
 }

@@ -1,18 +1,19 @@
 -- What a standing tells: where it is, and of the state.
 -- Assumes nothing.
-use mathlib.Core.Path.{_≡_, refl, sym, ap, _∙_}
+use mathlib.Core.Path.{_≡_, sym, ap, _∙_}
 use mathlib.Core.Bool.{true}
 use mathlib.Core.List.{List, [], _∷_, _++_, foldl-append}
 use mathlib.Core.Option.{Option, some, Option·getD}
-use Prim.Native.Nat.{ℕ, _+_, _/_, _%_, _≤_, _<_}
+use Prim.Native.Nat.{ℕ, _+_, _%_, _≤_, _<_}
+use native.Mathlib.Nat.{suc-ne-zero}
 use native.Mathlib.Omega.{arith}
 use borrow.Author.Tests.{leb-true}
 use lib.Dec.{eqb, leb}
-use lib.IntN.{ℤ, pos, negsuc, natAbs}
+use lib.IntN.{ℤ, pos, negsuc, _*ℤ_}
 use lib.ListN.{length, length-append}
 use lib.Seq.{length-take-le}
 use lib.Signed.{_≤ℤ_}
-use Rattle.integers.specs.Parts.{integers}
+use Rattle.integers.specs.Parts.{integers, scale-parts}
 use Rattle.octets.specs.FieldLaws.{both}
 use Rattle.octets.specs.Octets.{bytes, signedBytes}
 use Rattle.galley_file.specs.declared.character.Character.{Character}
@@ -24,13 +25,14 @@ use Rattle.dvi.specs.Writer.{Position}
 use Rattle.dvi2.specs.Writer.{positionAt, unitBytes, preambleBytes, bopBytes, Writing, firstWriting, writingAfter, pagesBytes}
 use Rattle.dvi2.specs.WriterLaws.{writing-at, length-pages}
 use Rattle.dvi.specs.FontOrNone.{fontOrNone, font-is}
-use Rattle.dvi2_reading.specs.Reading.{Stage, ready, named, chosen, moved, lowered, withFont, firstBop, isDown, heightOf, characterOf, inPage, between}
-use Rattle.dvi2_reading.specs.Reading as R
+use Rattle.dvi2_reading.specs.PageReading.{Stage, ready, named, chosen, moved, lowered, isDown, lowest}
+use Rattle.dvi2_reading.specs.Reading.{withFont, firstBop, heightOf, characterOf, inPage, between}
 use Rattle.dvi2_reading.specs.Reached.{writingOf, openBytes, Staged}
-use Rattle.dvi2_reading.specs.CharacterPath.{down-mag}
 use Rattle.dvi2_reading.specs.Standing.{Standing}
 use Rattle.dvi2_state.specs.declared.page_state.PageState.{PageState}
-use Rattle.dvi2_state.specs.Page.{stageOf, positionOf, pageStateOf, Near}
+use Rattle.dvi2_commands.specs.declared.position.Position as C
+use Rattle.dvi2_commands.specs.Position.{positionOf}
+use Rattle.dvi2_state.specs.Page.{stageOf, pageStateOf, SoundPage}
 
 length-open : (is : List Item) → length (openBytes is) ≡ writingOf is .at
 unfolding openBytes preambleBytes firstBop unitBytes bopBytes bytes signedBytes firstWriting
@@ -72,33 +74,37 @@ staged-font chosen is position rest a f e = let q = same-font f (a .way .font) (
 staged-font moved is position rest a f e = let q = same-font f (a .way .font) (sym e ∙ a .way .font-is) in omega (arith, a .way .small)
 staged-font lowered is position rest a f e = let q = same-font f (a .way .font) (sym e ∙ a .way .font-is) in omega (arith, a .way .small)
 
-module _ (s : List ℕ) (is : List Item) (h : PageState) (at : ℕ) (k : Standing s (inPage (pageStateOf is h)) at) where
-  pub near : Near h
-  near =
-      record {
-        x-near = k .reached .x-small;
-        y-near = down-mag (h .y) (k .reached .y-down);
-        font-near = λ f e. staged-font (stageOf (h .stage)) is (positionOf h) (k .reached .rest) (k .reached .staged) f e;
-      }
+down-between : (y : ℤ) → isDown y ≡ true → (pos 0 ≤ℤ y) × (y ≤ℤ pos lowest)
+unfolding isDown
+down-between (pos n) e = let b = both (eqb (n % 3) 0) (leb n lowest) e in let l = leb-true n lowest (b .1) in (omega integers, omega integers)
+down-between (negsuc n) e = absurd (suc-ne-zero 0 cc)
 
-  pub is-down : isDown (h .y) ≡ true
+module _ (s : List ℕ) (is : List Item) (h : PageState) (at : ℕ) (k : Standing s (inPage (pageStateOf is h)) at) where
+  pub is-down : isDown (positionOf (h .position) .y) ≡ true
   is-down = k .reached .y-down
 
--- ---- a height
-
-pub down-parts : (y : ℤ) → isDown y ≡ true → (pos 0 ≤ℤ y) × ((natAbs y ≤ 3000000) × (pos (natAbs y / 3) ≡ heightOf y))
-unfolding isDown heightOf
-down-parts (pos n) e = let b = both (eqb (n % 3) 0) (leb n 3000000) e in (omega integers, (leb-true n 3000000 (b .1), refl))
-down-parts (negsuc n) e = let z : _≡_ {A = ℕ} 0 1 = cc in absurd (omega arith)
+  pub sound : SoundPage h
+  sound =
+      let x = k .reached .x-between in
+      let y = down-between (positionOf (h .position) .y) is-down in
+      record {
+        on-page = record { left = x .0; right = x .1; top = y .0; bottom = y .1 };
+        font-valid = λ f e. staged-font (stageOf (h .stage)) is (positionOf (h .position)) (k .reached .rest) (k .reached .staged) f e;
+      }
 
 -- ---- the character that is put
 
-pub character-is : (h : PageState) (code f : ℕ) → fontOrNone (h .font) ≡ some f → (x y : ℤ) → x ≡ h .x → y ≡ heightOf (h .y)
-    → _≡_ {A = Character} (record { x = record { 0 = x }; height = record { 0 = y }; font = h .font; code = code }) (characterOf (positionOf h) code)
+height-is : (h : ℤ) → isDown (pos 3 *ℤ h) ≡ true → h ≡ heightOf (pos 3 *ℤ h)
+unfolding heightOf
+height-is (pos n) e = ap pos (omega arith)
+height-is (negsuc n) e = let b = down-between (pos 3 *ℤ negsuc n) e in absurd (omega (integers, b .0, scale-parts 3 (negsuc n)))
+
+pub character-is : (p : C.Position) (code f : ℕ) → isDown (positionOf p .y) ≡ true → fontOrNone (p .font) ≡ some f
+    → _≡_ {A = Character} (record { x = p .x; height = p .height; font = p .font; code = code }) (characterOf (positionOf p) code)
 unfolding characterOf
-character-is h code f e x y p q =
-    let n : h .font ≡ Option·getD (fontOrNone (h .font)) 0 = font-is (h .font) f e ∙ sym (ap (λ (o : Option ℕ). Option·getD o 0) e) in
-    (λ i. record { x = record { 0 = p i }; height = record { 0 = q i }; font = n i; code = code })
+character-is p code f d e =
+    let n : p .font ≡ Option·getD (fontOrNone (p .font)) 0 = font-is (p .font) f e ∙ sym (ap (λ (o : Option ℕ). Option·getD o 0) e) in
+    (λ i. record { x = p .x; height = record { 0 = height-is (p .height .0) d i }; font = n i; code = code })
 
 -- ---- the items
 

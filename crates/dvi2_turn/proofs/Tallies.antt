@@ -24,7 +24,7 @@ use Rattle.dvi2_reading.specs.Reached.{writingOf}
 use Rattle.dvi2_reading.specs.PieceLaws.{used-small}
 use Rattle.dvi2_page.specs.Fonts.{Known}
 use Rattle.dvi2_turn.specs.declared.tally.Tally.{Tally}
-use Rattle.dvi2_turn.specs.Tally.{TallyIs, Small}
+use Rattle.dvi2_turn.specs.Tally.{TallyIs, TallyRanged}
 
 -- ---- one item more
 
@@ -83,8 +83,8 @@ module _ (t : Tally) (is : List Item) (k : TallyIs t is) (w : Writable is) where
   pub count-is : length is ≡ t .characters + t .cuts
   count-is = omega (arith, k .characters-are, k .cuts-are, all-counted is)
 
-  pub small : Small t
-  small =
+  pub tally-ranged : TallyRanged t
+  tally-ranged =
       let p = writing-small is 0 (omega (arith, w .few)) in
       record {
         few = omega (arith, count-is, w .few);

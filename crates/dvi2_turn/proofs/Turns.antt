@@ -9,10 +9,12 @@ use lib.IntN.{pos}
 use lib.ListN.{length, getD, drop}
 use Rattle.galley_file.specs.declared.character.Character.{Character}
 use Rattle.galley_file.specs.declared.item.Item.{Item}
+use Rattle.galley_file.specs.Galley.{maxItems}
 use Rattle.galley_file.specs.declared.item.Item.the-variants.{Placed, Cut}
 use Rattle.dvi2.specs.Writer.{bopBytes}
 use Rattle.dvi.specs.FontOrNone.{fontOrNone}
 use Rattle.dvi2_frame.specs.Frame.{postOf}
+use Rattle.dvi2_reading.specs.PageReading as Page
 use Rattle.dvi2_reading.specs.Reading as R
 use Rattle.dvi2_reading.specs.Reading.{inPage, between, closing, closingOf, newPageState, characterOf, furtherBop}
 use Rattle.dvi2_reading.specs.Reached.{writingOf}
@@ -20,15 +22,16 @@ use Rattle.dvi2_reading.specs.Standing.{Standing}
 use Rattle.dvi2_reading.specs.StandingLaws.{here, sole-post, sole-page}
 use Rattle.dvi2_state.specs.declared.page_state.PageState.{PageState}
 use Rattle.dvi2_state.specs.declared.page_state.Stage.the-variants.{Ready}
-use Rattle.dvi2_state.specs.Page.{positionOf, pageStateOf}
+use Rattle.dvi2_commands.specs.Position.{positionOf}
+use Rattle.dvi2_state.specs.Page.{pageStateOf}
 use Rattle.dvi2_close.specs.declared.expect.Reading.{Reading}
 use Rattle.dvi2_turn.specs.declared.tally.Tally.{Tally}
 use Rattle.dvi2_turn.specs.declared.turn.Turn.{Turn}
 use Rattle.dvi2_turn.specs.declared.turn.Turn.the-variants.{Bad, Whole, On, Set}
 use Rattle.dvi2_turn.specs.Tally.{TallyIs}
-use Rattle.dvi2_close.specs.Reading.{expected, Led}
+use Rattle.dvi2_close.specs.Reading.{expected, ReadsTo}
 use Rattle.dvi2_turn.specs.Turn.{Turned}
-use Rattle.dvi2_close.proofs.Expected.{expect-led}
+use Rattle.dvi2_close.proofs.Expected.{expect-readsTo}
 use Rattle.dvi2_turn.proofs.Stands.{ready-place, cut-after, put-font}
 use Rattle.dvi2_turn.proofs.Tallies.{post-is, bop-is}
 
@@ -36,32 +39,32 @@ module _ (s : List ℕ) (at : ℕ) (t : Tally) (is : List Item) (k : TallyIs t i
   first-is : (b : ℕ) (ps : List ℕ) → drop at s ≡ b ∷ ps → b ≡ getD s at 0
   first-is b ps e = let h = sym e ∙ here s (between is) at st l in cc
 
-  pub post-led : getD s at 0 ≡ 248 → (e : List ℕ) → e ≡ postOf (t .bop) (t .extents) (t .cuts + 1) → (r : Reading) → r ≡ expected s at e → Led s (closing is (closingOf is)) r
-  post-led o e q r h =
-      subst (Led s (closing is (closingOf is))) (ap (expected s at) (sym (q ∙ post-is t is k (st .reached .writable))) ∙ sym h)
-      (expect-led s (between is) (closing is (closingOf is)) at (R.postOf is) st (sole-post (drop at s) is (λ b ps d. first-is b ps d ∙ o)))
+  pub post-readsTo : getD s at 0 ≡ 248 → (e : List ℕ) → e ≡ postOf (t .bop) (t .extents) (t .cuts + 1) → (r : Reading) → r ≡ expected s at e → ReadsTo s (closing is (closingOf is)) r
+  post-readsTo o e q r h =
+      subst (ReadsTo s (closing is (closingOf is))) (ap (expected s at) (sym (q ∙ post-is t is k (st .reached .writable))) ∙ sym h)
+      (expect-readsTo s (between is) (closing is (closingOf is)) at (R.postOf is) st (sole-post (drop at s) is (λ b ps d. first-is b ps d ∙ o)))
 
-  pub page-led : (getD s at 0 ≡ 248 → ⊥) → length is < 1048576 → (e : List ℕ) → e ≡ bopBytes (t .cuts + 2) (pos (t .bop)) → (r : Reading) → r ≡ expected s at e → Led s (inPage (newPageState (is ++ (Cut ∷ [])))) r
-  page-led o m e q r h =
-      subst (Led s (inPage (newPageState (is ++ (Cut ∷ []))))) (ap (expected s at) (sym (q ∙ bop-is t is k (st .reached .writable))) ∙ sym h)
-      (expect-led s (between is) (inPage (newPageState (is ++ (Cut ∷ [])))) at (furtherBop (writingOf is)) st (sole-page (drop at s) is m (λ b ps d f. o (sym (first-is b ps d) ∙ f))))
+  pub page-readsTo : (getD s at 0 ≡ 248 → ⊥) → length is < maxItems → (e : List ℕ) → e ≡ bopBytes (t .cuts + 2) (pos (t .bop)) → (r : Reading) → r ≡ expected s at e → ReadsTo s (inPage (newPageState (is ++ (Cut ∷ [])))) r
+  page-readsTo o m e q r h =
+      subst (ReadsTo s (inPage (newPageState (is ++ (Cut ∷ []))))) (ap (expected s at) (sym (q ∙ bop-is t is k (st .reached .writable))) ∙ sym h)
+      (expect-readsTo s (between is) (inPage (newPageState (is ++ (Cut ∷ [])))) at (furtherBop (writingOf is)) st (sole-page (drop at s) is m (λ b ps d f. o (sym (first-is b ps d) ∙ f))))
 
 pub cut-turned : (s : List ℕ) (is : List Item) (at to : ℕ) (h : PageState) → Standing s (between is) at → pageStateOf (is ++ (Cut ∷ [])) h ≡ newPageState (is ++ (Cut ∷ [])) → Standing s (inPage (newPageState (is ++ (Cut ∷ [])))) to
     → Turned s is at (Set Cut h to)
 unfolding newPageState
 cut-turned s is at to h st e k =
     let p = ready-place s (is ++ (Cut ∷ [])) _ to k in
-    (cut-after s is at to st p, (p, subst (λ (g : R.PageState). Standing s (inPage g) to) (sym e) k))
+    (cut-after s is at to st p, (p, subst (λ (g : Page.PageState). Standing s (inPage g) to) (sym e) k))
 
 pub put-turned : (s : List ℕ) (is : List Item) (at : ℕ) (h g : PageState) (code : ℕ) (c : Character)
-    → Standing s (inPage (record { items = is ++ (Placed (characterOf (positionOf h) code) ∷ []); stage = R.ready; position = positionOf h })) (at + 2)
-    → ((f : ℕ) → fontOrNone (h .font) ≡ some f → c ≡ characterOf (positionOf h) code) → g ≡ record { stage = Ready; font = h .font; x = h .x; y = h .y } → Turned s is at (Set (Placed c) g (at + 2))
+    → Standing s (inPage (record { items = is ++ (Placed (characterOf (positionOf (h .position)) code) ∷ []); stage = Page.ready; position = positionOf (h .position) })) (at + 2)
+    → ((f : ℕ) → fontOrNone (h .position .font) ≡ some f → c ≡ characterOf (positionOf (h .position)) code) → g ≡ record { stage = Ready; position = h .position } → Turned s is at (Set (Placed c) g (at + 2))
 put-turned s is at h g code c k f e =
-    let d = characterOf (positionOf h) code in
-    let q : d ≡ c = sym (f (d .font) (put-font s is d (positionOf h) (at + 2) k)) in
-    let j : Standing s (inPage (record { items = is ++ (Placed c ∷ []); stage = R.ready; position = positionOf h })) (at + 2) =
-    subst (λ (x : Character). Standing s (inPage (record { items = is ++ (Placed x ∷ []); stage = R.ready; position = positionOf h })) (at + 2)) q k in
-    (omega arith, (ready-place s (is ++ (Placed c ∷ [])) (positionOf h) (at + 2) j, subst (λ (x : PageState). Standing s (inPage (pageStateOf (is ++ (Placed c ∷ [])) x)) (at + 2)) (sym e) j))
+    let d = characterOf (positionOf (h .position)) code in
+    let q : d ≡ c = sym (f (d .font) (put-font s is d (positionOf (h .position)) (at + 2) k)) in
+    let j : Standing s (inPage (record { items = is ++ (Placed c ∷ []); stage = Page.ready; position = positionOf (h .position) })) (at + 2) =
+    subst (λ (x : Character). Standing s (inPage (record { items = is ++ (Placed x ∷ []); stage = Page.ready; position = positionOf (h .position) })) (at + 2)) q k in
+    (omega arith, (ready-place s (is ++ (Placed c ∷ [])) (positionOf (h .position)) (at + 2) j, subst (λ (x : PageState). Standing s (inPage (pageStateOf (is ++ (Placed c ∷ [])) x)) (at + 2)) (sym e) j))
 
 pub turned-before : (s : List ℕ) (is : List Item) (at to : ℕ) (r : Turn) → at ≤ to → Turned s is to r → Turned s is at r
 turned-before s is at to (Bad place) l k = k

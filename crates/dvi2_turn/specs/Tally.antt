@@ -1,6 +1,6 @@
 -- What is known of the items that are read so far.
---     TallyIs     a tally is that of these items
---     Small       its numbers are within their ranges
+--     TallyIs         a tally is that of these items
+--     TallyRanged     its numbers are within their ranges
 use mathlib.Core.Path.{_≡_}
 use mathlib.Core.List.{List}
 use Prim.Native.Nat.{_≤_, _<_}
@@ -19,7 +19,7 @@ pub record TallyIs (t : Tally) (is : List Item) : Type 0 where
   pub extents-are : t .extents ≡ extentsOf (charactersOf is)
   pub bop-is : t .bop ≡ writingOf is .bop
 
-pub record Small (t : Tally) : Type 0 where
+pub record TallyRanged (t : Tally) : Type 0 where
   pub few : t .characters ≤ maxItems
   pub few-cuts : t .cuts ≤ maxItems
   pub ranged : Ranged (t .extents)

@@ -1,17 +1,15 @@
 // One turn: a command of a page, or what stands between two pages and after the last.
 use crate::tally::Tally;
-use dvi::font_byte;
 use dvi2_close::close;
 use dvi2_close::expect;
 use dvi2_close::expect::Reading;
-use dvi2_state::page_state;
+use dvi2_commands::position;
+use dvi2_commands::position::Position;
 use dvi2_state::page_state::PageState;
 use dvi2_state::page_state::Stage;
 use dvi2_state::page_state::Stepped;
 use galley_file::character::Character;
 use galley_file::item::Item;
-use measure::Quanta;
-use measure::Units;
 ghost use mathlib.Core.Path.{_≡_};
 ghost use mathlib.Core.Bool.{true};
 ghost use mathlib.Core.List.{List, [], _∷_, _++_};
@@ -20,12 +18,15 @@ ghost use Prim.Native.Nat.{ℕ, _≤_, _<_};
 ghost use lib.ListN.{length, getD};
 ghost use Rattle.galley_file.specs.declared.item.Item.{Item as ItemOf};
 ghost use Rattle.galley_file.specs.declared.item.Item.the-variants.{Cut};
+ghost use Rattle.galley_file.specs.Galley.{maxItems};
 ghost use Rattle.dvi.specs.FontOrNone.{fontOrNone};
-ghost use Rattle.dvi2_reading.specs.Reading.{isDown, heightOf, characterOf, inPage, between, newPageState};
+ghost use Rattle.dvi2_reading.specs.PageReading.{isDown};
+ghost use Rattle.dvi2_reading.specs.Reading.{characterOf, inPage, between, newPageState};
 ghost use Rattle.dvi2_reading.specs.Standing.{Standing};
-ghost use Rattle.dvi2_state.specs.Page.{positionOf, pageStateOf, Near};
-ghost use Rattle.dvi2_turn.specs.Tally.{TallyIs, Small};
-ghost use Rattle.dvi2_close.specs.Reading.{Led, Ended};
+ghost use Rattle.dvi2_commands.specs.Position.{positionOf};
+ghost use Rattle.dvi2_state.specs.Page.{pageStateOf, SoundPage};
+ghost use Rattle.dvi2_turn.specs.Tally.{TallyIs, TallyRanged};
+ghost use Rattle.dvi2_close.specs.Reading.{ReadsTo, Ended};
 ghost use Rattle.dvi2_turn.specs.Turn.{Turning, Turned};
 
 const POST: u8 = 248;
@@ -43,43 +44,32 @@ pub enum Turn {
 
 // At the start of a page.
 pub fn new_page() -> PageState
-    ensures { λ r. ⌜ Near r × ((is : List ItemOf) → pageStateOf is r ≡ newPageState is) ⌝ }
+    ensures { λ r. ⌜ SoundPage r × ((is : List ItemOf) → pageStateOf is r ≡ newPageState is) ⌝ }
 {
     PageState {
         stage: Stage::Ready,
-        font: font_byte::NO_FONT,
-        x: 0,
-        y: 0,
+        position: position::start_position(),
     }
 }
 
-// The height at y.
-fn height_at(y: i32) -> i32
-    requires { ⌜ isDown y ≡ true ⌝ }
-    ensures { λ r. ⌜ r ≡ heightOf y ⌝ }
+// The character that is put at p.
+fn character(p: Position, code: u8) -> Character
+    requires { ⌜ isDown (positionOf p .y) ≡ true ⌝ }
+    ensures { λ r. ⌜ ((f : ℕ) → fontOrNone (p .font) ≡ some f → r ≡ characterOf (positionOf p) code) ⌝ }
 {
-    (y as u32 / 3) as i32
-}
-
-// The character that is put.
-fn character(h: PageState, code: u8) -> Character
-    requires { ⌜ isDown (h .y) ≡ true ⌝ }
-    ensures { λ r. ⌜ ((f : ℕ) → fontOrNone (h .font) ≡ some f → r ≡ characterOf (positionOf h) code) ⌝ }
-{
-    let x = h.x;
-    let y = h.y;
-    let height = height_at(y);
+    let x = p.x;
+    let height = p.height;
     Character {
-        x: Units(x),
-        height: Quanta(height),
-        font: h.font,
+        x: x,
+        height: height,
+        font: p.font,
         code: code,
     }
 }
 
 // post, and the rest of the file.
 fn to_post(dvi: &[u8], at: usize, t: Tally) -> Reading
-    requires { ⌜ ((at < length (now dvi)) × (getD (now dvi) at 0 ≡ 248)) × ((length (now dvi) ≤ 67108864) × Small t) ⌝ }
+    requires { ⌜ ((at < length (now dvi)) × (getD (now dvi) at 0 ≡ 248)) × ((length (now dvi) ≤ 67108864) × TallyRanged t) ⌝ }
     ensures { λ r. ⌜ ((is : List ItemOf) → TallyIs t is → Standing (now (dvi .entry)) (between is) at → Ended (now (dvi .entry)) is r) ⌝ }
 {
     let e = dvi2_frame::post(t.bop as u32, t.extents, t.cuts as u32 + 1);
@@ -92,8 +82,8 @@ fn to_post(dvi: &[u8], at: usize, t: Tally) -> Reading
 
 // The bop of a further page.
 fn to_page(dvi: &[u8], at: usize, t: Tally) -> Reading
-    requires { ⌜ ((at < length (now dvi)) × (getD (now dvi) at 0 ≡ 248 → ⊥)) × Small t ⌝ }
-    ensures { λ r. ⌜ ((is : List ItemOf) → TallyIs t is → length is < 1048576 → Standing (now (dvi .entry)) (between is) at → Led (now (dvi .entry)) (inPage (newPageState (is ++ (Cut ∷ [])))) r) ⌝ }
+    requires { ⌜ ((at < length (now dvi)) × (getD (now dvi) at 0 ≡ 248 → ⊥)) × TallyRanged t ⌝ }
+    ensures { λ r. ⌜ ((is : List ItemOf) → TallyIs t is → length is < maxItems → Standing (now (dvi .entry)) (between is) at → ReadsTo (now (dvi .entry)) (inPage (newPageState (is ++ (Cut ∷ [])))) r) ⌝ }
 {
     let e = dvi2_frame::bop(t.cuts as u32 + 2, t.bop as i32);
     expect::expect(dvi, at, &e)
@@ -101,7 +91,7 @@ fn to_page(dvi: &[u8], at: usize, t: Tally) -> Reading
 
 // After eop.
 fn ended(dvi: &[u8], at: usize, t: Tally) -> Turn
-    requires { ⌜ (length (now dvi) ≤ 67108864) × Small t ⌝ }
+    requires { ⌜ (length (now dvi) ≤ 67108864) × TallyRanged t ⌝ }
     ensures { λ r. ⌜ ((is : List ItemOf) → TallyIs t is → Standing (now (dvi .entry)) (between is) at → Turned (now (dvi .entry)) is at r) ⌝ }
 {
     if dvi.len() <= at {
@@ -138,8 +128,12 @@ pub fn take_turn(dvi: &[u8], at: usize, h: PageState, t: Tally) -> Turn
         Stepped::Short => Turn::Bad(dvi.len()),
         Stepped::End => ended(dvi, at + 1, t),
         Stepped::Put(code) => {
-            let c = character(h, code);
-            let g = page_state::with_font(h, Stage::Ready, h.font);
+            let p = h.position;
+            let c = character(p, code);
+            let g = PageState {
+                stage: Stage::Ready,
+                position: p,
+            };
             Turn::Set(Item::Placed(c), g, at + 2)
         }
         Stepped::Go(g, n) => Turn::On(g, at + 1 + n),

@@ -15,7 +15,8 @@ use Rattle.galley_file.specs.declared.item.Item.{Item}
 use Rattle.galley_file.specs.Form.{maxGalley}
 use Rattle.galley_file.specs.Item.{validItem, itemSize, itemAt, WholeAt}
 use Rattle.galley_file.specs.Galley.{maxItems, AllValid, readGalley, itemsOf}
-use Rattle.galley_file.specs.GalleyLaws.{checked, read-as, reading-valid}
+use Rattle.galley_file.specs.GalleyLaws.{checked, read-as}
+use Rattle.galley_file.specs.ReadingLaws.{reading-valid}
 use Rattle.galley_file.specs.Outcome.{checkOutcome}
 use Rattle.galley_file.specs.Walk.{Midway, Onward, midway-start, midway-inside, midway-end, midway-next, midway-whole}
 use Rattle.dvi2.specs.Writer.{firstWriting, itemBytes, itemsBytes, writingAfterAll, writingAfter}

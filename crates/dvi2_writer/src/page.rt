@@ -10,30 +10,27 @@ use galley_file::form::Form;
 use galley_file::item;
 use galley_file::item::Item;
 use octets::field;
-use octets::number;
 ghost use mathlib.Core.Path.{_≡_};
 ghost use mathlib.Core.Bool.{true};
-ghost use mathlib.Core.List.{List, [], _∷_, _++_};
 ghost use Prim.Native.Nat.{_+_, _<_};
 ghost use Rattle.octets.specs.Answer.{accepted};
 ghost use Rattle.measure.specs.Place.{heightEnd};
 ghost use Rattle.galley_file.specs.declared.form.Form.the-variants.{New};
-ghost use Rattle.galley_file.specs.declared.item.Item.{Item as ItemOf};
 ghost use Rattle.galley_file.specs.declared.item.Item.the-variants.{Placed, Cut};
 ghost use Rattle.galley_file.specs.Character.{valid};
 ghost use Rattle.galley_file.specs.Item.{validItem};
 ghost use Rattle.galley_file.specs.Galley.{itemsOf};
 ghost use Rattle.galley_file.specs.Outcome.{checkOutcome};
-ghost use Rattle.dvi2.specs.Writer.{firstWriting, itemBytes, itemsBytes, writingAfterAll, pagesBytes};
+ghost use Rattle.dvi2.specs.Writer.{firstWriting, itemsBytes, pagesBytes};
 ghost use Rattle.octets.specs.PutIfRoom.{PutIfRoom};
-ghost use Rattle.dvi2_writer.specs.Writing.{Tallied, WritingIs, Ready};
+ghost use Rattle.dvi2_writer.specs.Writing.{Tallied, WritingIs, Ready, PutsItem};
 
 const EOP: u8 = 140;
 
 // Writes the commands of c.
 fn put_character(out: &mut [u8], p: Writing, c: Character) -> Writing
     requires { ⌜ Ready p × (valid heightEnd c ≡ true) ⌝ }
-    ensures { λ r. ⌜ ((is : List ItemOf) → WritingIs p is → (PutIfRoom (now (out .entry)) (p .at) (itemBytes (writingAfterAll firstWriting is) (Placed c)) (now (out .exit)) (r .at)) × WritingIs r (is ++ (Placed c ∷ []))) ⌝ }
+    ensures { λ r. ⌜ PutsItem (now (out .entry)) p (Placed c) (now (out .exit)) r ⌝ }
 {
     let known = fonts::has_font(p.extents.fonts, c.font);
     let to = command::put_commands(out, p.at, known, p.position, c);
@@ -43,7 +40,7 @@ fn put_character(out: &mut [u8], p: Writing, c: Character) -> Writing
 // Writes a cut: ends the page, and starts the next.
 fn put_cut(out: &mut [u8], p: Writing) -> Writing
     requires { ⌜ Ready p ⌝ }
-    ensures { λ r. ⌜ ((is : List ItemOf) → WritingIs p is → (PutIfRoom (now (out .entry)) (p .at) (itemBytes (writingAfterAll firstWriting is) Cut) (now (out .exit)) (r .at)) × WritingIs r (is ++ (Cut ∷ []))) ⌝ }
+    ensures { λ r. ⌜ PutsItem (now (out .entry)) p Cut (now (out .exit)) r ⌝ }
 {
     let bop = put::put_byte(out, p.at, EOP);
     let page = p.page + 1;
@@ -62,7 +59,7 @@ fn put_cut(out: &mut [u8], p: Writing) -> Writing
 // Writes an item.
 fn put_item(out: &mut [u8], p: Writing, i: Item) -> Writing
     requires { ⌜ Ready p × (validItem heightEnd i ≡ true) ⌝ }
-    ensures { λ r. ⌜ ((is : List ItemOf) → WritingIs p is → (PutIfRoom (now (out .entry)) (p .at) (itemBytes (writingAfterAll firstWriting is) i) (now (out .exit)) (r .at)) × WritingIs r (is ++ (i ∷ []))) ⌝ }
+    ensures { λ r. ⌜ PutsItem (now (out .entry)) p i (now (out .exit)) r ⌝ }
 {
     match i {
         Item::Placed(c) => put_character(out, p, c),

@@ -6,6 +6,7 @@ use mathlib.Core.Bool.{Bool, true, false, cond}
 use mathlib.Core.List.{List, [], _∷_, _++_, append-nil}
 use mathlib.Core.Option.{Option, none, some}
 use Prim.Native.Nat.{ℕ, _+_, _≤_}
+use native.Mathlib.Nat.{suc-ne-zero}
 use native.Mathlib.Omega.{arith}
 use lib.Dec.{ltb}
 use lib.IntN.{ℤ}
@@ -30,7 +31,7 @@ use Rattle.dvi_step.specs.Standing.{Standing}
 use Rattle.dvi_step.specs.declared.State.{State}
 use Rattle.octets.specs.declared.pass.Reading.{Reading}
 use Rattle.octets.specs.declared.pass.Reading.the-variants.{Needs}
-use Rattle.dvi_galley.specs.Back.{itemOf, Made, nothing, made, broken, pagesOf, withItem, withMark, makes, madeResult, shownGalley}
+use Rattle.dvi_galley.specs.Back.{itemShown, Made, nothing, made, broken, pagesOf, withItem, withMark, makes, madeResult, shownGalley}
 use Rattle.dvi_galley.specs.BackLaws.{makes-append}
 use Rattle.dvi_galley.specs.Taken.{takenOf}
 use Rattle.dvi_back.specs.Tally.{tallyOf, pagesIn, placeIn, addedBy, endOf, tallyReading}
@@ -67,8 +68,8 @@ fits-makes : (room : ℕ) (ps : List PlacedMark) (b : Made) (bs : List ℕ) → 
 unfolding makes withMark madeResult
 fits-makes room [] nothing bs e l = tt
 fits-makes room [] (made is) bs e l = let d : galley New is ≡ bs = cc in omega (arith, ap length d, length-galley New is)
-fits-makes room [] (broken place) bs e l = let z : _≡_ {A = ℕ} 0 1 = cc in absurd (omega arith)
-fits-makes room (p ∷ ps) b bs e l = fits-before room b (p .place) (itemOf (pagesOf b) (p .mark)) (fits-makes room ps (withMark b p) bs e l)
+fits-makes room [] (broken place) bs e l = absurd (suc-ne-zero 0 cc)
+fits-makes room (p ∷ ps) b bs e l = fits-before room b (p .place) (itemShown (pagesOf b) (p .mark)) (fits-makes room ps (withMark b p) bs e l)
 
 pub standing-fits : {ws : List ℤ} {s : List ℕ} {l : List ℤ} {q : State} {at : ℕ} {ps : List PlacedMark} → Standing placedAt ws s l q at ps → (room : ℕ) → Roomy (shownGalley (readPlaced ws s)) room → Fits room (makes nothing ps)
 unfolding showsFirst shownGalley
@@ -164,13 +165,13 @@ unfolding placedAt
 tallied-still {w} {first} {out} {g} ps at p = subst (λ (qs : List PlacedMark). Tallied w first out (makes nothing qs) g) (sym (append-nil ps)) p
 
 -- one that shows a mark, and the item that it is
-pub marked : (ps : List PlacedMark) (at : ℕ) (m : Mark) (g : Tally) (i : Taken) → g ≡ tallyOf (makes nothing ps) → takenOf i ≡ itemOf (pagesIn g) m
+pub marked : (ps : List PlacedMark) (at : ℕ) (m : Mark) (g : Tally) (i : Taken) → g ≡ tallyOf (makes nothing ps) → takenOf i ≡ itemShown (pagesIn g) m
     → makes nothing (ps ++ placedAt at (m ∷ [])) ≡ withItem (makes nothing ps) at (takenOf i)
 unfolding placedAt makes withMark
 marked ps at m g i e f =
     let b = makes nothing ps in
     makes-append nothing ps (placedAt at (m ∷ []))
-    ∙ ap (λ (n : ℕ). withItem b at (itemOf n m)) (sym (ap pagesIn e ∙ pages-are b))
+    ∙ ap (λ (n : ℕ). withItem b at (itemShown n m)) (sym (ap pagesIn e ∙ pages-are b))
     ∙ ap (withItem b at) (sym f)
 
 -- the end: what is found, and End in the buffer

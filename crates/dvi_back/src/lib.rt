@@ -7,6 +7,7 @@ use dvi_step::Stepped;
 use measure::target_table;
 use octets::answer;
 use octets::answer::Answer;
+use octets::pass;
 use octets::pass::Reading;
 use tally::Tally;
 ghost use mathlib.Core.Path.{_≡_};
@@ -59,21 +60,15 @@ fn pass(dvi: &[u8], widths: &[i32], out: &mut [u8], writing: bool) -> Reading
 pub fn dvi_to_galley(dvi: &[u8], widths: &[i32], galley: &mut [u8]) -> Answer
     ensures { λ r. ⌜ Gives (outcomeOf r) (backResult (now (dvi .entry)) (now (widths .entry))) (now (galley .entry)) (now (galley .exit)) ⌝ }
 {
-    if sheet::MAX_FILE < dvi.len() {
-        return Answer::Refused(answer::DVI_TOO_LONG, 0);
-    }
-    if widths.len() % sheet::FONT_CHARS != 0 {
-        return Answer::Refused(answer::WIDTHS_NOT_WHOLE, 0);
+    let number = sheet::call_refusal(dvi.len(), widths.len() % sheet::FONT_CHARS == 0);
+    if number != 0 {
+        return Answer::Refused(number, 0);
     }
     let found = pass(dvi, widths, galley, false);
-    match found {
-        Reading::Needs(needed) => {
-            if galley.len() < needed {
-                return Answer::Refused(answer::NO_GALLEY_ROOM, needed);
-            }
-            pass(dvi, widths, galley, true);
-            Answer::Accepted(needed)
-        }
-        Reading::Fault(n, place) => Answer::Refused(n, place),
-    }
+    let given = pass::answered(found, galley.len(), answer::NO_GALLEY_ROOM);
+    let Answer::Accepted(_) = given else {
+        return given;
+    };
+    pass(dvi, widths, galley, true);
+    given
 }

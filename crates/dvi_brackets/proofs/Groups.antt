@@ -20,7 +20,6 @@ use Rattle.dvi_brackets.specs.Brackets as B
 use Rattle.dvi_brackets.specs.Brackets.{badItem, pastItem, badRun, toPop, toEop, commandItem, group, item, run, itemHere}
 use Rattle.dvi_brackets.specs.Reading.{GoodItem, RoomyItem, ItemDone, runMarks, RoomyRun, RunDone, LeavesAt, LeftBy}
 use Rattle.dvi_brackets.specs.declared.Item.{Item}
-use Rattle.dvi_brackets.specs.declared.Item.the-variants as I
 use Rattle.dvi_brackets.specs.declared.Run.{Run}
 use Rattle.dvi_brackets.specs.declared.Run.the-variants as R
 use Rattle.dvi_brackets.specs.BracketsLaws.{SoundRun}

@@ -1,4 +1,9 @@
 -- A run item by item, how far it goes and how much it shows.
+--     part                                           the part of a slice from a place on
+--     first-none, first-first                        what comes before a run
+--     run-pass, run-none, run-pop                    a run, by its first byte
+--     run-bad, run-end, run-past                     a run, by its first item
+--     SoundItem, SoundRun, item-sound, run-sound     an item, and a run with the POP or EOP that ends it, lie in their bytes
 -- Assumes nothing.
 use mathlib.Core.Path.{_≡_, refl, sym, ap, _∙_}
 use mathlib.Core.List.{List, [], _∷_, _++_, append-assoc}
@@ -13,7 +18,7 @@ use lib.ListN.{length, getD, take, drop, length-append, length-drop}
 use lib.Seq.{drop-drop, take-all}
 use Rattle.octets.specs.OctetsLaws.{by-cond}
 use Rattle.octets.specs.Answer.{dviEndsEarly}
-use Rattle.dvi.specs.Command.{PUSH, POP, formOf, Decoded, noCommand, cutShort, command, decode}
+use Rattle.dvi.specs.Command.{PUSH, POP, layoutOf, Decoded, noCommand, cutShort, command, decode}
 use Rattle.sheet.specs.Sheet.{Mark}
 use Rattle.dvi.specs.Page.{Page, Effect, fault, moved, marked, ended, effect}
 use Rattle.dvi.specs.FileLaws.{Held, held}
@@ -146,7 +151,7 @@ module _ (ws : List ℤ) where
   some-sound d at p b bs inner h =
       by-cond (SoundItem (length bs)) (eqb b PUSH) _ _
       (λ _. group-sound d at (length bs) p inner h)
-      (λ _. command-sound at (length bs) p (decode b bs) (held (formOf b) bs))
+      (λ _. command-sound at (length bs) p (decode b bs) (held (layoutOf b) bs))
 
   pub run-sound : (bs : List ℕ) (d at : ℕ) (p : Page) (n : ℕ) → SoundRun n (length bs) (run ws d at p n bs)
   unfolding run

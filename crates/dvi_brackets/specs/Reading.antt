@@ -1,4 +1,12 @@
 -- The code's items and runs as those of the definition, and what the private contracts cite; nothing here is part of what a call promises.
+--     Within                                   the place in the sheet and the count of marks, where a file is read up to a place
+--     itemMarks, runMarks                      what an item or a run shows
+--     GoodItem, GoodRun                        no refusal
+--     bracketItem, bracketRun                  the code's item or run, with its marks, as the definition's
+--     itemTo, itemCount, runTo, runCount       the place in the sheet and the marks so far, after it
+--     RoomyItem, RoomyRun                      no refusal, and its fields have room
+--     ItemDone, RunDone                        it is read, and its fields are written, if writing
+--     LeavesAt, LeftBy                         a group is left
 use mathlib.Core.Path.{_≡_}
 use mathlib.Core.Bool.{Bool}
 use mathlib.Core.List.{List, []}
@@ -8,7 +16,7 @@ use Rattle.octets.specs.Answer.{entriesLeft}
 use Rattle.dvi.specs.Page as S
 use Rattle.sheet.specs.Sheet.{Mark, markFields}
 use Rattle.sheet.specs.Readable.{maxFile}
-use Rattle.dvi_page.specs.Stack.{numbersOf}
+use Rattle.dvi_page.specs.Stack.{pageNumbers}
 use Rattle.dvi_page.specs.Page.{pageOf}
 use Rattle.dvi_page.specs.declared.page.Page.{Page}
 use Rattle.octets.specs.Write.{Put}
@@ -38,10 +46,10 @@ GoodItem (pastItem q ms n) = Unit {0}
 GoodItem pageEnd = Unit {0}
 
 -- the code's item, with the marks that it shows
-abbrev pub itemOf : Item → List Mark → B.Item
-itemOf (I.Fault k i) ms = badItem k i
-itemOf (I.Past p n to count) ms = pastItem (pageOf p []) ms n
-itemOf I.End ms = pageEnd
+abbrev pub bracketItem : Item → List Mark → B.Item
+bracketItem (I.Fault k i) ms = badItem k i
+bracketItem (I.Past p n to count) ms = pastItem (pageOf p []) ms n
+bracketItem I.End ms = pageEnd
 
 -- the place in the sheet after it, and the marks so far
 abbrev pub itemTo : Item → ℕ → ℕ
@@ -60,7 +68,7 @@ pub record RoomyItem (x : B.Item) (to room : ℕ) : Type 0 where
 
 -- r is the item x, read with the sheet's bytes `before`, which are now `later`
 pub record ItemDone (x : B.Item) (w : Bool) (before : List ℕ) (to count : ℕ) (r : Item) (later : List ℕ) : Type 0 where
-  pub found : itemOf r (itemMarks x) ≡ x
+  pub found : bracketItem r (itemMarks x) ≡ x
   pub put : Put w before to (markFields (itemMarks x)) later (itemTo r to)
   pub counted : itemCount r count ≡ count + length (itemMarks x)
 
@@ -76,10 +84,10 @@ GoodRun (badRun k i) = ⊥
 GoodRun (toPop q ms n) = Unit {0}
 GoodRun (toEop ms n) = Unit {0}
 
-abbrev pub runOf : Run → List Mark → B.Run
-runOf (R.Fault k i) ms = badRun k i
-runOf (R.Pop p n to count) ms = toPop (pageOf p []) ms n
-runOf (R.Eop n to count) ms = toEop ms n
+abbrev pub bracketRun : Run → List Mark → B.Run
+bracketRun (R.Fault k i) ms = badRun k i
+bracketRun (R.Pop p n to count) ms = toPop (pageOf p []) ms n
+bracketRun (R.Eop n to count) ms = toEop ms n
 
 abbrev pub runTo : Run → ℕ → ℕ
 runTo (R.Fault k i) to = to
@@ -96,7 +104,7 @@ pub record RoomyRun (x : B.Run) (to room : ℕ) : Type 0 where
   pub enough : to + length (markFields (runMarks x)) ≤ room
 
 pub record RunDone (x : B.Run) (w : Bool) (before : List ℕ) (to count : ℕ) (r : Run) (later : List ℕ) : Type 0 where
-  pub found : runOf r (runMarks x) ≡ x
+  pub found : bracketRun r (runMarks x) ≡ x
   pub put : Put w before to (markFields (runMarks x)) later (runTo r to)
   pub counted : runCount r count ≡ count + length (runMarks x)
 
@@ -111,5 +119,5 @@ LeavesAt at (R.Eop n t c) = at + 1 + n < maxFile
 -- the item that a group is which was entered on the page p
 abbrev pub LeftBy : ℕ → Page → Run → Item → Type 0
 LeftBy at p (R.Fault k i) r = r ≡ I.Fault k i
-LeftBy at p (R.Pop q n t c) r = (o : Page) × ((pageOf o [] ≡ S.withNumbers (pageOf q []) (numbersOf (p .numbers))) × (r ≡ I.Past o (n + 1) t c))
+LeftBy at p (R.Pop q n t c) r = (o : Page) × ((pageOf o [] ≡ S.withNumbers (pageOf q []) (pageNumbers (p .numbers))) × (r ≡ I.Past o (n + 1) t c))
 LeftBy at p (R.Eop n t c) r = r ≡ I.Fault entriesLeft (at + 1 + n)

@@ -1,6 +1,6 @@
 -- A well-bracketed run as a tree (document 02, "A plain reader to check the quick one"): a run is made of items, and an item is a command or a group.
 --     Items, Piece             a run, and an item
---     bytesOf, pieceBytes      their bytes
+--     itemsBytes, pieceBytes   their bytes
 --     Stands                   a command stands in its bytes, whatever follows
 --     Formed, FormedPiece      every command stands in its bytes, and groups stand in one another to a depth
 --     Read                     what a run or an item leads to
@@ -26,13 +26,13 @@ mutual
     bracketed : Items → Piece
 
 unfoldable mutual
-  pub bytesOf : Items → List ℕ
-  bytesOf none = []
-  bytesOf (also x xs) = pieceBytes x ++ bytesOf xs
+  pub itemsBytes : Items → List ℕ
+  itemsBytes none = []
+  itemsBytes (also x xs) = pieceBytes x ++ itemsBytes xs
 
   pub pieceBytes : Piece → List ℕ
   pieceBytes (single c b ps) = b ∷ ps
-  pieceBytes (bracketed xs) = PUSH ∷ bytesOf xs ++ (POP ∷ [])
+  pieceBytes (bracketed xs) = PUSH ∷ itemsBytes xs ++ (POP ∷ [])
 
 pub record Stands (c : Command) (b : ℕ) (ps : List ℕ) : Type 0 where
   pub decoded : (rest : List ℕ) → decode b (ps ++ rest) ≡ command c (length ps)

@@ -7,14 +7,14 @@
 use mathlib.Core.Path.{_≡_, refl, sym, ap, subst, _∙_}
 use mathlib.Core.List.{List, [], _∷_, _++_, append-nil, append-assoc}
 use Prim.Native.Nat.{ℕ, zero, suc, _+_}
-use native.Mathlib.Nat.{add-zero, zero-add}
+use native.Mathlib.Nat.{add-zero, zero-add, suc-ne-zero}
 use native.Mathlib.Omega.{arith}
 use borrow.Author.Tests.{ne-eqb, le-leb}
 use lib.IntN.{ℤ, pos}
 use lib.ListN.{length, drop, length-append}
 use lib.Seq.{drop-at}
 use Rattle.octets.specs.Octets.{numberFrom, twos, signed, fits32}
-use Rattle.dvi.specs.Command.{PUSH, POP, Command, setFont, moveX, horzChar, forms, formOf, withParameters, decode}
+use Rattle.dvi.specs.Command.{PUSH, POP, Command, setFont, moveX, horzChar, layouts, layoutOf, withParameters, decode}
 use Rattle.sheet.specs.Sheet.{Mark, charMark}
 use Rattle.dvi.specs.Page.{maxStack, Numbers, Page, newPage, Effect, fault, moved, marked, ended, withNumbers, withFont, rightBy, setX, ifFits, goTo, charHere, setStill, effect}
 use Rattle.dvi.specs.File as F
@@ -23,8 +23,10 @@ use Rattle.dvi.specs.File.{inside}
 use Rattle.sheet.specs.ShownLaws.{showsFirst-append}
 use Rattle.dvi_brackets.specs.Brackets.{pastItem, Run, badRun, toPop, toEop, effectItem, commandItem, leave, group, item, first, run, itemHere}
 use Rattle.dvi_brackets.specs.BracketsLaws.{first-none, first-first, run-pop, run-past}
-use Rattle.dvi_brackets.specs.Agreement.{Clean, run-clean, onto, atPop, atEop, resume, pop-shift, eop-shift, run-agrees}
-use Rattle.dvi_brackets.specs.Tree.{Items, none, also, Piece, single, bracketed, bytesOf, pieceBytes, Stands, Formed, FormedPiece, Read, fails, leads, readFirst, thenRead, effectRead, leaveRead, readItems, readPiece}
+use Rattle.dvi_brackets.specs.Inner.{onto}
+use Rattle.dvi_brackets.specs.Clean.{Clean, run-clean}
+use Rattle.dvi_brackets.specs.RunAgreement.{atPop, atEop, resume, pop-shift, eop-shift, run-agrees}
+use Rattle.dvi_brackets.specs.Tree.{Items, none, also, Piece, single, bracketed, itemsBytes, pieceBytes, Stands, Formed, FormedPiece, Read, fails, leads, readFirst, thenRead, effectRead, leaveRead, readItems, readPiece}
 
 -- ---- a reading taken apart
 
@@ -38,7 +40,7 @@ record Parts (r : Read) (f : Page → Read) (q : Page) (ms : List Mark) : Type 0
   pub marks-are : before ++ after ≡ ms
 
 clash : {A : Type 0} {q : Page} {ms : List Mark} → fails ≡ leads q ms → A
-clash e = let z : _≡_ {A = ℕ} 0 1 = cc in absurd (omega arith)
+clash e = absurd (suc-ne-zero 0 cc)
 
 parts : (r : Read) (f : Page → Read) (q : Page) (ms : List Mark) → thenRead r f ≡ leads q ms → Parts r f q ms
 unfolding thenRead readFirst
@@ -125,9 +127,9 @@ module _ (ws : List ℤ) where
       ∙ (λ i. pastItem (e i) ms (l i)))
 
   mutual
-    unfolding bytesOf readItems
+    unfolding itemsBytes readItems
 
-    pub tree-run : (xs : Items) (d at : ℕ) (p q : Page) (ms : List Mark) (rest : List ℕ) → Formed xs d → readItems xs ws p ≡ leads q ms → Passes d at p (bytesOf xs) q ms rest
+    pub tree-run : (xs : Items) (d at : ℕ) (p q : Page) (ms : List Mark) (rest : List ℕ) → Formed xs d → readItems xs ws p ≡ leads q ms → Passes d at p (itemsBytes xs) q ms rest
     tree-run none d at p q ms rest f e =
         let a : p ≡ q = cc in
         let b : _≡_ {A = List Mark} [] ms = cc in
@@ -135,8 +137,8 @@ module _ (ws : List ℤ) where
         ∙ (λ i. first (b i) 0 (run ws d (sym (add-zero at) i) (a i) 0 rest))
     tree-run (also x xs) d at p q ms rest f e =
         let k = parts (readPiece x ws p) (λ o. readItems xs ws o) q ms e in
-        join d at p (k .between) q (pieceBytes x) (bytesOf xs) (k .before) (k .after) ms rest
-        (piece-run x d at p (k .between) (k .before) (bytesOf xs ++ rest) (f .0) (k .first-is))
+        join d at p (k .between) q (pieceBytes x) (itemsBytes xs) (k .before) (k .after) ms rest
+        (piece-run x d at p (k .between) (k .before) (itemsBytes xs ++ rest) (f .0) (k .first-is))
         (tree-run xs d (at + length (pieceBytes x)) (k .between) q (k .after) rest (f .1) (k .rest-is))
         (k .marks-are)
 
@@ -145,7 +147,7 @@ module _ (ws : List ℤ) where
     piece-run (bracketed xs) zero at p q ms rest f e = absurd f
     piece-run (bracketed xs) (suc d) at p q ms rest f e =
         let k = left p (readItems xs ws p) q ms e in
-        group-passes d at p (k .within) q (bytesOf xs) ms rest (tree-run xs d (at + 1) p (k .within) ms (POP ∷ rest) f (k .inner-is)) (k .left-is)
+        group-passes d at p (k .within) q (itemsBytes xs) ms rest (tree-run xs d (at + 1) p (k .within) ms (POP ∷ rest) f (k .inner-is)) (k .left-is)
 
 -- ---- by the stack
 
@@ -179,18 +181,18 @@ tree-clean : (ws : List ℤ) (xs : Items) (d at : ℕ) (p q : Page) (ms : List M
 unfolding first
 tree-clean ws xs d at p q ms s f e =
     subst Clean
-    (tree-run ws xs d at p q ms (POP ∷ []) f e ∙ ap (first ms (length (bytesOf xs))) (run-pop ws d (at + length (bytesOf xs)) q (POP ∷ []) (omega arith) refl))
-    (run-clean ws (bytesOf xs ++ (POP ∷ [])) d at p 0 s)
+    (tree-run ws xs d at p q ms (POP ∷ []) f e ∙ ap (first ms (length (itemsBytes xs))) (run-pop ws d (at + length (itemsBytes xs)) q (POP ∷ []) (omega arith) refl))
+    (run-clean ws (itemsBytes xs ++ (POP ∷ [])) d at p 0 s)
 
 -- with any stack of so many entries that the groups find room
 pub tree-stack : (ws : List ℤ) (last : ℤ) (xs : Items) (d at : ℕ) (p q : Page) (ms : List Mark) (st : List Numbers) (rest : List ℕ) → p .stack ≡ [] → length st + d ≡ maxStack → Formed xs d
     → readItems xs ws p ≡ leads q ms
-    → F.run ws at (inside last (onto p st)) 0 (bytesOf xs ++ rest) ≡ showsFirst ms (F.run ws (at + length (bytesOf xs)) (inside last (onto q st)) 0 rest)
+    → F.run ws at (inside last (onto p st)) 0 (itemsBytes xs ++ rest) ≡ showsFirst ms (F.run ws (at + length (itemsBytes xs)) (inside last (onto q st)) 0 rest)
 tree-stack ws last xs d at p q ms st rest s h f e =
-    run-agrees ws last (bytesOf xs ++ rest) d at p 0 st s h
-    ∙ ap (resume ws last st at 0 (bytesOf xs ++ rest)) (tree-run ws xs d at p q ms rest f e)
-    ∙ sym (resume-far ws last st rest (bytesOf xs) at ms (run ws d (at + length (bytesOf xs)) q 0 rest))
-    ∙ ap (showsFirst ms) (sym (run-agrees ws last rest d (at + length (bytesOf xs)) q 0 st (tree-clean ws xs d at p q ms s f e) h))
+    run-agrees ws last (itemsBytes xs ++ rest) d at p 0 st s h
+    ∙ ap (resume ws last st at 0 (itemsBytes xs ++ rest)) (tree-run ws xs d at p q ms rest f e)
+    ∙ sym (resume-far ws last st rest (itemsBytes xs) at ms (run ws d (at + length (itemsBytes xs)) q 0 rest))
+    ∙ ap (showsFirst ms) (sym (run-agrees ws last rest d (at + length (itemsBytes xs)) q 0 st (tree-clean ws xs d at p q ms s f e) h))
 
 -- a group leaves the six numbers as they were
 pub group-numbers : (ws : List ℤ) (xs : Items) (p q : Page) (ms : List Mark) → readPiece (bracketed xs) ws p ≡ leads q ms → q .numbers ≡ p .numbers
@@ -206,7 +208,7 @@ sample =
     (also (single (horzChar (pos 66)) 136 (66 ∷ [])) none))
 
 sample-formed : Formed sample maxStack
-unfolding sample decode formOf forms withParameters signed twos numberFrom
+unfolding sample decode layoutOf layouts withParameters signed twos numberFrom
 sample-formed =
     let font : Stands (setFont (pos 0)) 154 [] = record { decoded = λ rest. refl; noPush = λ e. absurd (omega (arith, e)); noPop = λ e. absurd (omega (arith, e)) } in
     let move : Stands (moveX (pos 5)) 144 (0 ∷ 5 ∷ []) = record { decoded = λ rest. rw (le-leb 2 (suc (suc (length rest))) (omega arith)); noPush = λ e. absurd (omega (arith, e)); noPop = λ e. absurd (omega (arith, e)) } in

@@ -83,7 +83,7 @@ fn command_item(
         Decoded::NoCommand => Item::Fault(answer::BAD_COMMAND, at),
         Decoded::CutShort => Item::Fault(answer::DVI_ENDS_EARLY, at),
         Decoded::Whole(c, n) => {
-            let e = page::plain_effect(widths, p, c);
+            let e = dvi_effect::plain_effect(widths, p, c);
             effect_item(out, at, n, e, to, count, writing)
         }
     }

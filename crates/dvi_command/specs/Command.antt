@@ -1,4 +1,9 @@
 -- The code's commands as those of 002.
+--     commandOf       the command that a command of the code is
+--     decodedOf       what decoding gives
+--     parameterOf     the parameter of n bytes, if they are there
+--     stillOf         W0, X0, Y0 and Z0, by their amount
+--     movingOf        a move that sets one of the four amounts
 use Prim.Native.Nat.{ℕ}
 use mathlib.Core.Bool.{Bool, true, false, cond}
 use mathlib.Core.List.{List}

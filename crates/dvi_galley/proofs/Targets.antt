@@ -11,18 +11,18 @@ use lib.Signed.{ltZ, _≤ℤ_}
 use mir.Syntax.{w32}
 use mir.Val.{SFits}
 use Rattle.integers.specs.Parts.{integers, up, dn, sum-parts, dif-parts, scale-parts, abs-parts, range-parts}
-use Rattle.measure.specs.Target.{xTarget, placeOf}
+use Rattle.measure.specs.Target.{xTarget, entryX}
 use Rattle.measure.specs.TargetLaws.{target-parts, target-least, target-greatest}
-use Rattle.dvi_galley.specs.Target.{xAt, heightAt}
-use Rattle.dvi_galley.specs.TargetLaws.{xAt-target, xAt-none}
+use Rattle.dvi_galley.specs.Target.{xOfTarget, heightOfTarget}
+use Rattle.dvi_galley.specs.TargetLaws.{xOfTarget-xTarget, xOfTarget-none}
 
 -- ---- across
 
-pub left-of-all : (t : ℤ) → ltZ t (negsuc 600746) ≡ true → xAt t ≡ none
-left-of-all t h = xAt-none t (λ x l u e. omega (integers, h, target-least x l, e))
+pub left-of-all : (t : ℤ) → ltZ t (negsuc 600746) ≡ true → xOfTarget t ≡ none
+left-of-all t h = xOfTarget-none t (λ x l u e. omega (integers, h, target-least x l, e))
 
-pub right-of-all : (t : ℤ) → ltZ (pos 35378517) t ≡ true → xAt t ≡ none
-right-of-all t h = xAt-none t (λ x l u e. omega (integers, h, target-greatest x u, e))
+pub right-of-all : (t : ℤ) → ltZ (pos 35378517) t ≡ true → xOfTarget t ≡ none
+right-of-all t h = xOfTarget-none t (λ x l u e. omega (integers, h, target-greatest x u, e))
 
 module _ (t : ℤ) (low : negsuc 600746 ≤ℤ t) (high : t ≤ℤ pos 35378517) where
   abbrev pub shifted : ℤ
@@ -55,7 +55,7 @@ module _ (t : ℤ) (low : negsuc 600746 ≤ℤ t) (high : t ≤ℤ pos 35378517)
   index-fits = omega (integers, index-below)
 
   -- as the code makes it, by a sum
-  pub index-place : (pos index +ℤ negsuc 54) ≡ placeOf index
+  pub index-place : (pos index +ℤ negsuc 54) ≡ entryX index
   index-place = omega (integers, sum-parts (pos index) (negsuc 54), dif-parts (pos index) (pos 55))
 
   pub place-fits : SFits w32 (pos index +ℤ negsuc 54)
@@ -64,32 +64,32 @@ module _ (t : ℤ) (low : negsuc 600746 ≤ℤ t) (high : t ≤ℤ pos 35378517)
   shifted-is : natAbs shifted + 3 * dn t ≡ 3 * up t + 1818624
   shifted-is = omega (integers, shifted-parts, abs-parts shifted, scale-parts 3 t, sum-parts (pos 3 *ℤ t) (pos 1818624))
 
-  nearest : (x : ℤ) → xTarget x ≡ t → placeOf index ≡ x
+  nearest : (x : ℤ) → xTarget x ≡ t → entryX index ≡ x
   nearest x e =
       let k : ℕ = index in
       omega (integers, target-parts x, e, shifted-is, dif-parts (pos k) (pos 55))
 
-  pub index-found : xTarget (placeOf index) ≡ t → xAt t ≡ some (placeOf index)
+  pub index-found : xTarget (entryX index) ≡ t → xOfTarget t ≡ some (entryX index)
   index-found e =
-      ap xAt (sym e)
-      ∙ xAt-target (placeOf index) (omega (integers, dif-parts (pos index) (pos 55))) (omega (integers, index-below, dif-parts (pos index) (pos 55)))
+      ap xOfTarget (sym e)
+      ∙ xOfTarget-xTarget (entryX index) (omega (integers, dif-parts (pos index) (pos 55))) (omega (integers, index-below, dif-parts (pos index) (pos 55)))
 
-  pub index-missing : (xTarget (placeOf index) ≡ t → ⊥) → xAt t ≡ none
-  index-missing n = xAt-none t (λ x l u e. n (ap xTarget (nearest x e) ∙ e))
+  pub index-missing : (xTarget (entryX index) ≡ t → ⊥) → xOfTarget t ≡ none
+  index-missing n = xOfTarget-none t (λ x l u e. n (ap xTarget (nearest x e) ∙ e))
 
 -- ---- down
 
-pub height-negative : (t : ℤ) → ltZ t (pos 0) ≡ true → none ≡ heightAt t
-unfolding heightAt
+pub height-negative : (t : ℤ) → ltZ t (pos 0) ≡ true → none ≡ heightOfTarget t
+unfolding heightOfTarget
 height-negative (pos n) h = absurd (omega (arith, ltb-true n 0 h))
 height-negative (negsuc n) h = refl
 
-pub height-found : (t : ℤ) → ltZ t (pos 0) ≡ false → natAbs t % 32768 ≡ 0 → some (pos (natAbs t / 32768)) ≡ heightAt t
-unfolding heightAt
+pub height-found : (t : ℤ) → ltZ t (pos 0) ≡ false → natAbs t % 32768 ≡ 0 → some (pos (natAbs t / 32768)) ≡ heightOfTarget t
+unfolding heightOfTarget
 height-found (pos n) h e = rw (eq-eqb (n % 32768) 0 e)
 height-found (negsuc n) h e = absurd (true≢false h)
 
-pub height-missing : (t : ℤ) → ltZ t (pos 0) ≡ false → (natAbs t % 32768 ≡ 0 → ⊥) → none ≡ heightAt t
-unfolding heightAt
+pub height-missing : (t : ℤ) → ltZ t (pos 0) ≡ false → (natAbs t % 32768 ≡ 0 → ⊥) → none ≡ heightOfTarget t
+unfolding heightOfTarget
 height-missing (pos n) h e = rw (ne-eqb (n % 32768) 0 e)
 height-missing (negsuc n) h e = absurd (true≢false h)

@@ -1,13 +1,13 @@
 -- The galley whose targets a DVI file shows (document 02, "DVI back to a galley").
---     characterOf      the character that is shown in this font and place, and with this number
---     itemOf           the item that a mark shows, on page n: a character, or a cut
---     Made             what the marks so far make: nothing, items, or the place of the first command that breaks a condition
---     withMark         one mark more
---     makes            a list of marks more
---     backResult       what the file gives, for a table of widths and a buffer of so many bytes
---     GalleyOf         marks show the targets of these items, a valid galley
---     Conditions       the conditions for such a galley
---     FirstBreak       the first command with which what is shown is no galley's
+--     characterShown     the character that is shown in this font and place, and with this number
+--     itemShown          the item that a mark shows, on page n: a character, or a cut
+--     Made                what the marks so far make: nothing, items, or the place of the first command that breaks a condition
+--     withMark            one mark more
+--     makes               a list of marks more
+--     backResult          what the file gives, for a table of widths and a buffer of so many bytes
+--     GalleyOf            marks show the targets of these items, a valid galley
+--     Conditions          the conditions for such a galley
+--     FirstBreak          the first command with which what is shown is no galley's
 use Prim.Native.Nat.{ℕ, suc, _+_, _-_, _≤_}
 use mathlib.Core.Bool.{true, cond}
 use mathlib.Core.Logic.{_⊎_}
@@ -17,7 +17,7 @@ use mathlib.Core.Path.{_≡_}
 use lib.Dec.{ltb}
 use lib.IntN.{ℤ, pos, negsuc}
 use lib.ListN.{length}
-use Rattle.integers.specs.Parts.{eqZ}
+use Rattle.integers.specs.Equality.{eqZ}
 use Rattle.integers.specs.Tables.{numbers}
 use Rattle.octets.specs.Answer.{Result, refusal, written, ifRoom, noGalley, noGalleyRoom}
 use Rattle.measure.specs.Place.{heightEnd}
@@ -35,7 +35,7 @@ use Rattle.dvi.specs.File.{PlacedMark, markIn, readPlaced}
 use Rattle.sheet.specs.Readable.{ifReadable}
 use Rattle.dvi.specs.Sheet.{wholeFonts}
 use Rattle.dvi.specs.Demand3.{marksOf}
-use Rattle.dvi_galley.specs.Target.{xAt, heightAt}
+use Rattle.dvi_galley.specs.Target.{xOfTarget, heightOfTarget}
 
 -- ---- a mark's item
 
@@ -43,21 +43,21 @@ use Rattle.dvi_galley.specs.Target.{xAt, heightAt}
 abbrev pub ifValid : Character → Option Character
 ifValid c = cond (valid heightEnd c) (some c) none
 
-unfoldable pub characterOf : Option ℤ → Option ℤ → ℤ → ℕ → Option Character
-characterOf (some x) (some h) (pos f) c = ifValid (record { x = record { 0 = x }; height = record { 0 = h }; font = f; code = c })
-characterOf (some x) (some h) (negsuc f) c = none
-characterOf (some x) none f c = none
-characterOf none h f c = none
+unfoldable pub characterShown : Option ℤ → Option ℤ → ℤ → ℕ → Option Character
+characterShown (some x) (some h) (pos f) c = ifValid (record { x = record { 0 = x }; height = record { 0 = h }; font = f; code = c })
+characterShown (some x) (some h) (negsuc f) c = none
+characterShown (some x) none f c = none
+characterShown none h f c = none
 
 abbrev pub placedItem : Option Character → Option Item
 placedItem (some c) = some (Placed c)
 placedItem none = none
 
 -- after n pages: "pages are numbered 1, 2, 3 on, there are no rules"
-unfoldable pub itemOf : ℕ → Mark → Option Item
-itemOf n (pageMark z) = cond (eqZ z (pos (suc n))) (some Cut) none
-itemOf n (charMark x y f c) = placedItem (characterOf (xAt x) (heightAt y) f c)
-itemOf n (ruleMark kind x y h w) = none
+unfoldable pub itemShown : ℕ → Mark → Option Item
+itemShown n (pageMark z) = cond (eqZ z (pos (suc n))) (some Cut) none
+itemShown n (charMark x y f c) = placedItem (characterShown (xOfTarget x) (heightOfTarget y) f c)
+itemShown n (ruleMark kind x y h w) = none
 
 -- ---- the galley, mark by mark
 
@@ -85,7 +85,7 @@ withItem (made is) at none = broken at
 withItem (broken place) at i = broken place
 
 unfoldable pub withMark : Made → PlacedMark → Made
-withMark m p = withItem m (p .place) (itemOf (pagesOf m) (p .mark))
+withMark m p = withItem m (p .place) (itemShown (pagesOf m) (p .mark))
 
 unfoldable pub makes : Made → List PlacedMark → Made
 makes m [] = m
@@ -124,11 +124,11 @@ pageNumbers (pageMark z ∷ ms) = z ∷ pageNumbers ms
 pageNumbers (charMark x y f c ∷ ms) = pageNumbers ms
 pageNumbers (ruleMark kind x y h w ∷ ms) = pageNumbers ms
 
-unfoldable pub charactersShown : List Mark → ℕ
-charactersShown [] = 0
-charactersShown (pageMark z ∷ ms) = charactersShown ms
-charactersShown (charMark x y f c ∷ ms) = charactersShown ms + 1
-charactersShown (ruleMark kind x y h w ∷ ms) = charactersShown ms
+unfoldable pub characterCount : List Mark → ℕ
+characterCount [] = 0
+characterCount (pageMark z ∷ ms) = characterCount ms
+characterCount (charMark x y f c ∷ ms) = characterCount ms + 1
+characterCount (ruleMark kind x y h w ∷ ms) = characterCount ms
 
 -- "each character is 1 to 108 in a font 0 to 119 whose place is the target of a valid x and height": it is that of a valid character
 pub record AtTarget (x y f : ℤ) (c : ℕ) : Type 0 where
@@ -155,7 +155,7 @@ pub record Conditions (ms : List Mark) : Type 0 where
   -- "there are no rules, and each character is .."
   pub all-sound : AllSound ms
   -- "characters and cuts are at most 1,048,576": a cut is the start of a page after the first
-  pub few : charactersShown ms + (length (pageNumbers ms) - 1) ≤ maxItems
+  pub few : characterCount ms + (length (pageNumbers ms) - 1) ≤ maxItems
 
 -- ---- the place of 45
 

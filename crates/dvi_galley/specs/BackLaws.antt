@@ -1,39 +1,36 @@
 -- The galley of what a file shows: there is one exactly where `makes` finds one, and then only that.
---     item-is, is-item         the item of a mark is the one whose target it shows
---     makes-exactly            the marks make these items exactly if these are the galley whose targets they show
---     only-galley              there is at most one
---     back-written             a file that our own writer made gives back its galley
+--     makes-broken, makes-append     a broken condition stays; marks one list after another
+--     makes-exactly                  the marks make these items exactly if these are the galley whose targets they show
+--     only-galley                    there is at most one
+--     back-written                   a file that our own writer made gives back its galley
 -- Assumes nothing.
 use mathlib.Core.Logic.{_↔_}
 use mathlib.Core.Path.{_≡_, refl, sym, ap, subst, _∙_}
-use mathlib.Core.Bool.{Bool, true, cond}
+use mathlib.Core.Bool.{Bool, cond}
 use mathlib.Core.List.{List, [], _∷_, _++_, map, append-nil, append-assoc}
 use mathlib.Core.Option.{Option, none, some}
 use Prim.Native.Nat.{ℕ, suc, _+_, _%_, _≤_, _<_}
+use native.Mathlib.Nat.{suc-ne-zero}
 use native.Mathlib.Omega.{arith}
 use borrow.Author.Tests.{lt-ltb, ltb-true}
 use lib.Dec.{ltb}
-use lib.IntN.{ℤ, pos, negsuc}
+use lib.IntN.{ℤ, pos}
 use lib.ListN.{length, length-append}
-use Rattle.integers.specs.Parts.{eqZ, eqZ-true, true-eqZ}
 use Rattle.octets.specs.Octets.{Bytes}
 use Rattle.octets.specs.OctetsLaws.{by-cond}
 use Rattle.octets.specs.Answer.{accepted, written, ifRoom, noGalleyRoom}
 use Rattle.measure.specs.Place.{heightEnd, lowEnd}
-use Rattle.measure.specs.Target.{xTarget, yTarget}
-use Rattle.galley_file.specs.declared.character.Character.{Character}
 use Rattle.galley_file.specs.declared.item.Item.{Item}
 use Rattle.galley_file.specs.declared.item.Item.the-variants.{Placed, Cut}
 use Rattle.galley_file.specs.Character.{valid}
-use Rattle.galley_file.specs.CharacterLaws.{valid-parts, x-range, height-range}
-use Rattle.galley_file.specs.Item.{validItem, cutsOf}
+use Rattle.galley_file.specs.Item.{cutsOf}
 use Rattle.galley_file.specs.ItemLaws.{cuts-append}
 use Rattle.galley_file.specs.declared.form.Form.the-variants.{New}
 use Rattle.galley_file.specs.Galley.{maxItems, AllValid, nil, more, galley, itemsIn, itemsOf}
 use Rattle.galley_file.specs.GalleyLaws.{accepted-is}
 use Rattle.galley_check.specs.Low.{lowOutcome, lowResult}
 use Rattle.galley_check.specs.LowLaws.{raised, low-checked, low-made}
-use Rattle.sheet.specs.Sheet.{Mark, pageMark, charMark, ruleMark}
+use Rattle.sheet.specs.Sheet.{Mark, pageMark}
 use Rattle.sheet.specs.Readable.{maxFile, fontChars}
 use Rattle.sheet.specs.Shown.{ShownAs, refusedAt, shows}
 use Rattle.dvi.specs.File.{readDvi, PlacedMark, markIn, placedAt, readPlaced, unplaced}
@@ -42,69 +39,9 @@ use Rattle.dvi.specs.SheetLaws.{readable}
 use Rattle.dvi.specs.Writer.{dviFile}
 use Rattle.dvi.specs.WriterLaws.{file-fits}
 use Rattle.dvi.proofs.Shown.{file-shows}
-use Rattle.dvi.specs.Demand3.{markOf, marksOf}
-use Rattle.dvi_galley.specs.Target.{xAt, heightAt}
-use Rattle.dvi_galley.specs.TargetLaws.{xAt-target, target-xAt, heightAt-target, target-heightAt}
-use Rattle.dvi_galley.specs.Back.{ifValid, characterOf, placedItem, itemOf, Made, nothing, made, broken, withItem, withMark, makes, madeResult, shownGalley, backResult, GalleyOf}
-
--- ---- a mark and its item
-
--- the mark that shows an item, after n pages
-abbrev pub markAt : ℕ → Item → Mark
-markAt n (Placed c) = markOf c
-markAt n Cut = pageMark (pos (suc n))
-
-marksOf-next : (n : ℕ) (i : Item) (is : List Item) → marksOf n (i ∷ is) ≡ markAt n i ∷ marksOf (n + cutsOf (i ∷ [])) is
-unfolding marksOf cutsOf
-marksOf-next n (Placed c) is = ap (λ (k : ℕ). markOf c ∷ marksOf k is) (omega arith)
-marksOf-next n Cut is = ap (λ (k : ℕ). pageMark (pos (suc n)) ∷ marksOf k is) (omega arith)
-
--- what a valid character at these places tells
-valid-is : (X Y : ℤ) (d c : Character) → xTarget (d .x .0) ≡ X → yTarget (d .height .0) ≡ Y → ifValid d ≡ some c → (charMark X Y (pos (d .font)) (d .code) ≡ markOf c) × (valid heightEnd c ≡ true)
-unfolding markOf
-valid-is X Y d c p q =
-    by-cond (λ (o : Option Character). o ≡ some c → (charMark X Y (pos (d .font)) (d .code) ≡ markOf c) × (valid heightEnd c ≡ true)) (valid heightEnd d) (some d) none
-    (λ v e.
-    let s : d ≡ c = cc in
-    ((λ i. charMark (sym p i) (sym q i) (pos (d .font)) (d .code)) ∙ ap markOf s, ap (valid heightEnd) (sym s) ∙ v))
-    (λ v e. let z : _≡_ {A = ℕ} 0 1 = cc in absurd (omega arith))
-
-character-is : (X Y F : ℤ) (k : ℕ) (ox oh : Option ℤ) (c : Character) → ((x : ℤ) → ox ≡ some x → xTarget x ≡ X) → ((h : ℤ) → oh ≡ some h → yTarget h ≡ Y)
-    → characterOf ox oh F k ≡ some c → (charMark X Y F k ≡ markOf c) × (valid heightEnd c ≡ true)
-unfolding characterOf
-character-is X Y (pos f) k (some x) (some h) c p q e =
-    valid-is X Y (record { x = record { 0 = x }; height = record { 0 = h }; font = f; code = k }) c (p x refl) (q h refl) e
-character-is X Y (negsuc f) k (some x) (some h) c p q e = let z : _≡_ {A = ℕ} 0 1 = cc in absurd (omega arith)
-character-is X Y F k (some x) none c p q e = let z : _≡_ {A = ℕ} 0 1 = cc in absurd (omega arith)
-character-is X Y F k none oh c p q e = let z : _≡_ {A = ℕ} 0 1 = cc in absurd (omega arith)
-
-pub item-is : (n : ℕ) (m : Mark) (i : Item) → itemOf n m ≡ some i → (m ≡ markAt n i) × (validItem heightEnd i ≡ true)
-unfolding itemOf
-item-is n (pageMark z) i f =
-    by-cond (λ (o : Option Item). o ≡ some i → (pageMark z ≡ markAt n i) × (validItem heightEnd i ≡ true)) (eqZ z (pos (suc n))) (some Cut) none
-    (λ q e.
-    let s : Cut ≡ i = cc in
-    (ap pageMark (eqZ-true z (pos (suc n)) q) ∙ ap (markAt n) s, ap (validItem heightEnd) (sym s)))
-    (λ q e. let z : _≡_ {A = ℕ} 0 1 = cc in absurd (omega arith))
-    f
-item-is n (charMark X Y F k) i e = go (characterOf (xAt X) (heightAt Y) F k) refl e
-  where
-    go : (o : Option Character) → characterOf (xAt X) (heightAt Y) F k ≡ o → placedItem o ≡ some i → (charMark X Y F k ≡ markAt n i) × (validItem heightEnd i ≡ true)
-    go (some c) q d =
-        let s : Placed c ≡ i = cc in
-        let r = character-is X Y F k (xAt X) (heightAt Y) c (target-xAt X) (target-heightAt Y) q in
-        (r .0 ∙ ap (markAt n) s, ap (validItem heightEnd) (sym s) ∙ r .1)
-    go none q d = let z : _≡_ {A = ℕ} 0 1 = cc in absurd (omega arith)
-item-is n (ruleMark kind x y h w) i e = let z : _≡_ {A = ℕ} 0 1 = cc in absurd (omega arith)
-
-pub is-item : (n : ℕ) (i : Item) → validItem heightEnd i ≡ true → itemOf n (markAt n i) ≡ some i
-unfolding itemOf markOf characterOf
-is-item n (Placed c) v =
-    let p = valid-parts v in
-    let x = xAt-target (c .x .0) (x-range p .0) (x-range p .1) in
-    let h = heightAt-target (c .height .0) (height-range p .0) in
-    (λ j. placedItem (characterOf (x j) (h j) (pos (c .font)) (c .code))) ∙ ap (λ (b : Bool). placedItem (cond b (some c) none)) v
-is-item n Cut v = ap (λ (b : Bool). cond b (some Cut) none) (true-eqZ (pos (suc n)) (pos (suc n)) refl)
+use Rattle.dvi.specs.Demand3.{marksOf}
+use Rattle.dvi_galley.specs.Back.{itemShown, Made, nothing, made, broken, withItem, withMark, makes, madeResult, shownGalley, backResult, GalleyOf}
+use Rattle.dvi_galley.specs.MarkLaws.{markAt, marksOf-next, item-is, is-item}
 
 -- ---- marks and items
 
@@ -129,7 +66,7 @@ unfolding makes
 makes-append b [] qs = refl
 makes-append b (p ∷ ps) qs = makes-append (withMark b p) ps qs
 
-next-more : (p : PlacedMark) (ms : List Mark) (is js : List Item) (i : Item) → itemOf (suc (cutsOf is)) (p .mark) ≡ some i → length is < maxItems
+next-more : (p : PlacedMark) (ms : List Mark) (is js : List Item) (i : Item) → itemShown (suc (cutsOf is)) (p .mark) ≡ some i → length is < maxItems
     → More ms (is ++ (i ∷ [])) js → More (p .mark ∷ ms) is js
 next-more p ms is js i e l r =
     let d = item-is (suc (cutsOf is)) (p .mark) i e in
@@ -145,16 +82,16 @@ next-more p ms is js i e l r =
     }
 
 broken-not : {place : ℕ} {js : List Item} → broken place ≡ made js → ⊥
-broken-not e = let z : _≡_ {A = ℕ} 0 1 = cc in omega arith
+broken-not e = suc-ne-zero 0 cc
 
 made-more : (ps : List PlacedMark) (is js : List Item) → makes (made is) ps ≡ made js → More (map markIn ps) is js
 unfolding makes withMark withItem marksOf
 made-more [] is js e =
     let s : is ≡ js = cc in
     record { items = []; are = sym s ∙ sym (append-nil is); marks-are = refl; all-valid = nil; few = λ h. omega (arith, ap length s) }
-made-more (p ∷ ps) is js e = go (itemOf (suc (cutsOf is)) (p .mark)) refl e (λ ks. made-more ps ks js)
+made-more (p ∷ ps) is js e = go (itemShown (suc (cutsOf is)) (p .mark)) refl e (λ ks. made-more ps ks js)
   where
-    go : (o : Option Item) → itemOf (suc (cutsOf is)) (p .mark) ≡ o → makes (withItem (made is) (p .place) o) ps ≡ made js
+    go : (o : Option Item) → itemShown (suc (cutsOf is)) (p .mark) ≡ o → makes (withItem (made is) (p .place) o) ps ≡ made js
         → ((ks : List Item) → makes (made ks) ps ≡ made js → More (map markIn ps) ks js) → More (p .mark ∷ map markIn ps) is js
     go none q f r = absurd (broken-not (sym (makes-broken (p .place) ps) ∙ f))
     go (some i) q f r =
@@ -175,14 +112,15 @@ more-made (k ∷ ks) is (p ∷ ps) (more v vs) l e =
     let m : p .mark ≡ markAt n k = cc in
     let r : map markIn ps ≡ marksOf (n + cutsOf (k ∷ [])) ks = cc in
     let s : map markIn ps ≡ marksOf (suc (cutsOf (is ++ (k ∷ [])))) ks = r ∙ ap (λ (j : ℕ). marksOf j ks) (sym (pages-more is k)) in
-    ap (λ (o : Option Item). makes (withItem (made is) (p .place) o) ps) (ap (itemOf n) m ∙ is-item n k v)
+    ap (λ (o : Option Item). makes (withItem (made is) (p .place) o) ps) (ap (itemShown n) m ∙ is-item n k v)
     ∙ ap (λ (b : Bool). makes (cond b (made (is ++ (k ∷ []))) (broken (p .place))) ps) (lt-ltb (length is) maxItems (omega arith))
     ∙ more-made ks (is ++ (k ∷ [])) ps vs (omega (arith, length-append is (k ∷ []))) s
     ∙ ap made (append-assoc is (k ∷ []) ks)
 
 -- ---- the whole
 
-first-made : (p : PlacedMark) (ps : List PlacedMark) (is : List Item) (o : Option Item) → itemOf 0 (p .mark) ≡ o → makes (withItem nothing (p .place) o) ps ≡ made is → GalleyOf (p .mark ∷ map markIn ps) is
+first-made : (p : PlacedMark) (ps : List PlacedMark) (is : List Item) (o : Option Item) → itemShown 0 (p .mark) ≡ o
+    → makes (withItem nothing (p .place) o) ps ≡ made is → GalleyOf (p .mark ∷ map markIn ps) is
 unfolding withItem cutsOf
 first-made p ps is none q e = absurd (broken-not (sym (makes-broken (p .place) ps) ∙ e))
 first-made p ps is (some (Placed c)) q e = absurd (broken-not (sym (makes-broken (p .place) ps) ∙ e))
@@ -198,8 +136,8 @@ first-made p ps is (some Cut) q e =
 
 made-galley : (ps : List PlacedMark) (is : List Item) → makes nothing ps ≡ made is → GalleyOf (map markIn ps) is
 unfolding makes withMark
-made-galley [] is e = let z : _≡_ {A = ℕ} 0 1 = cc in absurd (omega arith)
-made-galley (p ∷ ps) is e = first-made p ps is (itemOf 0 (p .mark)) refl e
+made-galley [] is e = absurd (suc-ne-zero 0 cc)
+made-galley (p ∷ ps) is e = first-made p ps is (itemShown 0 (p .mark)) refl e
 
 galley-made : (ps : List PlacedMark) (is : List Item) → GalleyOf (map markIn ps) is → makes nothing ps ≡ made is
 unfolding makes withMark withItem cutsOf
@@ -208,7 +146,7 @@ galley-made (p ∷ ps) is g =
     let e : p .mark ∷ map markIn ps ≡ pageMark (pos 1) ∷ marksOf 1 is = g .targets in
     let m : p .mark ≡ pageMark (pos 1) = cc in
     let r : map markIn ps ≡ marksOf 1 is = cc in
-    ap (λ (o : Option Item). makes (withItem nothing (p .place) o) ps) (ap (itemOf 0) m ∙ is-item 0 Cut refl)
+    ap (λ (o : Option Item). makes (withItem nothing (p .place) o) ps) (ap (itemShown 0) m ∙ is-item 0 Cut refl)
     ∙ more-made is [] ps (g .all-valid) (omega (arith, g .few)) r
 
 pub makes-exactly : (ps : List PlacedMark) (is : List Item) → (makes nothing ps ≡ made is) ↔ GalleyOf (map markIn ps) is
@@ -234,11 +172,13 @@ module _ (dvi : List ℕ) (widths : List ℤ) (l : length dvi ≤ maxFile) (w : 
   shown-marks : {ms : List Mark} → readDvi widths dvi ≡ shows ms → (ps : List PlacedMark) × ((readPlaced widths dvi ≡ shows ps) × (map markIn ps ≡ ms))
   shown-marks {ms} e = go (readPlaced widths dvi) refl (unplaced-read widths dvi ∙ e)
     where
-      go : (x : ShownAs PlacedMark) → readPlaced widths dvi ≡ x → unplaced x ≡ shows ms → (ps : List PlacedMark) × ((readPlaced widths dvi ≡ shows ps) × (map markIn ps ≡ ms))
-      go (refusedAt k at) q f = let z : _≡_ {A = ℕ} 0 1 = cc in absurd (omega arith)
+      go : (x : ShownAs PlacedMark) → readPlaced widths dvi ≡ x → unplaced x ≡ shows ms
+          → (ps : List PlacedMark) × ((readPlaced widths dvi ≡ shows ps) × (map markIn ps ≡ ms))
+      go (refusedAt k at) q f = absurd (suc-ne-zero 0 cc)
       go (shows ps) q f = (ps, (q, cc))
 
-  pub back-shown : {ms : List Mark} {is : List Item} → readDvi widths dvi ≡ shows ms → GalleyOf ms is → (room : ℕ) → backResult dvi widths room ≡ ifRoom noGalleyRoom room (written (galley New is))
+  pub back-shown : {ms : List Mark} {is : List Item} → readDvi widths dvi ≡ shows ms → GalleyOf ms is → (room : ℕ)
+      → backResult dvi widths room ≡ ifRoom noGalleyRoom room (written (galley New is))
   unfolding backResult shownGalley madeResult
   back-shown {ms} {is} e g room =
       let s = shown-marks e in
@@ -249,7 +189,8 @@ module _ (dvi : List ℕ) (widths : List ℤ) (l : length dvi ≤ maxFile) (w : 
 
 -- a file that our own writer made of valid items of low heights
 module _ (widths : List ℤ) (w : length widths % fontChars ≡ 0) where
-  pub back-file : {is : List Item} → AllValid lowEnd is → length is ≤ maxItems → (room : ℕ) → backResult (dviFile is) widths room ≡ ifRoom noGalleyRoom room (written (galley New is))
+  pub back-file : {is : List Item} → AllValid lowEnd is → length is ≤ maxItems → (room : ℕ)
+      → backResult (dviFile is) widths room ≡ ifRoom noGalleyRoom room (written (galley New is))
   back-file {is} v h room =
       back-shown (dviFile is) widths (file-fits is h) w (file-shows widths v h) (record { targets = refl; all-valid = raised v; few = h }) room
 

@@ -2,6 +2,8 @@
 pub mod Target
 pub mod TargetLaws
 pub mod Back
+pub mod MarkLaws
 pub mod BackLaws
 pub mod ExistsLaws
+pub mod ResultLaws
 pub mod Taken

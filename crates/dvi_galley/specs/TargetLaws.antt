@@ -1,20 +1,24 @@
 -- A target is of one place only: what is found has it, and what has it is found.
+--     xOfTarget-xTarget, heightOfTarget-yTarget     what has it is found
+--     xTarget-xOfTarget, yTarget-heightOfTarget     what is found has it
+--     xOfTarget-none                                where no x of the table has it, none is found
 -- Assumes nothing.
 use mathlib.Core.Path.{_≡_, refl, sym, ap, _∙_}
 use mathlib.Core.Logic.{_⊎_, inl, inr}
 use mathlib.Core.Bool.{Bool, true, false, cond}
 use mathlib.Core.Option.{Option, none, some}
-use Prim.Native.Nat.{ℕ, zero, suc, _+_, _*_, _/_, _%_}
+use Prim.Native.Nat.{ℕ, zero, suc, _*_, _/_, _%_}
 use native.Mathlib.Omega.{arith}
 use borrow.Author.Tests.{eq-eqb, eqb-true}
 use lib.Dec.{eqb}
 use lib.IntN.{ℤ, pos, negsuc, _+ℤ_, _*ℤ_}
 use lib.Signed.{_≤ℤ_, _<ℤ_, ltZ}
-use Rattle.integers.specs.Parts.{integers, sum-parts, eqZ, eqZ-true, eqZ-false}
+use Rattle.integers.specs.Parts.{integers, sum-parts}
+use Rattle.integers.specs.Equality.{eqZ, eqZ-true, eqZ-false}
 use Rattle.octets.specs.OctetsLaws.{by-cond}
 use Rattle.measure.specs.Target.{xTarget, yTarget}
 use Rattle.measure.specs.TargetLaws.{target-injective}
-use Rattle.dvi_galley.specs.Target.{xFrom, xAt, heightAt}
+use Rattle.dvi_galley.specs.Target.{xFrom, xOfTarget, heightOfTarget}
 
 -- ---- across
 
@@ -57,30 +61,30 @@ target-from t z (suc k) x d =
     (λ q e. target-from t (z +ℤ pos 1) k x e)
     d
 
-pub xAt-target : (x : ℤ) → negsuc 54 ≤ℤ x → x ≤ℤ pos 3239 → xAt (xTarget x) ≡ some x
-unfolding xAt
-xAt-target x l h = found-from (xTarget x) (negsuc 54) 3295 x l (omega (integers, sum-parts (negsuc 54) (pos 3295))) refl
+pub xOfTarget-xTarget : (x : ℤ) → negsuc 54 ≤ℤ x → x ≤ℤ pos 3239 → xOfTarget (xTarget x) ≡ some x
+unfolding xOfTarget
+xOfTarget-xTarget x l h = found-from (xTarget x) (negsuc 54) 3295 x l (omega (integers, sum-parts (negsuc 54) (pos 3295))) refl
 
-pub xAt-none : (t : ℤ) → ((x : ℤ) → negsuc 54 ≤ℤ x → x ≤ℤ pos 3239 → xTarget x ≡ t → ⊥) → xAt t ≡ none
-unfolding xAt
-xAt-none t h = none-from t (negsuc 54) 3295 (λ x l u. h x l (omega (integers, sum-parts (negsuc 54) (pos 3295))))
+pub xOfTarget-none : (t : ℤ) → ((x : ℤ) → negsuc 54 ≤ℤ x → x ≤ℤ pos 3239 → xTarget x ≡ t → ⊥) → xOfTarget t ≡ none
+unfolding xOfTarget
+xOfTarget-none t h = none-from t (negsuc 54) 3295 (λ x l u. h x l (omega (integers, sum-parts (negsuc 54) (pos 3295))))
 
-pub target-xAt : (t x : ℤ) → xAt t ≡ some x → xTarget x ≡ t
-unfolding xAt
-target-xAt t x e = target-from t (negsuc 54) 3295 x e
+pub xTarget-xOfTarget : (t x : ℤ) → xOfTarget t ≡ some x → xTarget x ≡ t
+unfolding xOfTarget
+xTarget-xOfTarget t x e = target-from t (negsuc 54) 3295 x e
 
 -- ---- down
 
-pub heightAt-target : (h : ℤ) → pos 0 ≤ℤ h → heightAt (yTarget h) ≡ some h
-unfolding heightAt yTarget
-heightAt-target (pos n) l =
+pub heightOfTarget-yTarget : (h : ℤ) → pos 0 ≤ℤ h → heightOfTarget (yTarget h) ≡ some h
+unfolding heightOfTarget yTarget
+heightOfTarget-yTarget (pos n) l =
     let d : (32768 * n) / 32768 ≡ n = omega arith in
     ap (λ (b : Bool). cond b (some (pos ((32768 * n) / 32768))) none) (eq-eqb ((32768 * n) % 32768) 0 (omega arith)) ∙ ap (λ (k : ℕ). some (pos k)) d
-heightAt-target (negsuc n) l = absurd (l .le)
+heightOfTarget-yTarget (negsuc n) l = absurd (l .le)
 
-pub target-heightAt : (t h : ℤ) → heightAt t ≡ some h → yTarget h ≡ t
-unfolding heightAt yTarget
-target-heightAt (pos n) h f =
+pub yTarget-heightOfTarget : (t h : ℤ) → heightOfTarget t ≡ some h → yTarget h ≡ t
+unfolding heightOfTarget yTarget
+yTarget-heightOfTarget (pos n) h f =
     by-cond (λ (o : Option ℤ). o ≡ some h → pos 32768 *ℤ h ≡ pos n) (eqb (n % 32768) 0) (some (pos (n / 32768))) none
     (λ q e.
     let d : pos (n / 32768) ≡ h = cc in
@@ -88,4 +92,4 @@ target-heightAt (pos n) h f =
     ap (λ (k : ℤ). pos 32768 *ℤ k) (sym d) ∙ ap pos r)
     (λ q e. cc)
     f
-target-heightAt (negsuc n) h e = cc
+yTarget-heightOfTarget (negsuc n) h e = cc

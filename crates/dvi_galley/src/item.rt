@@ -15,13 +15,13 @@ ghost use mathlib.Core.Bool.{true, cond};
 ghost use mathlib.Core.Option.{none, some};
 ghost use Prim.Native.Nat.{ℕ, suc};
 ghost use lib.IntN.{pos};
-ghost use Rattle.integers.specs.Parts.{eqZ};
+ghost use Rattle.integers.specs.Equality.{eqZ};
 ghost use Rattle.measure.specs.Place.{heightEnd, within};
 ghost use Rattle.measure.specs.Target.{xTargets};
 ghost use Rattle.galley_file.specs.declared.item.Item.the-variants as I;
 ghost use Rattle.dvi.specs.Mark.{markOf};
-ghost use Rattle.dvi_galley.specs.Target.{xAt, heightAt};
-ghost use Rattle.dvi_galley.specs.Back.{placedItem, characterOf, itemOf};
+ghost use Rattle.dvi_galley.specs.Target.{xOfTarget, heightOfTarget};
+ghost use Rattle.dvi_galley.specs.Back.{placedItem, characterShown, itemShown};
 ghost use Rattle.dvi_galley.specs.Taken.{takenOf};
 
 const FONTS: i32 = 120;
@@ -35,7 +35,7 @@ pub enum Taken {
 // A character at x and of height h, if it is valid.
 fn valid_at(x: Units, h: Quanta, font: i32, ch: u8) -> Taken
     requires { ⌜ within heightEnd (h .0) ≡ true ⌝ }
-    ensures { λ r. ⌜ takenOf r ≡ placedItem (characterOf (some (x .0)) (some (h .0)) font ch) ⌝ }
+    ensures { λ r. ⌜ takenOf r ≡ placedItem (characterShown (some (x .0)) (some (h .0)) font ch) ⌝ }
 {
     if font < 0 {
         return Taken::Not;
@@ -58,13 +58,13 @@ fn valid_at(x: Units, h: Quanta, font: i32, ch: u8) -> Taken
 // A character whose targets are x and y.
 fn character_of(targets: &TargetTable, x: Rsu, y: Rsu, font: i32, ch: u8) -> Taken
     requires { ⌜ now targets ≡ xTargets ⌝ }
-    ensures { λ r. ⌜ takenOf r ≡ placedItem (characterOf (xAt (x .0)) (heightAt (y .0)) font ch) ⌝ }
+    ensures { λ r. ⌜ takenOf r ≡ placedItem (characterShown (xOfTarget (x .0)) (heightOfTarget (y .0)) font ch) ⌝ }
 {
-    let a = target::x_at(targets, x);
+    let a = target::x_of_target(targets, x);
     match a {
         Across::Nowhere => Taken::Not,
         Across::At(u) => {
-            let d = target::height_at(y);
+            let d = target::height_of_target(y);
             match d {
                 Down::Nowhere => Taken::Not,
                 Down::At(h) => valid_at(u, h, font, ch),
@@ -86,7 +86,7 @@ fn page_of(next: i64, n: i32) -> Taken
 // The item that a mark shows, where page `next` is due.
 pub fn item_of(targets: &TargetTable, next: i64, m: Mark) -> Taken
     requires { ⌜ now targets ≡ xTargets ⌝ }
-    ensures { λ r. ⌜ ((n : ℕ) → next ≡ pos (suc n) → takenOf r ≡ itemOf n (markOf m)) ⌝ }
+    ensures { λ r. ⌜ ((n : ℕ) → next ≡ pos (suc n) → takenOf r ≡ itemShown n (markOf m)) ⌝ }
 {
     match m {
         Mark::Start(n) => page_of(next, n),

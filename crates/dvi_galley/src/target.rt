@@ -6,21 +6,21 @@ use measure::target_table;
 use measure::target_table::TargetTable;
 ghost use mathlib.Core.Path.{_≡_};
 ghost use Rattle.measure.specs.Target.{xTargets};
-ghost use Rattle.dvi_galley.specs.Target.{xAt, heightAt};
+ghost use Rattle.dvi_galley.specs.Target.{xOfTarget, heightOfTarget};
 ghost use Rattle.dvi_galley.specs.Taken.{acrossOf, downOf, InHeights};
 
-// The targets of the first place in the table and of the last.
-const LEAST: i32 = -600_747;
+// The targets of the first x of the table and of the last.
+const LEAST: Rsu = Rsu(-600_747);
 
-const GREATEST: i32 = 35_378_517;
+const GREATEST: Rsu = Rsu(35_378_517);
 
-// A unit is 32,768 thirds of an rsu; 55 and a half are this many.
+// A unit is this many thirds of an rsu, and a quantum this many rsu.
 const UNIT: u32 = 32_768;
 
-const SHIFT: i32 = 1_818_624;
-
-// The target of a height of 1.
 const QUANTUM: u32 = 32_768;
+
+// Fifty-five units and a half, in thirds of an rsu: the table begins at -55, and the half rounds to the nearest.
+const SHIFT: i32 = 1_818_624;
 
 // The x whose target this is.
 pub enum Across {
@@ -35,15 +35,15 @@ pub enum Down {
 }
 
 // The place nearest to three times the number is the only one that can have it as its target; the table decides.
-pub fn x_at(targets: &TargetTable, t: Rsu) -> Across
+pub fn x_of_target(targets: &TargetTable, t: Rsu) -> Across
     requires { ⌜ now targets ≡ xTargets ⌝ }
-    ensures { λ r. ⌜ acrossOf r ≡ xAt (t .0) ⌝ }
+    ensures { λ r. ⌜ acrossOf r ≡ xOfTarget (t .0) ⌝ }
 {
     let z = t.0;
-    if z < LEAST {
+    if z < LEAST.0 {
         return Across::Nowhere;
     }
-    if GREATEST < z {
+    if GREATEST.0 < z {
         return Across::Nowhere;
     }
     let k = (3 * z + SHIFT) as u32 / UNIT;
@@ -56,8 +56,8 @@ pub fn x_at(targets: &TargetTable, t: Rsu) -> Across
     Across::Nowhere
 }
 
-pub fn height_at(t: Rsu) -> Down
-    ensures { λ r. ⌜ (downOf r ≡ heightAt (t .0)) × InHeights r ⌝ }
+pub fn height_of_target(t: Rsu) -> Down
+    ensures { λ r. ⌜ (downOf r ≡ heightOfTarget (t .0)) × InHeights r ⌝ }
 {
     let z = t.0;
     if z < 0 {

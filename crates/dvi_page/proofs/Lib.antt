@@ -1,2 +1,2 @@
+mod Moves
 mod Stacks
-mod Pages

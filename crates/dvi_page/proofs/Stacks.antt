@@ -1,14 +1,17 @@
--- The stack in the array, after the stores of a PUSH.
+-- The stack in the array, after the stores of a PUSH; PUSH and POP, by how high it is.
 -- Assumes nothing.
 use mathlib.Core.Path.{_≡_, refl, sym, ap, _∙_}
 use mathlib.Core.List.{List, [], _∷_, _++_, append-assoc}
+use mathlib.Core.Option.{Option}
 use Prim.Native.Nat.{ℕ, zero, suc, _+_, _*_, _-_, _≤_, _<_}
 use native.Mathlib.Numerals.{add-one}
 use native.Mathlib.Omega.{arith}
+use borrow.Author.Tests.{lt-ltb, le-ltb}
 use lib.IntN.{ℤ, pos}
 use lib.ListN.{length, getD, set, take, drop}
 use lib.Seq.{getD-set-other, getD-append-add, sets-eq, length-take-le}
-use Rattle.dvi.specs.Page.{Numbers}
+use Rattle.octets.specs.Answer.{stackFull}
+use Rattle.dvi.specs.Page.{maxStack, Numbers, Page, fault, moved, pushed, popped}
 use Rattle.dvi_page.specs.Stack.{entryAt, stackOf}
 
 -- six numbers, one by one
@@ -69,3 +72,18 @@ pub stack-top : (l : List ℤ) (d : ℕ) → 0 < d → stackOf l d ≡ entryAt l
 unfolding stackOf
 stack-top l zero h = absurd (omega arith)
 stack-top l (suc d) h = let e : suc d - 1 ≡ d = omega arith in rw e
+
+-- ---- PUSH and POP
+
+module _ (p : Page) where
+  pub push-full : maxStack ≤ length (p .stack) → fault stackFull ≡ pushed p
+  unfolding pushed
+  push-full h = rw (le-ltb (length (p .stack)) maxStack h)
+
+  pub push-room : {q : List Numbers} → length (p .stack) < maxStack → q ≡ p .numbers ∷ p .stack → moved (record { numbers = p .numbers; font = p .font; stack = q }) ≡ pushed p
+  unfolding pushed
+  push-room h e = rw (lt-ltb (length (p .stack)) maxStack h) (ap (λ (s : List Numbers). moved (record { numbers = p .numbers; font = p .font; stack = s })) e)
+
+  pub pop-one : {n : Numbers} {q : List Numbers} {f : Option ℤ} {m : Numbers} {s : List Numbers} → s ≡ n ∷ q → m ≡ n → f ≡ p .font → moved (record { numbers = m; font = f; stack = q }) ≡ popped p s
+  unfolding popped
+  pop-one {q = q} e d g = rw e (λ i. moved (record { numbers = d i; font = g i; stack = q }))

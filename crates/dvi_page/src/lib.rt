@@ -1,3 +1,3 @@
-// A page of a DVI file of 1980 (002), and what each command does to it.
+// A page of a DVI file of 1980 (002), and its stack.
 pub mod page;
 pub mod stack;

@@ -3,7 +3,7 @@
 -- Assumes nothing.
 use mathlib.Core.Path.{_≡_, refl, sym, ap, subst, _∙_}
 use mathlib.Core.Bool.{Bool}
-use mathlib.Core.List.{List, [], _∷_, _++_, append-nil}
+use mathlib.Core.List.{List, [], _∷_, _++_, append-nil, append-assoc}
 use Prim.Native.Nat.{ℕ, zero, suc, _+_, _≤_, _<_}
 use native.Mathlib.Nat.{add-zero, zero-add}
 use native.Mathlib.Numerals.{add-one}
@@ -11,23 +11,22 @@ use native.Mathlib.Omega.{arith}
 use lib.IntN.{ℤ, pos, negsuc}
 use lib.ListN.{length, getD, drop, length-append, length-drop, drop-of-length-le}
 use lib.Seq.{drop-cons, drop-drop}
-use Rattle.octets.specs.Answer.{dviEndsEarly, stackEmpty}
-use Rattle.octets.specs.Write.{Put}
+use Rattle.octets.specs.Answer.{dviEndsEarly}
 use Rattle.octets.specs.Pass.{Roomy}
 use Rattle.octets.specs.PassLaws.{refused-roomy}
 use Rattle.sheet.specs.Sheet.{Mark, markField, markFields}
-use Rattle.sheet.specs.SheetLaws.{one-field, markFields-append}
+use Rattle.sheet.specs.SheetLaws.{markFields-append}
 use Rattle.sheet.specs.Shown.{Shown, refusedAt, shows, showsFirst, shownResult}
 use Rattle.sheet.specs.ShownLaws.{showsFirst-nil, showsFirst-append, shown-room}
-use Rattle.sheet.specs.Filled.{Filled, filled-start, filled-more, filled-mark}
-use Rattle.dvi.specs.Page as S
+use Rattle.sheet.specs.Filled.{Filled, filled-start, filled-more}
 use Rattle.dvi.specs.Page.{maxStack, newPage}
 use Rattle.dvi.specs.File.{State, between, inside, Step, refuse, goOn, finish, readDvi}
 use Rattle.dvi.specs.FileLaws.{Sound, step-sound, stepHere}
 use Rattle.dvi_brackets.specs.Brackets.{Run, badRun, toPop, toEop, run, pageThen, stepThen, pages, readBrackets}
 use Rattle.dvi_brackets.specs.BracketsLaws.{run-pass, SoundRun, run-sound}
 use Rattle.dvi_brackets.specs.Agreement.{Begins, between-begins, agreement}
-use Rattle.dvi_brackets.specs.Reading.{RoomyRun}
+use Rattle.dvi_brackets.specs.Reading.{runMarks, RoomyRun}
+use Rattle.dvi_plain.specs.Page.{bopBytes, pageRun, PageRead}
 
 -- ---- one command between pages
 
@@ -57,10 +56,6 @@ module _ (ws : List ℤ) (s : List ℕ) (at : ℕ) (last : ℤ) where
   unfolding pages
   pages-over h = rw (drop-of-length-le s h)
 
-  -- BOP: where its page's run starts, and what it leads to
-  abbrev pub body : Run
-  body = run ws maxStack (at + 9) newPage 0 (drop (at + 9) s)
-
   module _ (h : at < length s) {q : State} {ms : List Mark} {n : ℕ} (e : stepHere ws s at (between last) ≡ goOn q ms n) where
     begun : (q ≡ inside (pos at) newPage) × ((n ≡ 8) × (length ms ≡ 1))
     begun = subst (Begins at) e (between-begins ws at last (getD s at 0) (drop (at + 1) s))
@@ -71,10 +66,10 @@ module _ (ws : List ℤ) (s : List ℕ) (at : ℕ) (last : ℤ) where
     held-here : 8 ≤ length (drop (at + 1) s)
     held-here = let k = subst (Sound (length (drop (at + 1) s))) e (step-sound ws at (between last) (getD s at 0) (drop (at + 1) s) tt) in omega (arith, k .0, begun .1 .0)
 
-    pub bop-inside : at + 9 ≤ length s
+    pub bop-inside : at + bopBytes ≤ length s
     bop-inside = omega (arith, held-here, length-drop (at + 1) s)
 
-    pub pages-bop : pages ws at last 0 (drop at s) ≡ showsFirst ms (pageThen (at + 9) body (λ j. pages ws (at + 9) (pos at) j (drop (at + 9) s)))
+    pub pages-bop : pages ws at last 0 (drop at s) ≡ showsFirst ms (pageThen (at + bopBytes) (pageRun ws s at) (λ j. pages ws (at + bopBytes) (pos at) j (drop (at + bopBytes) s)))
     unfolding stepThen
     pages-bop =
         pages-here h
@@ -82,25 +77,39 @@ module _ (ws : List ℤ) (s : List ℕ) (at : ℕ) (last : ℤ) where
         ∙ (λ i. goes (goOn (begun .0 i) ms (begun .1 .0 i)))
         ∙ ap (showsFirst ms)
         (ap (λ (r : Run). pageThen (suc at + 8) r rest) run-there
-        ∙ (λ i. pageThen (there i) body (λ j. rest-there j i)))
+        ∙ (λ i. pageThen (there i) (pageRun ws s at) (λ j. rest-there j i)))
       where
-        there : suc at + 8 ≡ at + 9
+        there : suc at + 8 ≡ at + bopBytes
         there = omega arith
 
         rest : ℕ → Shown
         rest j = pages ws (suc at) (pos at) (8 + j) (drop (at + 1) s)
 
-        run-there : run ws maxStack (suc at) newPage 8 (drop (at + 1) s) ≡ body
+        run-there : run ws maxStack (suc at) newPage 8 (drop (at + 1) s) ≡ pageRun ws s at
         run-there =
             run-pass ws maxStack (suc at) 8 newPage (drop (at + 1) s) held-here
             ∙ ap (λ (k : ℕ). run ws maxStack k newPage 0 (drop 8 (drop (at + 1) s))) there
-            ∙ ap (run ws maxStack (at + 9) newPage 0) (drop-on 8 (at + 1) (at + 9) s (omega arith))
+            ∙ ap (run ws maxStack (at + bopBytes) newPage 0) (drop-on 8 (at + 1) (at + bopBytes) s (omega arith))
 
-        rest-there : (j : ℕ) → rest j ≡ pages ws (at + 9) (pos at) j (drop (at + 9) s)
+        rest-there : (j : ℕ) → rest j ≡ pages ws (at + bopBytes) (pos at) j (drop (at + bopBytes) s)
         rest-there j =
             pages-pass ws (suc at) 8 j (pos at) (drop (at + 1) s) held-here
             ∙ ap (λ (k : ℕ). pages ws k (pos at) j (drop 8 (drop (at + 1) s))) there
-            ∙ ap (pages ws (at + 9) (pos at) j) (drop-on 8 (at + 1) (at + 9) s (omega arith))
+            ∙ ap (pages ws (at + bopBytes) (pos at) j) (drop-on 8 (at + 1) (at + bopBytes) s (omega arith))
+
+-- the POP or EOP that ends the run of a page lies in the file, and each mark takes a byte
+abbrev pub WithinFile : ℕ → List ℕ → Run → Type 0
+WithinFile at s (badRun k i) = Unit {0}
+WithinFile at s (toPop q ms j) = (at + bopBytes + j + 1 ≤ length s) × (length ms ≤ j)
+WithinFile at s (toEop ms j) = (at + bopBytes + j + 1 ≤ length s) × (length ms ≤ j)
+
+pub run-within : (ws : List ℤ) (s : List ℕ) (at : ℕ) → at + bopBytes ≤ length s → {x : Run} → pageRun ws s at ≡ x → WithinFile at s x
+run-within ws s at h e = subst (WithinFile at s) e (by-run (pageRun ws s at) (run-sound ws (drop (at + bopBytes) s) maxStack (at + bopBytes) newPage 0))
+  where
+    by-run : (x : Run) → SoundRun 0 (length (drop (at + bopBytes) s)) x → WithinFile at s x
+    by-run (badRun k i) g = tt
+    by-run (toPop q ms j) g = (omega (arith, g .0, length-drop (at + bopBytes) s), g .1)
+    by-run (toEop ms j) g = (omega (arith, g .0, length-drop (at + bopBytes) s), g .1)
 
 -- ---- the loop over the pages
 
@@ -136,86 +145,66 @@ module _ (ws : List ℤ) (s : List ℕ) (w : Bool) (before : List ℕ) where
       -- BOP
       module _ {q : State} {m : Mark} {n : ℕ} (e : stepHere ws s at (between last) ≡ goOn q (m ∷ []) n) where
         abbrev rest : ℕ → Shown
-        rest j = pages ws (at + 9) (pos at) j (drop (at + 9) s)
+        rest j = pages ws (at + bopBytes) (pos at) j (drop (at + bopBytes) s)
 
-        bop-so-far : readDvi ws s ≡ showsFirst (ms ++ (m ∷ [])) (pageThen (at + 9) (body ws s at last) rest)
+        bop-so-far : readDvi ws s ≡ showsFirst (ms ++ (m ∷ [])) (pageThen (at + bopBytes) (pageRun ws s at) rest)
         bop-so-far =
             g .so-far
             ∙ ap (showsFirst ms) (pages-bop ws s at last h e)
-            ∙ showsFirst-append ms (m ∷ []) (pageThen (at + 9) (body ws s at last) rest)
+            ∙ showsFirst-append ms (m ∷ []) (pageThen (at + bopBytes) (pageRun ws s at) rest)
 
-        pub bop-room : {room : ℕ} → Roomy (shownResult (readDvi ws s)) room → length (markFields ms) + length (markField m) + 7 ≤ room
-        bop-room r =
-            omega (
-              arith,
-              shown-room (ms ++ (m ∷ [])) (pageThen (at + 9) (body ws s at last) rest) bop-so-far r,
-              ap length (markFields-append ms (m ∷ [])),
-              length-append (markFields ms) (markFields (m ∷ [])),
-              ap length (one-field m),
-            )
+        -- the page is refused
+        pub page-refused : {k i : ℕ} → ((r : ℕ → Shown) → pageThen (at + bopBytes) (pageRun ws s at) r ≡ refusedAt k i) → readDvi ws s ≡ refusedAt k i
+        unfolding showsFirst
+        page-refused f = bop-so-far ∙ ap (showsFirst (ms ++ (m ∷ []))) (f rest)
 
-        pub body-bad : {k i : ℕ} → body ws s at last ≡ badRun k i → readDvi ws s ≡ refusedAt k i
-        unfolding showsFirst pageThen
-        body-bad f = bop-so-far ∙ ap (λ (r : Run). showsFirst (ms ++ (m ∷ [])) (pageThen (at + 9) r rest)) f
-
-        pub body-pop : {p : S.Page} {ns : List Mark} {j : ℕ} → body ws s at last ≡ toPop p ns j → readDvi ws s ≡ refusedAt stackEmpty (at + 9 + j)
-        unfolding showsFirst pageThen
-        body-pop f = bop-so-far ∙ ap (λ (r : Run). showsFirst (ms ++ (m ∷ [])) (pageThen (at + 9) r rest)) f
-
-        body-eop : {ns : List Mark} {j : ℕ} → body ws s at last ≡ toEop ns j → readDvi ws s ≡ showsFirst ((ms ++ (m ∷ [])) ++ ns) (rest (suc j))
+        -- it is read to its EOP
+        page-eop : {ns : List Mark} {j : ℕ} → pageRun ws s at ≡ toEop ns j → readDvi ws s ≡ showsFirst (ms ++ (m ∷ ns)) (rest (suc j))
         unfolding pageThen
-        body-eop {ns} {j} f =
+        page-eop {ns} {j} f =
             bop-so-far
-            ∙ ap (λ (r : Run). showsFirst (ms ++ (m ∷ [])) (pageThen (at + 9) r rest)) f
+            ∙ ap (λ (r : Run). showsFirst (ms ++ (m ∷ [])) (pageThen (at + bopBytes) r rest)) f
             ∙ showsFirst-append (ms ++ (m ∷ [])) ns (rest (suc j))
+            ∙ ap (λ (l : List Mark). showsFirst l (rest (suc j))) (append-assoc ms (m ∷ []) ns)
 
-        body-sound : SoundRun 0 (length (drop (at + 9) s)) (body ws s at last)
-        body-sound = run-sound ws (drop (at + 9) s) maxStack (at + 9) newPage 0
+        module _ {next t k : ℕ} {later : List ℕ} (r : PageRead at (pageRun ws s at) m w out to count next t k later) where
+          page-within : (at + bopBytes + r .bytes + 1 ≤ length s) × (length (runMarks (pageRun ws s at)) ≤ r .bytes)
+          page-within = run-within ws s at (bop-inside ws s at last h e) (r .run-is)
 
-        pub eop-inside : {ns : List Mark} {j : ℕ} → body ws s at last ≡ toEop ns j → at + 9 + j + 1 ≤ length s
-        eop-inside f = let k = subst (SoundRun 0 (length (drop (at + 9) s))) f body-sound in omega (arith, k .0, length-drop (at + 9) s, bop-inside ws s at last h e)
+          pub paged-next : length later ≡ length out → Paged (pos at) next (ms ++ (m ∷ runMarks (pageRun ws s at))) later t k
+          paged-next z =
+              let j = r .bytes in
+              record {
+                so-far =
+                    page-eop (r .run-is)
+                    ∙ ap (showsFirst (ms ++ (m ∷ runMarks (pageRun ws s at))))
+                    (ap rest (sym (add-zero (suc j)))
+                    ∙ pages-pass ws (at + bopBytes) (suc j) 0 (pos at) (drop (at + bopBytes) s) (omega (arith, page-within .0, length-drop (at + bopBytes) s))
+                    ∙ ap (pages ws (at + bopBytes + suc j) (pos at) 0) (drop-drop (suc j) (at + bopBytes) s)
+                    ∙ ap (λ (i : ℕ). pages ws i (pos at) 0 (drop i s)) (omega (arith, r .next-is)));
+                inside = omega (arith, r .next-is, page-within .0);
+                filled = filled-more (g .filled) next (m ∷ runMarks (pageRun ws s at)) (omega (arith, r .next-is, page-within .1)) (r .put) (r .counted) z;
+              }
 
-        pub pop-inside : {p : S.Page} {ns : List Mark} {j : ℕ} → body ws s at last ≡ toPop p ns j → at + 9 + j + 1 ≤ length s
-        pop-inside f = let k = subst (SoundRun 0 (length (drop (at + 9) s))) f body-sound in omega (arith, k .0, length-drop (at + 9) s, bop-inside ws s at last h e)
-
-        pub paged-next : {ns : List Mark} {j : ℕ} {later latest : List ℕ} {t u k : ℕ} → body ws s at last ≡ toEop ns j → Put w out to (markField m) later t → length later ≡ length out
-            → Put w later t (markFields ns) latest u → k ≡ count + 1 + length ns → length latest ≡ length later → Paged (pos at) (at + 9 + j + 1) ((ms ++ (m ∷ [])) ++ ns) latest u k
-        paged-next {ns} {j} f v y x c z =
-            let b = subst (SoundRun 0 (length (drop (at + 9) s))) f body-sound in
-            record {
-              so-far =
-                  body-eop f
-                  ∙ ap (showsFirst ((ms ++ (m ∷ [])) ++ ns))
-                  (ap (λ (i : ℕ). pages ws (at + 9) (pos at) i (drop (at + 9) s)) (sym (add-zero (suc j)))
-                  ∙ pages-pass ws (at + 9) (suc j) 0 (pos at) (drop (at + 9) s) (omega (arith, b .0))
-                  ∙ ap (λ (i : ℕ). pages ws i (pos at) 0 (drop (suc j) (drop (at + 9) s))) (omega arith)
-                  ∙ ap (pages ws (at + 9 + j + 1) (pos at) 0) (drop-on (suc j) (at + 9) (at + 9 + j + 1) s (omega arith)));
-              inside = eop-inside f;
-              filled = filled-more (filled-mark (g .filled) (at + 9) m (omega arith) v y) (at + 9 + j + 1) ns (omega (arith, b .1)) x c z;
-            }
-
-        -- the page's run has room, where the file has
-        pub body-room : {room : ℕ} → Roomy (shownResult (readDvi ws s)) room → {later : List ℕ} {t : ℕ} → Put w out to (markField m) later t → RoomyRun (body ws s at last) t room
-        unfolding shownResult
-        body-room {room} r {later} {t} v = by-run (body ws s at last) refl
+        -- the page has room, where the file has
+        pub page-room : {room : ℕ} → Roomy (shownResult (readDvi ws s)) room → RoomyRun (pageRun ws s at) (to + length (markField m)) room
+        unfolding shownResult pageThen markFields
+        page-room {room} r = by-run (pageRun ws s at) refl
           where
-            by-run : (x : Run) → body ws s at last ≡ x → RoomyRun (body ws s at last) t room
-            by-run (badRun k i) f = absurd (refused-roomy (ap shownResult (body-bad f)) r)
-            by-run (toPop p ns j) f = absurd (refused-roomy (ap shownResult (body-pop f)) r)
+            by-run : (x : Run) → pageRun ws s at ≡ x → RoomyRun (pageRun ws s at) (to + length (markField m)) room
+            by-run (badRun k i) f = absurd (refused-roomy (ap shownResult (page-refused (λ u. ap (λ (y : Run). pageThen (at + bopBytes) y u) f))) r)
+            by-run (toPop p ns j) f = absurd (refused-roomy (ap shownResult (page-refused (λ u. ap (λ (y : Run). pageThen (at + bopBytes) y u) f))) r)
             by-run (toEop ns j) f =
-                subst (λ (x : Run). RoomyRun x t room) (sym f)
+                subst (λ (x : Run). RoomyRun x (to + length (markField m)) room) (sym f)
                 (record {
                   accepted = tt;
                   enough =
                       omega (
                         arith,
-                        shown-room ((ms ++ (m ∷ [])) ++ ns) (rest (suc j)) (body-eop f) r,
-                        v .place,
+                        shown-room (ms ++ (m ∷ ns)) (rest (suc j)) (page-eop f) r,
                         g .filled .put .place,
-                        ap length (markFields-append (ms ++ (m ∷ [])) ns),
-                        length-append (markFields (ms ++ (m ∷ []))) (markFields ns),
-                        ap length (markFields-append ms (m ∷ [])),
-                        length-append (markFields ms) (markFields (m ∷ [])),
-                        ap length (one-field m),
+                        ap length (markFields-append ms (m ∷ ns)),
+                        length-append (markFields ms) (markFields (m ∷ ns)),
+                        length-append (markField m) (markFields ns),
                       );
                 })

@@ -5,6 +5,7 @@ use dvi_step::Stepped;
 use octets::answer;
 use octets::answer::Answer;
 use octets::field;
+use octets::pass;
 use octets::pass::Reading;
 ghost use mathlib.Core.Path.{_≡_};
 ghost use mathlib.Core.Bool.{true};
@@ -58,21 +59,15 @@ fn pass(dvi: &[u8], widths: &[i32], out: &mut [u8], writing: bool) -> Reading
 pub fn read_dvi(dvi: &[u8], widths: &[i32], sheet: &mut [u8]) -> Answer
     ensures { λ r. ⌜ Gives (outcomeOf r) (sheetResult (now (dvi .entry)) (now (widths .entry))) (now (sheet .entry)) (now (sheet .exit)) ⌝ }
 {
-    if sheet::MAX_FILE < dvi.len() {
-        return Answer::Refused(answer::DVI_TOO_LONG, 0);
-    }
-    if widths.len() % sheet::FONT_CHARS != 0 {
-        return Answer::Refused(answer::WIDTHS_NOT_WHOLE, 0);
+    let number = sheet::call_refusal(dvi.len(), widths.len() % sheet::FONT_CHARS == 0);
+    if number != 0 {
+        return Answer::Refused(number, 0);
     }
     let found = pass(dvi, widths, sheet, false);
-    match found {
-        Reading::Needs(needed) => {
-            if sheet.len() < needed {
-                return Answer::Refused(answer::NO_SHEET_ROOM, needed);
-            }
-            pass(dvi, widths, sheet, true);
-            Answer::Accepted(needed)
-        }
-        Reading::Fault(n, place) => Answer::Refused(n, place),
-    }
+    let given = pass::answered(found, sheet.len(), answer::NO_SHEET_ROOM);
+    let Answer::Accepted(_) = given else {
+        return given;
+    };
+    pass(dvi, widths, sheet, true);
+    given
 }

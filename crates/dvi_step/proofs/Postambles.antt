@@ -11,7 +11,7 @@ use borrow.Author.Tests.{eq-eqb, ne-eqb, le-leb, lt-leb}
 use lib.IntN.{ℤ, pos, negsuc}
 use lib.ListN.{length, getD, take, drop, length-drop, drop-of-length-le}
 use lib.Seq.{drop-cons, drop-drop}
-use Rattle.integers.specs.Parts.{true-eqZ, false-eqZ}
+use Rattle.integers.specs.Equality.{true-eqZ, false-eqZ}
 use Rattle.octets.specs.Octets.{signed, signedAt}
 use Rattle.dvi.specs.Postamble.{Part, atId, beforeName, inName, definitions, all223, trailer, postamble}
 use Rattle.dvi_step.specs.Postamble.{Within}

@@ -9,7 +9,7 @@ use borrow.Author.Tests.{ne-eqb, le-leb, lt-leb, ltb-true}
 use lib.IntN.{ℤ, pos, negsuc}
 use lib.ListN.{length, take}
 use lib.Signed.{ltZ, nonNeg}
-use Rattle.integers.specs.Parts.{true-eqZ, false-eqZ}
+use Rattle.integers.specs.Equality.{true-eqZ, false-eqZ}
 use Rattle.octets.specs.Octets.{signed, signedAt}
 use Rattle.octets.specs.Answer.{badCommand, dviEndsEarly, wrongOffset, badPostamble}
 use Rattle.dvi.specs.Command.{BOP, PST}

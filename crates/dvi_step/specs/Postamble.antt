@@ -1,4 +1,7 @@
 -- Where a search for the end of a font's name stops, and what is left to check from there.
+--     afterName     whether the definitions after a name are right
+--     Within        what is found lies past a place, in so many bytes
+--     Past          where the check goes on after a part of a definition
 use mathlib.Core.Path.{_≡_}
 use mathlib.Core.Bool.{Bool, false}
 use mathlib.Core.List.{List}

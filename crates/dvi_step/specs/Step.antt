@@ -1,4 +1,7 @@
 -- The code's state and step as those of the format.
+--     stateOf     the state that a state of the code is, with this stack
+--     depthOf     the entries on the stack
+--     stepOf      the step that a step of the code is
 use Prim.Native.Nat.{ℕ}
 use mathlib.Core.List.{List, [], _∷_}
 use lib.IntN.{ℤ}
@@ -14,7 +17,6 @@ abbrev pub stateOf : State → List ℤ → S.State
 stateOf (Between last) l = S.between last
 stateOf (Inside last p) l = S.inside last (pageOf p l)
 
--- the entries on the stack
 abbrev pub depthOf : State → ℕ
 depthOf (Between last) = 0
 depthOf (Inside last p) = p .depth

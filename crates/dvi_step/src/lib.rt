@@ -67,7 +67,7 @@ fn in_page(
         Decoded::NoCommand => Stepped::Refuse(answer::BAD_COMMAND),
         Decoded::CutShort => Stepped::Refuse(answer::DVI_ENDS_EARLY),
         Decoded::Whole(c, n) => {
-            let e = page::effect_of(widths, entries, p, c);
+            let e = dvi_effect::effect_of(widths, entries, p, c);
             after_effect(last, n, e)
         }
     }

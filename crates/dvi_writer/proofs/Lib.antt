@@ -1,6 +1,3 @@
-mod Positions
-mod Moves
 mod Galleys
 mod Passes
-mod Postambles
 mod Results

@@ -2,10 +2,9 @@
 -- Assumes nothing.
 use mathlib.Core.Path.{_≡_, refl, sym, ap, subst, _∙_}
 use mathlib.Core.Bool.{true}
-use mathlib.Core.List.{List, [], _∷_, _++_, map, map-append, append-nil, foldl-append}
-use Prim.Native.Nat.{ℕ, _+_, _*_, _≤_, _<_}
+use mathlib.Core.List.{List, [], _∷_, _++_, foldl-append}
+use Prim.Native.Nat.{ℕ, _+_, _≤_, _<_}
 use native.Mathlib.Omega.{arith}
-use lib.IntN.{ℤ, pos}
 use lib.ListN.{length, length-append}
 use Rattle.octets.specs.Answer.{accepted}
 use Rattle.octets.specs.Octets.{bytes, signedBytes}
@@ -13,13 +12,12 @@ use Rattle.octets.specs.Write.{Wrote, wrote-none, then, named}
 use Rattle.octets.specs.Transducer.{transduced}
 use Rattle.octets.specs.TransducerLaws.{transduced-more, transduced-part}
 use Rattle.galley_file.specs.declared.form.Form.the-variants.{New}
-use Rattle.galley_file.specs.declared.character.Character.{Character}
 use Rattle.galley_file.specs.declared.item.Item.{Item}
 use Rattle.galley_file.specs.declared.item.Item.the-variants.{Placed, Cut}
 use Rattle.measure.specs.Place.{lowEnd}
-use Rattle.galley_file.specs.Item.{validItem, itemSize, itemAt, WholeAt, charactersOf}
+use Rattle.galley_file.specs.Item.{validItem, itemSize, itemAt, charactersOf}
 use Rattle.galley_file.specs.Galley.{maxItems, AllValid, itemsOf}
-use Rattle.galley_file.specs.Walk.{Midway, Onward, midway-inside, midway-end, midway-next, midway-whole}
+use Rattle.galley_file.specs.Walk.{Midway, Onward, midway-end, midway-next}
 use Rattle.galley_check.specs.Low.{lowOutcome}
 use Rattle.extents.specs.declared.Extents.{Extents}
 use Rattle.extents.specs.Extents.{noExtents, withCharacters, extentsOf, withItem}
@@ -27,10 +25,10 @@ use Rattle.extents.specs.ExtentsLaws.{with-item}
 use Rattle.dvi.specs.Writer.{startPosition, bopBytes, Writing, firstWriting, itemBytes, writingAfter, itemsBytes, writingAfterAll}
 use Rattle.dvi.specs.WriterLaws.{itemsBytes-most, writing-small}
 use Rattle.dvi.specs.Writer as P
-use Rattle.dvi_writer.specs.declared.position.Position.{Position}
+use Rattle.dvi_characters.specs.declared.position.Position.{Position}
 use Rattle.dvi_writer.specs.declared.writing.Writing.{Writing as CodeWriting}
 use Rattle.dvi_writer.specs.declared.plan.Plan.{Plan}
-use Rattle.dvi_writer.specs.Position.{positionOf, OnPage, PositionIs, positionAfter}
+use Rattle.dvi_characters.specs.Position.{positionOf, OnPage, PositionIs, positionAfter}
 use Rattle.dvi_writer.specs.Writing.{writingOf, WritingIs}
 use Rattle.dvi_writer.specs.Plan.{itemLength, PlanIs}
 use Rattle.dvi_writer.proofs.Galleys.{begun, low-next}
@@ -88,18 +86,6 @@ unfolding firstWriting
 measured-start g count a p q x n = record { done = []; midway = begun g count a; plan = x; position = n }
 
 module _ (g : List ℕ) (at : ℕ) (p : Plan) (last : Position) (m : Measured g at p last) where
-  pub measured-whole : at + 7 < length g → WholeAt New g at
-  measured-whole h = midway-whole New g (itemsOf New g) (m .done) at (m .midway) h
-
-  pub measured-inside : at ≤ length g
-  measured-inside = midway-inside New g (itemsOf New g) (m .done) at (m .midway)
-
-  pub measured-low : AllValid lowEnd (itemsOf New g) → at + 7 < length g → validItem lowEnd (itemAt New g at) ≡ true
-  measured-low v h = low-next g (m .done) at v (m .midway) h
-
-  pub measured-size : at + 7 < length g → at + itemSize New (itemAt New g at) + 7 ≤ length g
-  measured-size h = midway-next New g (itemsOf New g) (m .done) at (m .midway) h .room
-
   pub measured-short : length (itemsOf New g) ≤ maxItems → p .length ≤ 17825792
   measured-short f =
       let all = m .midway .all in
@@ -140,15 +126,6 @@ printed-start g count a first p n =
     record { done = []; midway = begun g count a; same = refl; wrote = rw e (wrote-none first 9); writing = n }
 
 module _ (g : List ℕ) (at : ℕ) (first out : List ℕ) (p : CodeWriting) (m : Printed g at first out p) where
-  pub printed-whole : at + 7 < length g → WholeAt New g at
-  printed-whole h = midway-whole New g (itemsOf New g) (m .done) at (m .midway) h
-
-  pub printed-inside : at ≤ length g
-  printed-inside = midway-inside New g (itemsOf New g) (m .done) at (m .midway)
-
-  pub printed-size : at + 7 < length g → at + itemSize New (itemAt New g at) + 7 ≤ length g
-  printed-size h = midway-next New g (itemsOf New g) (m .done) at (m .midway) h .room
-
   -- what writing one item more asks
   pub printed-asks : at + 7 < length g → AllValid lowEnd (itemsOf New g) → length (itemsOf New g) ≤ maxItems → 9 + length (itemsBytes firstWriting (itemsOf New g)) ≤ length first → (i : Item) → i ≡ itemAt New g at
       → ((p .at + length (itemBytes (writingOf p) i) ≤ length out) × ((p .at < 2147483648) × (p .bop < 2147483648))) × ((p .page < 4294967295) × (OnPage (positionOf (p .position)) × (validItem lowEnd i ≡ true)))

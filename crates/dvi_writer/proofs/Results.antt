@@ -28,8 +28,8 @@ use Rattle.extents.specs.FontMarksLaws.{fonts-count}
 use Rattle.dvi_writer.specs.declared.plan.Plan.{Plan}
 use Rattle.dvi_writer.specs.Result.{dviResult}
 use Rattle.dvi_writer.specs.Plan.{PlanIs}
-use Rattle.dvi_writer.specs.Postamble.{postambleOf, Held}
-use Rattle.dvi_writer.proofs.Postambles.{post-is, held}
+use Rattle.dvi_frame.specs.Postamble.{postambleOf, Held}
+use Rattle.dvi_frame.specs.PostambleLaws.{post-is, held}
 
 -- ---- the file
 

@@ -1,4 +1,5 @@
 -- What writing a galley's DVI file gives (document 01, "Numbers given back"; document 02, "Longer columns").
+--     dviResult     the result of a call, by the room
 use Prim.Native.Nat.{ℕ}
 use mathlib.Core.List.{List}
 use Rattle.octets.specs.Answer.{Result, ifRoom, noDviRoom}

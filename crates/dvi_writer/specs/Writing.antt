@@ -4,7 +4,7 @@
 use mathlib.Core.Path.{_≡_}
 use Rattle.dvi.specs.Writer as W
 use Rattle.dvi_writer.specs.declared.writing.Writing.{Writing}
-use Rattle.dvi_writer.specs.Position.{positionOf, OnPage}
+use Rattle.dvi_characters.specs.Position.{positionOf, OnPage}
 
 unfoldable pub writingOf : Writing → W.Writing
 writingOf p = record { position = positionOf (p .position); page = p .page; bop = p .bop; at = p .at }

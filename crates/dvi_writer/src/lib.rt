@@ -1,10 +1,9 @@
 // The writer of DVI files (document 01, "DVI (002)"): a galley's characters become pages, one more than there are cuts, and a postamble.
 mod page;
 mod plan;
-mod position;
-mod postamble;
 mod writing;
 
+use dvi_frame::postamble;
 use extents::Extents;
 use extents::fonts;
 use octets::answer;

@@ -1,6 +1,6 @@
 // The writing: how far a file is made.
-use crate::position;
-use crate::position::Position;
+use dvi_characters::position;
+use dvi_characters::position::Position;
 ghost use Rattle.dvi.specs.Writer.{firstWriting};
 ghost use Rattle.dvi_writer.specs.Writing.{WritingIs};
 

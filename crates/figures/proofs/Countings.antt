@@ -1,15 +1,14 @@
--- The laws of what a count keeps, `Counting`: at its start, at each effect of a code, over a stretch, at its end; and of `Onward`.
+-- The laws of what a count keeps, `Counting`: at its start, at each effect of a code, at its end.
 -- Assumes nothing.
 use mathlib.Core.Path.{_≡_, refl, sym, ap, subst, _∙_}
 use mathlib.Core.Bool.{Bool, true, false, cond}
 use mathlib.Core.List.{List, [], _∷_}
 use Prim.Native.Nat.{ℕ, _+_, _*_, _^_, _≤_, _<_, zero-le}
-use native.Mathlib.Nat.{mod-eq-of-lt}
 use native.Mathlib.Omega.{arith}
-use borrow.Author.Tests.{eq-eqb, ne-eqb, eqb-true, eqb-false, ltb-true, ltb-false}
-use lib.Dec.{eqb, ltb, lit≤}
-use lib.ListN.{length, take, getD, set, replicate, length-set, length-replicate, getD-replicate, List·getD-eq-default}
-use lib.Seq.{take-all, length-take-le, getD-set-same, getD-set-other}
+use borrow.Author.Tests.{ne-eqb}
+use lib.Dec.{eqb, lit≤}
+use lib.ListN.{length, take, getD, set}
+use lib.Seq.{take-all, length-take-le}
 use Rattle.octets.specs.Answer.{afterCut, noStop}
 use Rattle.galley_file.specs.declared.character.Character.{Character}
 use Rattle.galley_file.specs.declared.item.Item.{Item}
@@ -20,49 +19,21 @@ use Rattle.typesetter.specs.declared.machine.State.{State}
 use Rattle.typesetter.specs.declared.machine.Effect.{Effect}
 use Rattle.typesetter.specs.declared.machine.Effect.the-variants.{Moved, Flashed, PageEnded, Refused}
 use Rattle.typesetter.specs.CodeLaws.{not-zero}
-use Rattle.typesetter.specs.Machine.{effectOf}
+use Rattle.typesetter.specs.Machine.{byteEffect}
 use Rattle.typesetter.specs.EffectLaws.{fault-effect}
 use Rattle.typesetter.specs.Sound.{Sound}
 use Rattle.typesetter.specs.SoundLaws.{stays-sound, page-ended-sound}
-use Rattle.typesetter.specs.StepLaws.{placed}
 use Rattle.tape.specs.declared.Ending.the-variants.{Reached}
-use Rattle.tape.specs.declared.quick.Stretch.{Stretch}
 use Rattle.tape.specs.Tape.{maxTape, Run, run}
 use Rattle.tape.specs.RunLaws.{Sets, flashed, pageEnded, soFar, run-length, run-moved, run-set, run-refused}
-use Rattle.tape.specs.Quick.{NoLead, stretchAt, Strides, stands, moves, sets}
+use Rattle.tape_stretch.specs.Stretch.{NoLead}
 use Rattle.figures.specs.Figures.{taken, total, forwardOf, backwardOf, inFont, Figures, refusedWith, acceptedWith, sum64}
 use Rattle.figures.specs.Figures as R
-use Rattle.figures.specs.LeadLaws.{no-lead}
+use Rattle.figures.specs.LeadLaws.{no-lead, forward-most, backward-most}
 use Rattle.figures.specs.FiguresLaws.{inFont-append, inFont-most}
-use Rattle.figures.specs.Counting.{Counting, countIn, Onward, figuresAt, figuresFrom, tallyAt, Tallied}
+use Rattle.figures.specs.Counting.{Counting, countIn, figuresAt, figuresFrom, tallyAt, Tallied}
+use Rattle.figures.proofs.Arrays.{small-sum, more-of}
 use Rattle.figures.proofs.Moves.{total-moved, total-set}
-
--- ---- an array with an entry set
-
-getD-set : (l : List ℕ) (k v n : ℕ) → k < length l → getD (set l k v) n 0 ≡ cond (eqb k n) v (getD l n 0)
-getD-set l k v n h = go (eqb k n) refl
-  where
-    go : (t : Bool) → eqb k n ≡ t → getD (set l k v) n 0 ≡ cond t v (getD l n 0)
-    go true t = ap (λ (m : ℕ). getD (set l k v) m 0) (sym (eqb-true k n t)) ∙ getD-set-same l k v 0 h
-    go false t = getD-set-other l k n v 0 (λ e. eqb-false k n t (sym e))
-
-small-sum : (x n : ℕ) → x + n < 2 ^ 64 → sum64 x n ≡ x + n
-small-sum x n h = mod-eq-of-lt h
-
--- n more of the font number k
-more-of : (l : List ℕ) (k m n : ℕ) → k < length l → getD l k 0 + m < 2 ^ 64 → getD (set l k (sum64 (getD l k 0) m)) n 0 ≡ getD l n 0 + cond (eqb k n) m 0
-more-of l k m n h b = getD-set l k (sum64 (getD l k 0) m) n h ∙ go (eqb k n) refl
-  where
-    go : (t : Bool) → eqb k n ≡ t → cond t (sum64 (getD l k 0) m) (getD l n 0) ≡ getD l n 0 + cond t m 0
-    go true t = small-sum (getD l k 0) m b ∙ ap (λ (j : ℕ). getD l j 0 + m) (eqb-true k n t)
-    go false t = omega arith
-
-pub no-characters : (n : ℕ) → _≡_ {A = ℕ} (getD (replicate 120 0) n 0) 0
-no-characters n = go (ltb n 120) refl
-  where
-    go : (t : Bool) → ltb n 120 ≡ t → _≡_ {A = ℕ} (getD (replicate 120 0) n 0) 0
-    go true t = getD-replicate 120 n 0 0 (ltb-true n 120 t)
-    go false t = let z : ℕ = 0 in List·getD-eq-default (replicate 120 z) z {n = n} (omega (arith, length-replicate 120 z, ltb-false n 120 t))
 
 -- a refused tape: its number is not 0, and nothing else of it counts
 pub tallied-refused : (f : Figures) (fonts : List ℕ) (n : ℕ) → 1 ≤ n → f ≡ refusedWith n → Tallied f (record { number = n; forward = 0; backward = 0 }) fonts
@@ -89,7 +60,7 @@ module _ (s₀ : State) (tape : List ℕ) where
         omega (arith, r .counts n, inFont-most n (charactersOf is), all-counted is, run-length s₀ 0 (take i tape), length-take-le i tape (r .inside))
 
     module _ (h : i < length tape) where
-      pub counting-moved : (t : State) → effectOf s (getD tape i 0) ≡ Moved t → (ahead back : ℕ)
+      pub counting-moved : (t : State) → byteEffect s (getD tape i 0) ≡ Moved t → (ahead back : ℕ)
           → ahead ≡ forward + forwardOf (taken s (getD tape i 0)) → back ≡ backward + backwardOf (taken s (getD tape i 0)) → ahead + back ≤ 62 * (i + 1)
           → Counting s₀ tape t count ahead back (i + 1)
       counting-moved t e ahead back ea eb l =
@@ -106,7 +77,7 @@ module _ (s₀ : State) (tape : List ℕ) where
           }
 
       -- a code that sets the item x and leaves the state t
-      pub counting-set : {e : Effect} {x : Item} {t : State} → effectOf s (getD tape i 0) ≡ e → Sets s e x t → (other : ℕ → ℕ) → ((n : ℕ) → other n ≡ count n + inFont n (charactersOf (x ∷ [])))
+      pub counting-set : {e : Effect} {x : Item} {t : State} → byteEffect s (getD tape i 0) ≡ e → Sets s e x t → (other : ℕ → ℕ) → ((n : ℕ) → other n ≡ count n + inFont n (charactersOf (x ∷ [])))
           → Counting s₀ tape t other forward backward (i + 1)
       counting-set {e} {x} {t} q m other c =
           let f = run-set s₀ 0 tape i s (r .ran) h q m in
@@ -123,11 +94,11 @@ module _ (s₀ : State) (tape : List ℕ) where
             small = omega (arith, r .small);
           }
         where
-          set-sound : {e : Effect} {x : Item} {t : State} → Sets s e x t → effectOf s (getD tape i 0) ≡ e → Sound t
+          set-sound : {e : Effect} {x : Item} {t : State} → Sets s e x t → byteEffect s (getD tape i 0) ≡ e → Sound t
           set-sound flashed q = r .sound
           set-sound pageEnded q = page-ended-sound s (r .sound) (getD tape i 0) q
 
-      pub counting-refused : (n : ℕ) → effectOf s (getD tape i 0) ≡ Refused n → (fonts : List ℕ) → Tallied (figuresFrom s₀ tape) (record { number = n; forward = 0; backward = 0 }) fonts
+      pub counting-refused : (n : ℕ) → byteEffect s (getD tape i 0) ≡ Refused n → (fonts : List ℕ) → Tallied (figuresFrom s₀ tape) (record { number = n; forward = 0; backward = 0 }) fonts
       unfolding figuresFrom
       counting-refused n e fonts =
           tallied-refused (figuresFrom s₀ tape) fonts n (omega (arith, fault-effect s (getD tape i 0) e .0))
@@ -142,120 +113,43 @@ module _ (s₀ : State) (tape : List ℕ) where
 
 module _ (s₀ : State) (tape : List ℕ) (s : State) (count : ℕ → ℕ) (forward backward i : ℕ) (r : Counting s₀ tape s count forward backward i) (h : i < length tape) (short : length tape ≤ maxTape) where
   -- a code that may lead
-  pub counting-led : (t : State) → effectOf s (getD tape i 0) ≡ Moved t → (n m : ℕ) → n ≡ forwardOf (taken s (getD tape i 0)) → m ≡ backwardOf (taken s (getD tape i 0)) → n ≤ 31 → m ≤ 31 → (a b : ℕ) → a ≡ sum64 forward n → b ≡ sum64 backward m
+  pub counting-lead : (t : State) → byteEffect s (getD tape i 0) ≡ Moved t
+      → (a b : ℕ) → a ≡ sum64 forward (forwardOf (taken s (getD tape i 0))) → b ≡ sum64 backward (backwardOf (taken s (getD tape i 0)))
       → Counting s₀ tape t count a b (i + 1)
-  counting-led t e n m en em ln lm a b ea eb =
+  counting-lead t e a b ea eb =
+      let code = getD tape i 0 in
       let small = r .small in
-      let big : 62 * (1048576 + 1) < 2 ^ 64 = lit≤ tt in
-      let x = ea ∙ small-sum forward n (omega (arith, big)) in
-      let y = eb ∙ small-sum backward m (omega (arith, big)) in
-      counting-moved s₀ tape s count forward backward i r h t e a b (x ∙ ap (λ (k : ℕ). forward + k) en) (y ∙ ap (λ (k : ℕ). backward + k) em) (omega (arith, x, y))
+      let big : 62 * (maxTape + 1) < 2 ^ 64 = lit≤ tt in
+      let x = ea ∙ small-sum forward (forwardOf (taken s code)) (omega (arith, big, forward-most s code)) in
+      let y = eb ∙ small-sum backward (backwardOf (taken s code)) (omega (arith, big, backward-most s code)) in
+      counting-moved s₀ tape s count forward backward i r h t e a b x y (omega (arith, x, y, forward-most s code, backward-most s code))
 
   -- a code that does not
-  pub counting-turned : (t : State) → effectOf s (getD tape i 0) ≡ Moved t → NoLead (getD tape i 0) → Counting s₀ tape t count forward backward (i + 1)
+  pub counting-turned : (t : State) → byteEffect s (getD tape i 0) ≡ Moved t → NoLead (getD tape i 0) → Counting s₀ tape t count forward backward (i + 1)
   counting-turned t e l =
       let z = no-lead s (getD tape i 0) l in
       counting-moved s₀ tape s count forward backward i r h t e forward backward (omega (arith, z .0)) (omega (arith, z .1)) (omega (arith, r .small))
 
--- ---- over a stretch
+-- ---- the whole step
 
-sets-one : (n : ℕ) (k : Character) (font : ℕ) → k .font ≡ font → inFont n (charactersOf (Placed k ∷ [])) ≡ cond (eqb font n) 1 0
+pub sets-one : (n : ℕ) (k : Character) (font : ℕ) → k .font ≡ font → inFont n (charactersOf (Placed k ∷ [])) ≡ cond (eqb font n) 1 0
 unfolding inFont charactersOf
 sets-one n k font e = ap (λ (f : ℕ). cond (eqb f n) 1 0 + 0) e ∙ omega arith
 
-both-more : (t : Bool) (c m : ℕ) → c + cond t (m + 1) 0 ≡ (c + cond t m 0) + cond t 1 0
-both-more true c m = omega arith
-both-more false c m = omega arith
-
-none-yet : (t : Bool) (c m : ℕ) → m ≡ 0 → c + cond t m 0 ≡ c
-none-yet true c m e = omega arith
-none-yet false c m e = omega arith
-
-pub strides-onward : {tape : List ℕ} {s : State} {font : ℕ} {r q : Stretch} → Strides tape s font r q → r .next ≤ q .next
-strides-onward stands = omega arith
-strides-onward (moves p h e l) = omega (arith, strides-onward p)
-strides-onward (sets p h e f) = omega (arith, strides-onward p)
-
-pub strides-sound : {tape : List ℕ} {s : State} {font : ℕ} {r q : Stretch} → Strides tape s font r q → Sound (placed s (r .carriage)) → Sound (placed s (q .carriage))
-strides-sound stands z = z
-strides-sound {tape} {s} (moves {q} p h e l) z = stays-sound (placed s (q .carriage)) (strides-sound p z) (getD tape (q .next) 0) e
-strides-sound (sets p h e f) z = strides-sound p z
-
-module _ (s₀ : State) (tape : List ℕ) (short : length tape ≤ maxTape) (s : State) (count : ℕ → ℕ) (forward backward : ℕ) where
-  pub counting-strides : {font : ℕ} {r q : Stretch} → Strides tape s font r q → r .count ≡ 0 → Counting s₀ tape (placed s (r .carriage)) count forward backward (r .next)
-      → Counting s₀ tape (placed s (q .carriage)) (λ n. count n + cond (eqb font n) (q .count) 0) forward backward (q .next)
-  counting-strides {font} {r} stands z g = recount s₀ tape (placed s (r .carriage)) count forward backward (r .next) g _ (λ n. none-yet (eqb font n) (count n) (r .count) z)
-  counting-strides {font} (moves {q} {c} p h e l) z g =
-      counting-turned s₀ tape (placed s (q .carriage)) (λ n. count n + cond (eqb font n) (q .count) 0) forward backward (q .next) (counting-strides p z g) h short (placed s c) e l
-  counting-strides {font} (sets {q} {k} p h e f) z g =
-      counting-set s₀ tape (placed s (q .carriage)) (λ n. count n + cond (eqb font n) (q .count) 0) forward backward (q .next) (counting-strides p z g) h e flashed
-      (λ n. count n + cond (eqb font n) (q .count + 1) 0)
-      (λ n. both-more (eqb font n) (count n) (q .count) ∙ ap (λ (m : ℕ). count n + cond (eqb font n) (q .count) 0 + m) (sym (sets-one n k font f)))
-
--- ---- onward, whatever the count started from
-
-module _ (tape fonts : List ℕ) (s : State) (forward backward i : ℕ) where
-  pub onward-start : Onward tape fonts s forward backward i fonts s forward backward i
-  onward-start = record { onward = omega arith; sound = λ h. h; same = refl; keeps = λ s₀ l g. g }
-
-  module _ (later : List ℕ) (t : State) (ahead back j : ℕ) (f : Onward tape fonts s forward backward i later t ahead back j) where
-    -- a stretch, and its characters in the array
-    pub onward-strides : {font : ℕ} {q : Stretch} → Strides tape t font (stretchAt t j 0) q → font < length later → (next : List ℕ) → next ≡ set later font (sum64 (getD later font 0) (q .count))
-        → Onward tape fonts s forward backward i next (placed t (q .carriage)) ahead back (q .next)
-    onward-strides {font} {q} p h next e =
-        record {
-          onward = omega (arith, f .onward, strides-onward p);
-          sound = λ z. strides-sound p (f .sound z);
-          same = ap length e ∙ length-set later font (sum64 (getD later font 0) (q .count)) ∙ f .same;
-          keeps = λ s₀ l g. keeps s₀ l (counting-strides s₀ tape l t (countIn later) ahead back p refl (f .keeps s₀ l g));
-        }
-      where
-        keeps : (s₀ : State) → length tape ≤ maxTape → Counting s₀ tape (placed t (q .carriage)) (λ n. countIn later n + cond (eqb font n) (q .count) 0) ahead back (q .next)
-            → Counting s₀ tape (placed t (q .carriage)) (countIn next) ahead back (q .next)
-        keeps s₀ l g =
-            let few = counting-few s₀ tape (placed t (q .carriage)) (λ n. countIn later n + cond (eqb font n) (q .count) 0) ahead back (q .next) g font in
-            let all : countIn later font + q .count ≤ q .next = subst (λ (u : Bool). countIn later font + cond u (q .count) 0 ≤ q .next) (eq-eqb font font refl) few in
-            let big : 1048576 < 2 ^ 64 = lit≤ tt in
-            let fits : getD later font 0 + q .count < 2 ^ 64 = omega (arith, all, g .inside, l, big) in
-            recount s₀ tape (placed t (q .carriage)) (λ n. countIn later n + cond (eqb font n) (q .count) 0) ahead back (q .next) g (countIn next)
-            (λ n. ap (λ (x : List ℕ). getD x n 0) e ∙ more-of later font (q .count) n h fits)
-
-    module _ (h : j < length tape) (u : State) (e : effectOf t (getD tape j 0) ≡ Moved u) where
-      pub onward-turned : NoLead (getD tape j 0) → Onward tape fonts s forward backward i later u ahead back (j + 1)
-      onward-turned l =
-          record {
-            onward = omega (arith, f .onward);
-            sound = λ z. stays-sound t (f .sound z) (getD tape j 0) e;
-            same = f .same;
-            keeps = λ s₀ m g. counting-turned s₀ tape t (countIn later) ahead back j (f .keeps s₀ m g) h m u e l;
-          }
-
-      pub onward-led : (n m : ℕ) → n ≡ forwardOf (taken t (getD tape j 0)) → m ≡ backwardOf (taken t (getD tape j 0)) → n ≤ 31 → m ≤ 31 → (a b : ℕ) → a ≡ sum64 ahead n → b ≡ sum64 back m
-          → Onward tape fonts s forward backward i later u a b (j + 1)
-      onward-led n m en em ln lm a b ea eb =
-          record {
-            onward = omega (arith, f .onward);
-            sound = λ z. stays-sound t (f .sound z) (getD tape j 0) e;
-            same = f .same;
-            keeps = λ s₀ l g. counting-led s₀ tape t (countIn later) ahead back j (f .keeps s₀ l g) h l u e n m en em ln lm a b ea eb;
-          }
-
--- ---- the whole step
-
 module _ (s₀ : State) (tape : List ℕ) (s : State) (fonts : List ℕ) (forward backward i : ℕ) (r : Counting s₀ tape s (countIn fonts) forward backward i) where
   module _ (h : i < length tape) (short : length tape ≤ maxTape) where
-    pub counting-flashed : (c : Character) → effectOf s (getD tape i 0) ≡ Flashed c → c .font < length fonts → (next : List ℕ) → next ≡ set fonts (c .font) (sum64 (getD fonts (c .font) 0) 1)
+    pub counting-flashed : (c : Character) → byteEffect s (getD tape i 0) ≡ Flashed c → c .font < length fonts → (next : List ℕ) → next ≡ set fonts (c .font) (sum64 (getD fonts (c .font) 0) 1)
         → Counting s₀ tape s (countIn next) forward backward (i + 1)
     counting-flashed c e l next q =
         let few = counting-few s₀ tape s (countIn fonts) forward backward i r (c .font) in
-        let big : 1048576 + 1 < 2 ^ 64 = lit≤ tt in
+        let big : maxTape + 1 < 2 ^ 64 = lit≤ tt in
         counting-set s₀ tape s (countIn fonts) forward backward i r h e flashed (countIn next)
         (λ n.
         ap (λ (x : List ℕ). getD x n 0) q
         ∙ more-of fonts (c .font) 1 n l (omega (arith, few, short, big))
         ∙ ap (λ (m : ℕ). countIn fonts n + m) (sym (sets-one n c (c .font) refl)))
 
-    pub counting-page-ended : (t : State) → effectOf s (getD tape i 0) ≡ PageEnded t → Counting s₀ tape t (countIn fonts) forward backward (i + 1)
+    pub counting-page-ended : (t : State) → byteEffect s (getD tape i 0) ≡ PageEnded t → Counting s₀ tape t (countIn fonts) forward backward (i + 1)
     unfolding inFont charactersOf
     counting-page-ended t e = counting-set s₀ tape s (countIn fonts) forward backward i r h e pageEnded (countIn fonts) (λ n. omega arith)
 

@@ -1,2 +1,4 @@
 mod Moves
+mod Arrays
 mod Countings
+mod Onwards

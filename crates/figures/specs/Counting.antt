@@ -1,21 +1,31 @@
 -- What the contracts of the counting functions cite; nothing here is part of what a call promises.
+--     Counting       what a count keeps
+--     countIn        the characters of each font number in an array
+--     Onward         from a state, an array, leads and a place to others
+--     figuresFrom    the figures of a tape that is read from a state
+--     tallyAt        what is found of a tape that ends in a state
+--     Tallied        what a count finds
 use mathlib.Core.Path.{_≡_}
 use mathlib.Core.Bool.{cond}
 use mathlib.Core.List.{List}
-use Prim.Native.Nat.{ℕ, _+_, _*_, _≤_}
+use Prim.Native.Nat.{ℕ, _+_, _*_, _≤_, _<_}
 use lib.Dec.{eqb}
-use lib.ListN.{length, take, getD}
+use lib.ListN.{length, take, getD, set}
 use Rattle.octets.specs.Answer.{afterCut, noStop}
 use Rattle.galley_file.specs.declared.item.Item.{Item}
 use Rattle.galley_file.specs.Item.{charactersOf}
 use Rattle.typesetter.specs.declared.machine.State.{State}
+use Rattle.typesetter.specs.declared.machine.Effect.the-variants.{Moved}
+use Rattle.typesetter.specs.Machine.{withCarriage, byteEffect}
 use Rattle.typesetter.specs.Sound.{Sound}
+use Rattle.tape_stretch.specs.declared.Stretch.{Stretch}
+use Rattle.tape_stretch.specs.Stretch.{NoLead, Strides, stretchAt}
 use Rattle.tape.specs.declared.Ending.{Ending}
 use Rattle.tape.specs.declared.Ending.the-variants.{Reached, Fault}
-use Rattle.tape.specs.Tape.{maxTape, run}
+use Rattle.tape.specs.Tape.{run}
 use Rattle.tape.specs.RunLaws.{soFar}
 use Rattle.figures.specs.declared.Tally.{Tally}
-use Rattle.figures.specs.Figures.{Move, moves, total, forwardOf, backwardOf, inFont, Figures, refusedWith, acceptedWith}
+use Rattle.figures.specs.Figures.{Move, taken, moves, total, forwardOf, backwardOf, inFont, Figures, refusedWith, acceptedWith, sum64}
 
 -- what a count keeps: the bytes passed so far reach the present state; characters by font and leads are theirs
 pub record Counting (s₀ : State) (tape : List ℕ) (s : State) (count : ℕ → ℕ) (forward backward i : ℕ) : Type 0 where
@@ -31,12 +41,17 @@ pub record Counting (s₀ : State) (tape : List ℕ) (s : State) (count : ℕ �
 abbrev pub countIn : List ℕ → ℕ → ℕ
 countIn fonts n = getD fonts n 0
 
--- from a state, an array, leads and a place on to others: a count keeps it, whatever it started from
-pub record Onward (tape fonts : List ℕ) (s : State) (forward backward i : ℕ) (later : List ℕ) (t : State) (ahead back j : ℕ) : Type 0 where
-  pub onward : i ≤ j
-  pub sound : Sound s → Sound t
-  pub same : length later ≡ length fonts
-  pub keeps : (s₀ : State) → length tape ≤ maxTape → Counting s₀ tape s (countIn fonts) forward backward i → Counting s₀ tape t (countIn later) ahead back j
+-- from a state, an array, leads and a place to others, code by code: a stretch, a turn of a mode or a size, or a lead
+pub data Onward (tape fonts : List ℕ) (s : State) (forward backward i : ℕ) : List ℕ → State → ℕ → ℕ → ℕ → Type 0 where
+  here : Onward tape fonts s forward backward i fonts s forward backward i
+  stretched : {later next : List ℕ} {t : State} {ahead back j font : ℕ} {q : Stretch} → Onward tape fonts s forward backward i later t ahead back j
+      → Strides tape t font (stretchAt t j 0) q → font < length later → next ≡ set later font (sum64 (getD later font 0) (q .count))
+      → Onward tape fonts s forward backward i next (withCarriage t (q .carriage)) ahead back (q .next)
+  turned : {later : List ℕ} {t u : State} {ahead back j : ℕ} → Onward tape fonts s forward backward i later t ahead back j → j < length tape
+      → byteEffect t (getD tape j 0) ≡ Moved u → NoLead (getD tape j 0) → Onward tape fonts s forward backward i later u ahead back (j + 1)
+  leads : {later : List ℕ} {t u : State} {ahead back j a b : ℕ} → Onward tape fonts s forward backward i later t ahead back j → j < length tape
+      → byteEffect t (getD tape j 0) ≡ Moved u → a ≡ sum64 ahead (forwardOf (taken t (getD tape j 0))) → b ≡ sum64 back (backwardOf (taken t (getD tape j 0)))
+      → Onward tape fonts s forward backward i later u a b (j + 1)
 
 -- the figures of a run that ends so
 abbrev pub figuresAt : List Item → List Move → Ending → Figures

@@ -27,7 +27,7 @@ use Rattle.typesetter.specs.declared.code.Code.the-variants.{Ignored, Illegal, 
 use Rattle.typesetter.specs.declared.machine.State.{State}
 use Rattle.typesetter.specs.declared.machine.Effect.the-variants.{Moved, Flashed, PageEnded, Refused}
 use Rattle.typesetter.specs.Code.{codeOf}
-use Rattle.typesetter.specs.Machine.{start, effectOf}
+use Rattle.typesetter.specs.Machine.{start, byteEffect}
 use Rattle.tape.specs.Tape.{machineOf, tapeResult}
 
 -- ---- the moves of a run
@@ -43,7 +43,7 @@ taken s b = record { state = s; code = codeOf (s .machine) b }
 unfoldable pub moves : State → List ℕ → List Move
 moves s [] = []
 moves s (b ∷ bs) =
-    elim (effectOf s b) [
+    elim (byteEffect s b) [
       | Moved t ↦ taken s b ∷ moves t bs
       | Flashed c ↦ moves s bs
       | PageEnded t ↦ moves t bs

@@ -16,7 +16,7 @@ use Rattle.typesetter.specs.declared.code.Machine.the-variants.{Four, Eight}
 use Rattle.typesetter.specs.declared.machine.State.{State}
 use Rattle.typesetter.specs.Code.{codeOf}
 use Rattle.typesetter.specs.CodeLaws.{not-zero}
-use Rattle.tape.specs.Quick.{NoLead}
+use Rattle.tape_stretch.specs.Stretch.{NoLead}
 use Rattle.figures.specs.Figures.{taken, leadIn, forwardOf, backwardOf}
 
 -- at all 256 codes

@@ -1,7 +1,8 @@
 // A tape counted: its number, its characters by font number and its lead, by the machine's own rules. No galley is written.
 use measure::Height;
 use octets::answer;
-use tape::quick;
+use tape_quick::turn;
+use tape_stretch::derived;
 use typesetter::code;
 use typesetter::code::Machine;
 use typesetter::machine;
@@ -54,13 +55,14 @@ fn run_end(next: usize, state: State, forward: u64, backward: u64) -> RunEnd
 
 // How far a code leads.
 fn lead_by(b: u8) -> u8
-    ensures { λ r. ⌜ ((machine : Machine) → r ≡ leadIn (codeOf machine b)) × (r ≤ 31) ⌝ }
+    ensures { λ r. ⌜ ((machine : Machine) → r ≡ leadIn (codeOf machine b)) ⌝ }
 {
     if b >> 5 == 3 { code::lead_size(b) } else { 0 }
 }
 
+// The lead of a code that moves the machine, forward.
 fn forward_by(s: State, b: u8) -> u64
-    ensures { λ r. ⌜ (r ≡ forwardOf (taken s b)) × (r ≤ 31) ⌝ }
+    ensures { λ r. ⌜ r ≡ forwardOf (taken s b) ⌝ }
 {
     if s.modes.lead_back {
         0
@@ -69,8 +71,9 @@ fn forward_by(s: State, b: u8) -> u64
     }
 }
 
+// And backward.
 fn backward_by(s: State, b: u8) -> u64
-    ensures { λ r. ⌜ (r ≡ backwardOf (taken s b)) × (r ≤ 31) ⌝ }
+    ensures { λ r. ⌜ r ≡ backwardOf (taken s b) ⌝ }
 {
     if s.modes.lead_back {
         lead_by(b) as u64
@@ -100,27 +103,27 @@ fn quick_tally(
     ensures { λ r. ⌜ Onward (now (tape .entry)) (now (fonts .entry)) first ahead back from (now (fonts .exit)) (r .state) (r .forward) (r .backward) (r .next) ⌝ }
 {
     let mut s = first;
-    let mut d = quick::derived_of(first);
+    let mut d = derived::derived_of(first);
     let mut forward = ahead;
     let mut backward = back;
     let mut i = from;
     while i < tape.len() {
-        let r = quick::count_stretch(s, d, tape, i, 0);
+        let r = tape_stretch::count_stretch(s, d, tape, i, 0);
         let place = r.carriage;
         s.carriage = place;
         add_at(fonts, d.font as usize, r.count as u64);
         i = r.next;
         if i < tape.len() {
             let b = tape[i];
-            if quick::takes_turn(s, b) {
-                let modes = quick::modes_after(s.modes, b);
-                let size = quick::size_after(s.size, b);
+            if turn::takes_turn(s, b) {
+                let modes = turn::modes_after(s.modes, b);
+                let size = turn::size_after(s.size, b);
                 s.modes = modes;
                 s.size = size;
-                d = quick::derived_of(s);
+                d = derived::derived_of(s);
                 i += 1;
             } else {
-                match quick::height_after(s, b) {
+                match tape_quick::height_after(s, b) {
                     Height::At(h) => {
                         forward = std::num::wrapping_add_u64(forward, forward_by(s, b));
                         backward = std::num::wrapping_add_u64(backward, backward_by(s, b));
@@ -168,7 +171,7 @@ fn tally_from(first: State, tape: &[u8], fonts: &mut [u64]) -> Tally
         i = r.next;
         if i < tape.len() {
             let b = tape[i];
-            match machine::step(s, b) {
+            match tape_step::step(s, b) {
                 Effect::Moved(next) => {
                     forward = std::num::wrapping_add_u64(forward, forward_by(s, b));
                     backward = std::num::wrapping_add_u64(backward, backward_by(s, b));

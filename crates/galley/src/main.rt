@@ -14,7 +14,7 @@ ghost use lib.IntN.{natAbs};
 ghost use Rattle.octets.specs.Answer.{accepted};
 ghost use Rattle.galley_file.specs.Outcome.{checkOutcome};
 
-// The cabinet's 8-font machine.
+// The 8-font machine.
 const MACHINE: u32 = 8;
 
 // The longest tape that is read.

@@ -3,7 +3,8 @@
 use mathlib.Core.Path.{_≡_, refl, sym, ap, subst, _∙_}
 use mathlib.Core.Bool.{Bool, true, false, cond}
 use mathlib.Core.List.{List, [], _∷_, _++_, append-assoc}
-use Prim.Native.Nat.{ℕ, zero, suc, _+_, _-_, _*_, _<_, _≤_}
+use Prim.Native.Nat.{ℕ, zero, suc, _+_, _*_, _<_, _≤_}
+use native.Mathlib.Nat.{suc-ne-zero}
 use native.Mathlib.Omega.{arith}
 use borrow.Author.Tests.{lt-ltb, le-ltb}
 use lib.Dec.{ltb, eqb}
@@ -19,13 +20,14 @@ use Rattle.galley_file.specs.declared.form.Form.the-variants.{New}
 use Rattle.galley_file.specs.Form.{greatestHeight, maxGalley}
 use Rattle.galley_file.specs.Character.{valid, characterAt}
 use Rattle.galley_file.specs.CharacterLaws.{height-number}
-use Rattle.galley_file.specs.Item.{validItem, itemAt, itemSize, WholeAt, tally, charactersOf, cutsOf}
+use Rattle.galley_file.specs.Item.{itemAt, itemSize, WholeAt, tally, charactersOf, cutsOf}
 use Rattle.galley_file.specs.ItemLaws.{characters-append, count-item}
 use Rattle.galley_file.specs.Galley.{maxItems, Reading, whole, malformed, readGalley}
-use Rattle.galley_file.specs.GalleyLaws.{Checked, checked, reading-length, length-fields}
+use Rattle.galley_file.specs.GalleyLaws.{checked, length-fields}
+use Rattle.galley_file.specs.ReadingLaws.{reading-length}
 use Rattle.galley_file.specs.Walk.{Walk, walk-start, walk-step, Midway, midway-start, midway-end, Onward, midway-next, midway-whole}
 use Rattle.galley_file.specs.Outcome.{countOutcome, checkOutcome}
-use Rattle.galley_check.specs.Found.{FoundOutcome, found, notFound, pickFound, readBackOutcome, zeros}
+use Rattle.galley_check.specs.Found.{found, notFound, pickFound, readBackOutcome, zeros}
 
 -- where the check refuses, so does reading back
 pub back-refused : (g : List ℕ) (n number place : ℕ) → refused number place ≡ checkOutcome New g → notFound number place ≡ readBackOutcome g n
@@ -34,7 +36,7 @@ back-refused g n number place e = go (ltb (maxGalley New) (length g)) (readGalle
   where
     go : (t : Bool) (r : Reading) → refused number place ≡ cond t (refused galleyTooLong 0) (countOutcome 0 r) → notFound number place ≡ cond t (notFound galleyTooLong 0) (pickFound n r)
     go true r h = cc
-    go false (whole is) h = let z : _≡_ {A = ℕ} 0 1 = cc in absurd (omega arith)
+    go false (whole is) h = absurd (suc-ne-zero 0 cc)
     go false (malformed p) h = cc
 
 -- and where it accepts, the characters decide
@@ -150,7 +152,7 @@ unfolding itemAt
 by-tag s i c = go (eqb (getD s i 0) 6)
   where
     go : (t : Bool) → cond t Cut (Placed (characterAt New s i)) ≡ Placed c → characterAt New s i ≡ c
-    go true e = let z : _≡_ {A = ℕ} 0 1 = cc in absurd (omega arith)
+    go true e = absurd (suc-ne-zero 0 cc)
     go false e = cc
 
 module _ (g : List ℕ) (n count : ℕ) (e : accepted count ≡ checkOutcome New g) (short : length g ≡ 11 * count + 7) (h : n < count) where

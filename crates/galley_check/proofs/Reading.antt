@@ -1,10 +1,10 @@
 -- How a run of fields is checked, step by step: the laws that the code's proofs cite.
 -- Assumes nothing.
 use mathlib.Core.Path.{_≡_, refl, sym, ap, _∙_}
-use mathlib.Core.Bool.{Bool, true, false, cond}
-use mathlib.Core.List.{List, [], _∷_, _++_}
+use mathlib.Core.Bool.{true, false}
+use mathlib.Core.List.{List, [], _∷_}
 use mathlib.Core.Option.{Option, none, some}
-use Prim.Native.Nat.{ℕ, zero, suc, _+_, _-_, _*_, _/_, _%_, _<_, _≤_}
+use Prim.Native.Nat.{ℕ, zero, suc, _+_, _-_, _*_, _/_, _%_, _≤_}
 use native.Mathlib.Omega.{arith}
 use borrow.Author.Tests.{eq-eqb, ne-eqb}
 use lib.ListN.{length, take, drop, length-drop, length-append}
@@ -19,13 +19,14 @@ use Rattle.galley_file.specs.Form.{characterSize}
 use Rattle.galley_file.specs.Character.{characterAt, isCharacter}
 use Rattle.galley_file.specs.Item.{itemField, itemSize, isCut, nextItem, tally, charactersOf, cutsOf}
 use Rattle.galley_file.specs.ItemLaws.{length-itemField, next-is, count-item, all-counted}
-use Rattle.galley_file.specs.Galley.{Reading, whole, malformed, after, fields, readEnd, reading, leading}
+use Rattle.galley_file.specs.Galley.{Reading, whole, malformed, itemFirst, fields, readEnd, reading, leading}
 use Rattle.galley_check.specs.Span.{SpanOf, runNumber}
-use Rattle.galley_file.specs.GalleyLaws.{reading-next, reading-end, length-fields}
+use Rattle.galley_file.specs.GalleyLaws.{length-fields}
+use Rattle.galley_file.specs.ReadingLaws.{reading-next, reading-end}
 use Rattle.galley_file.specs.Outcome.{countOutcome}
 
 -- an item more before a run, and its count
-pub count-after : (n : ℕ) (i : Item) (r : Reading) → countOutcome n (after i r) ≡ countOutcome (n + tally i) r
+pub count-after : (n : ℕ) (i : Item) (r : Reading) → countOutcome n (itemFirst i r) ≡ countOutcome (n + tally i) r
 count-after n i (whole is) = ap accepted (omega (arith, count-item i is))
 count-after n i (malformed p) = refl
 

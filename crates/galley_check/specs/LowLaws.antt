@@ -7,20 +7,20 @@
 -- Assumes nothing.
 use mathlib.Core.Path.{_≡_, refl, sym, ap, _∙_}
 use mathlib.Core.Bool.{Bool, true, false, cond}
-use mathlib.Core.List.{List, [], _∷_, _++_, append-assoc}
+use mathlib.Core.List.{List, [], _∷_, _++_}
 use mathlib.Core.Option.{Option, none, some}
-use Prim.Native.Nat.{ℕ, _+_, _<_, _≤_}
+use Prim.Native.Nat.{ℕ, _+_}
+use native.Mathlib.Nat.{suc-ne-zero}
 use native.Mathlib.Omega.{arith}
-use borrow.Author.Tests.{le-ltb, ltb-false}
+use borrow.Author.Tests.{le-ltb}
 use lib.Dec.{ltb}
-use lib.IntN.{ℤ, pos}
+use lib.IntN.{pos}
 use lib.ListN.{length, length-append}
 use lib.Signed.{leZ}
 use Rattle.integers.specs.Parts.{integers, true-leZ}
-use Rattle.octets.specs.Answer.{accepted, refused, refusal, written, galleyTooLong, galleyMalformed, heightTooGreat}
+use Rattle.octets.specs.Answer.{accepted, refused, refusal, written, galleyTooLong}
 use Rattle.octets.specs.FieldLaws.{both}
 use Rattle.measure.specs.Place.{heightEnd, lowEnd}
-use Rattle.galley_file.specs.declared.character.Character.{Character}
 use Rattle.galley_file.specs.declared.item.Item.{Item}
 use Rattle.galley_file.specs.declared.item.Item.the-variants.{Placed, Cut}
 use Rattle.galley_file.specs.declared.form.Form.the-variants.{New}
@@ -29,7 +29,8 @@ use Rattle.galley_file.specs.CharacterLaws.{valid-parts, parts-valid, height-ra
 use Rattle.galley_file.specs.Item.{validItem, itemField, itemSize, isLow, charactersOf}
 use Rattle.galley_file.specs.ItemLaws.{length-itemField}
 use Rattle.galley_file.specs.Galley.{maxItems, AllValid, nil, more, fields, Reading, whole, malformed, readGalley, itemsIn, itemsOf}
-use Rattle.galley_file.specs.GalleyLaws.{checked, read-as, reading-valid}
+use Rattle.galley_file.specs.GalleyLaws.{checked, read-as}
+use Rattle.galley_file.specs.ReadingLaws.{reading-valid}
 use Rattle.galley_file.specs.Outcome.{countOutcome, checkOutcome}
 use Rattle.galley_check.specs.Low.{firstHigh, lowCount, lowCheck, lowOutcome, orTooGreat, lowReading, lowResult}
 
@@ -46,7 +47,7 @@ high-past (i ∷ is) js at e = go (isLow i) refl (high-past is js (at + itemSize
     go true q past e =
         let z : at + itemSize New i + length (fields New is) ≡ at + length (itemField New i ++ fields New is) = omega (arith, length-append (itemField New i) (fields New is), length-itemField New i) in
         past e ∙ ap (firstHigh js) z
-    go false q past e = let z : _≡_ {A = ℕ} 0 1 = cc in absurd (omega arith)
+    go false q past e = absurd (suc-ne-zero 0 cc)
 
 pub low-one : (i : Item) (at : ℕ) → isLow i ≡ true → firstHigh (i ∷ []) at ≡ none
 unfolding firstHigh
@@ -73,7 +74,7 @@ low-valid (i ∷ is) at (more v vs) e = go (isLow i) refl (low-valid is (at + it
     go : (t : Bool) → isLow i ≡ t → (firstHigh is (at + itemSize New i) ≡ none → AllValid lowEnd is)
         → cond t (firstHigh is (at + itemSize New i)) (some at) ≡ none → AllValid lowEnd (i ∷ is)
     go true q rest e = more (low-item i v q) (rest e)
-    go false q rest e = let z : _≡_ {A = ℕ} 0 1 = cc in absurd (omega arith)
+    go false q rest e = absurd (suc-ne-zero 0 cc)
 
 item-low : (i : Item) → validItem lowEnd i ≡ true → isLow i ≡ true
 item-low (Placed c) v = both (leZ (pos 0) (c .height .0)) (leZ (c .height .0) lowEnd) (valid-parts v .height) .1
@@ -111,10 +112,10 @@ low-checked g count e = go (ltb (maxGalley New) (length g)) refl (readGalley New
   where
     none-high : (is : List Item) (o : Option ℕ) → accepted count ≡ lowCount o is → (o ≡ none) × (accepted count ≡ accepted (length (charactersOf is)))
     none-high is none h = (refl, h)
-    none-high is (some p) h = let z : _≡_ {A = ℕ} 0 1 = cc in absurd (omega arith)
+    none-high is (some p) h = absurd (suc-ne-zero 0 cc)
 
     go : (t : Bool) → ltb (maxGalley New) (length g) ≡ t → (r : Reading) → readGalley New g ≡ r → accepted count ≡ cond t (refused galleyTooLong 0) (lowCheck r) → LowChecked g count
-    go true l r q h = let z : _≡_ {A = ℕ} 0 1 = cc in absurd (omega arith)
+    go true l r q h = absurd (suc-ne-zero 0 cc)
     go false l (whole is) q h =
         let n = none-high is (firstHigh is 0) h in
         record {
@@ -122,7 +123,7 @@ low-checked g count e = go (ltb (maxGalley New) (length g)) refl (readGalley New
           low = ap (λ (r : Reading). firstHigh (itemsIn r) 0) q ∙ n .0;
           valid = rw q (low-valid is 0 (reading-valid New is maxItems g 0 0 q) (n .0));
         }
-    go false l (malformed p) q h = let z : _≡_ {A = ℕ} 0 1 = cc in absurd (omega arith)
+    go false l (malformed p) q h = absurd (suc-ne-zero 0 cc)
 
 -- where the check refuses, so does the check with the limit
 pub check-refused : (g : List ℕ) (number place : ℕ) → refused number place ≡ checkOutcome New g → refused number place ≡ lowOutcome g
@@ -131,7 +132,7 @@ check-refused g number place e = go (ltb (maxGalley New) (length g)) (readGalley
   where
     go : (t : Bool) (r : Reading) → refused number place ≡ cond t (refused galleyTooLong 0) (countOutcome 0 r) → refused number place ≡ cond t (refused galleyTooLong 0) (lowCheck r)
     go true r h = h
-    go false (whole is) h = let z : _≡_ {A = ℕ} 0 1 = cc in absurd (omega arith)
+    go false (whole is) h = absurd (suc-ne-zero 0 cc)
     go false (malformed p) h = h
 
 -- where the check accepts, the first greater height decides
@@ -160,7 +161,7 @@ unfolding lowOutcome lowResult
 low-refused make g number place e = go (ltb (maxGalley New) (length g)) (readGalley New g) e
   where
     high : (is : List Item) (o : Option ℕ) → refused number place ≡ lowCount o is → refusal number place ≡ orTooGreat o (make is)
-    high is none h = let z : _≡_ {A = ℕ} 0 1 = cc in absurd (omega arith)
+    high is none h = absurd (suc-ne-zero 0 cc)
     high is (some p) h = cc
 
     go : (t : Bool) (r : Reading) → refused number place ≡ cond t (refused galleyTooLong 0) (lowCheck r) → refusal number place ≡ cond t (refusal galleyTooLong 0) (lowReading make r)

@@ -7,7 +7,7 @@ use mathlib.Core.Path.{_≡_, refl, sym, ap, _∙_}
 use mathlib.Core.Bool.{Bool, true, false, cond}
 use mathlib.Core.List.{List}
 use Prim.Native.Nat.{ℕ, _≤_}
-use native.Mathlib.Omega.{arith}
+use native.Mathlib.Nat.{suc-ne-zero}
 use borrow.Author.Tests.{le-ltb, ltb-false}
 use lib.Dec.{ltb}
 use lib.ListN.{length}
@@ -29,7 +29,7 @@ module _ (form : Form) (make : List Item → Result) (g : List ℕ) where
     where
       go : (t : Bool) (r : Reading) → refused n place ≡ cond t (refused galleyTooLong 0) (countOutcome 0 r) → cond t (refusal galleyTooLong 0) (madeOf make r) ≡ refusal n place
       go true r h = cc
-      go false (whole is) h = let z : _≡_ {A = ℕ} 0 1 = cc in absurd (omega arith)
+      go false (whole is) h = absurd (suc-ne-zero 0 cc)
       go false (malformed p) h = cc
 
   pub result-made : (count : ℕ) → accepted count ≡ checkOutcome form g → checkedResult form make g ≡ make (itemsOf form g)
@@ -49,9 +49,9 @@ module _ (form : Form) (make : List Item → Result) (g : List ℕ) where
   result-written bs b e = go (ltb (maxGalley form) (length g)) refl (readGalley form g) refl e
     where
       go : (t : Bool) → ltb (maxGalley form) (length g) ≡ t → (r : Reading) → readGalley form g ≡ r → cond t (refusal galleyTooLong 0) (madeOf make r) ≡ written bs → Made bs
-      go true l r q h = let z : _≡_ {A = ℕ} 0 1 = cc in absurd (omega arith)
+      go true l r q h = absurd (suc-ne-zero 0 cc)
       go false l (whole is) q h =
           let a = accepted-is form g (length (charactersOf is)) b (read-accepted form g is (ltb-false _ _ l) q) in
           let s : a .items ≡ is = (let k : whole (a .items) ≡ whole is = sym (a .read) ∙ q in cc) in
           record { items = a .items; bytes = a .bytes; valid = a .valid; few = a .few; made = ap make s ∙ h }
-      go false l (malformed p) q h = let z : _≡_ {A = ℕ} 0 1 = cc in absurd (omega arith)
+      go false l (malformed p) q h = absurd (suc-ne-zero 0 cc)

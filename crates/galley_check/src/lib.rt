@@ -9,7 +9,6 @@ use octets::answer;
 use octets::answer::Answer;
 use octets::field;
 ghost use mathlib.Core.Path.{_≡_};
-ghost use mathlib.Core.Bool.{true};
 ghost use Prim.Native.Nat.{_+_, _*_, _≤_};
 ghost use lib.ListN.{length};
 ghost use Rattle.octets.specs.Answer.{accepted, outcomeOf};

@@ -3,20 +3,20 @@
 use mathlib.Core.Path.{_≡_, refl, sym, ap, _∙_}
 use mathlib.Core.Bool.{Bool, true, false, _&&_}
 use mathlib.Core.List.{List, [], _∷_, _++_}
-use Prim.Native.Nat.{ℕ, suc, _+_, _*_, _≤_, _<_}
+use Prim.Native.Nat.{ℕ, suc, _+_, _≤_, _<_}
 use native.Mathlib.Nat.{add-comm}
 use native.Mathlib.Omega.{arith}
 use borrow.Author.Tests.{lt-ltb, ltb-true, le-leb, leb-true}
 use lib.Dec.{leb, ltb}
 use lib.IntN.{ℤ, pos, negsuc}
-use lib.ListN.{length, getD, take, drop, length-drop}
+use lib.ListN.{length, getD, take, drop}
 use lib.Seq.{take-add, drop-cons, drop-drop}
-use lib.Signed.{mag, leZ, _≤ℤ_}
+use lib.Signed.{leZ, _≤ℤ_}
 use Rattle.integers.specs.Parts.{integers}
 use Rattle.octets.specs.Octets.{Bytes, number, signed, natAt, signedAt, bytes, signedBytes, Holds}
 use Rattle.octets.specs.OctetsLaws.{signed-signedBytes, number-signedBytes, signedBytes-signedAt, signedBytes-natAt}
 use Rattle.octets.specs.Field.{field, startsField}
-use Rattle.octets.specs.FieldLaws.{both, field-starts, Starts, starts, starts-field}
+use Rattle.octets.specs.FieldLaws.{both, field-starts, starts, starts-field}
 use Rattle.measure.specs.Place.{within}
 use Rattle.galley_file.specs.declared.character.Character.{Character}
 use Rattle.galley_file.specs.declared.form.Form.{Form}

@@ -7,9 +7,10 @@ use mathlib.Core.Logic.{_⊎_, inl, inr}
 use mathlib.Core.Bool.{Bool, true, false, cond}
 use mathlib.Core.List.{List, [], _∷_, _++_, append-assoc}
 use mathlib.Core.Option.{Option, none, some}
-use Prim.Native.Nat.{ℕ, zero, suc, _+_, _*_, _<_, _≤_}
+use Prim.Native.Nat.{ℕ, zero, suc, _+_, _<_, _≤_}
+use native.Mathlib.Nat.{suc-ne-zero}
 use native.Mathlib.Omega.{arith}
-use borrow.Author.Tests.{eqb-false, ltb-false}
+use borrow.Author.Tests.{eqb-false}
 use lib.Dec.{ltb, eqb}
 use lib.ListN.{length, drop, length-drop, length-append}
 use Rattle.octets.specs.Octets.{Bytes}
@@ -22,8 +23,8 @@ use Rattle.galley_file.specs.declared.form.Form.{Form}
 use Rattle.galley_file.specs.Form.{greatestHeight, maxGalley}
 use Rattle.galley_file.specs.Item.{validItem, itemField, itemSize, nextItem, tally, charactersOf}
 use Rattle.galley_file.specs.ItemLaws.{length-itemField, next-field, next-is, field-next, tally-few, count-item}
-use Rattle.galley_file.specs.Galley.{maxItems, AllValid, nil, more, fields, Reading, whole, malformed, after, readEnd, reading, readGalley}
-use Rattle.galley_file.specs.GalleyLaws.{reading-next, reading-end}
+use Rattle.galley_file.specs.Galley.{maxItems, AllValid, nil, more, fields, Reading, whole, malformed, itemFirst, readEnd, reading, readGalley}
+use Rattle.galley_file.specs.ReadingLaws.{reading-next, reading-end}
 use Rattle.galley_file.specs.Outcome.{countOutcome, checkOutcome}
 
 -- s starts with no field of a valid item
@@ -75,7 +76,7 @@ unfolding readEnd
 place-here s at n p b l e = go (startsEnd n s) refl (eqb (length s) 7) refl e
   where
     go : (t : Bool) → startsEnd n s ≡ t → (u : Bool) → eqb (length s) 7 ≡ u → cond t (cond u (whole []) (malformed (at + 7))) (malformed at) ≡ malformed p → At s at n p
-    go true q true r h = let y : _≡_ {A = ℕ} 0 1 = cc in absurd (omega arith)
+    go true q true r h = absurd (suc-ne-zero 0 cc)
     go true q false r h =
         let w = starts-end n s b q in
         let t = longer s (w .0) (eqb-false _ _ r) in
@@ -90,8 +91,8 @@ here form k s at n p b l f e =
     let z : n + 0 ≡ n = omega arith in
     record { items = []; valid = nil; rest = s; bytes = refl; next = f; few = omega arith; place = rw (y, z) (place-here s at n p b l e) }
 
-later : (i : Item) (r : Reading) (p : ℕ) → after i r ≡ malformed p → r ≡ malformed p
-later i (whole is) p e = let z : _≡_ {A = ℕ} 0 1 = cc in absurd (omega arith)
+later : (i : Item) (r : Reading) (p : ℕ) → itemFirst i r ≡ malformed p → r ≡ malformed p
+later i (whole is) p e = absurd (suc-ne-zero 0 cc)
 later i (malformed q) p e = e
 
 one-more : (form : Form) (rest : List ℕ) {m k : ℕ} → NoItem form rest ⊎ (m ≡ k) → NoItem form rest ⊎ (suc m ≡ suc k)
@@ -136,7 +137,7 @@ refused-is form g p b e = go (ltb (maxGalley form) (length g)) refl (readGalley 
   where
     go : (t : Bool) → ltb (maxGalley form) (length g) ≡ t → (r : Reading) → readGalley form g ≡ r → cond t (refused galleyTooLong 0) (countOutcome 0 r) ≡ refused galleyMalformed p → Fault form maxItems g 0 0 p
     go true l r q h = let z : _≡_ {A = ℕ} 40 41 = cc in absurd (omega arith)
-    go false l (whole is) q h = let z : _≡_ {A = ℕ} 0 1 = cc in absurd (omega arith)
+    go false l (whole is) q h = absurd (suc-ne-zero 0 cc)
     go false l (malformed x) q h =
         let y : x ≡ p = cc in
         fault-steps form maxItems g 0 0 p b (omega arith) (q ∙ ap malformed y)

@@ -4,7 +4,11 @@ use mathlib.Core.Path.{_≡_, refl}
 use Prim.Native.Nat.{ℕ, _+_, _*_, _≤_}
 use native.Mathlib.Omega.{arith}
 use Rattle.measure.specs.Place.{heightEnd}
-use lib.Signed.{_≤ℤ_}
+use lib.Dec.{T}
+use lib.IntN.{pos, natAbs}
+use lib.Signed.{nonNeg, _≤ℤ_}
+use mir.Syntax.{w32}
+use mir.Val.{Fits}
 use Rattle.integers.specs.Parts.{integers}
 use Rattle.galley_file.specs.declared.form.Form.{Form}
 use Rattle.galley_file.specs.declared.form.Form.the-variants.{Old, New}
@@ -20,6 +24,15 @@ pub record FormSizes (form : Form) : Type 0 where
 pub form-sizes : (form : Form) → FormSizes form
 form-sizes Old = record { size-is = refl; body-is = refl; most = omega arith; low = omega integers; short = omega arith }
 form-sizes New = record { size-is = refl; body-is = refl; most = omega arith; low = omega integers; short = omega arith }
+
+-- the greatest height is a natural number that fits
+pub limit-fits : (form : Form) → T (nonNeg (greatestHeight form)) × Fits w32 (natAbs (greatestHeight form))
+limit-fits Old = (tt, omega arith)
+limit-fits New = (tt, omega arith)
+
+pub limit-abs : (form : Form) → pos (natAbs (greatestHeight form)) ≡ greatestHeight form
+limit-abs Old = refl
+limit-abs New = refl
 
 -- the bytes of n characters are at least n, and at most 11 n
 pub size-times : (form : Form) (n : ℕ) → (n ≤ characterSize form * n) × (characterSize form * n ≤ 11 * n)

@@ -7,9 +7,9 @@
 --     readGalley     what a whole galley holds, and itemsOf the items, none where it is malformed
 --     leading        the items that a run of bytes starts with
 use Prim.Native.Nat.{ℕ, zero, suc, _+_}
-use mathlib.Core.Bool.{Bool, true, cond}
+use mathlib.Core.Bool.{true, cond}
 use mathlib.Core.List.{List, [], _∷_, _++_}
-use mathlib.Core.Option.{Option, none, some}
+use mathlib.Core.Option.{none, some}
 use mathlib.Core.Path.{_≡_}
 use lib.Dec.{eqb}
 use lib.IntN.{ℤ}
@@ -39,9 +39,9 @@ pub data Reading : Type 0 where
   whole : List Item → Reading
   malformed : ℕ → Reading
 
-abbrev pub after : Item → Reading → Reading
-after i (whole is) = whole (i ∷ is)
-after i (malformed p) = malformed p
+abbrev pub itemFirst : Item → Reading → Reading
+itemFirst i (whole is) = whole (i ∷ is)
+itemFirst i (malformed p) = malformed p
 
 -- what s holds where no item comes next: End with nothing after it, or a fault
 unfoldable pub readEnd : List ℕ → ℕ → ℕ → Reading
@@ -54,7 +54,7 @@ reading f zero s at n = readEnd s at n
 reading f (suc k) s at n =
     elim (nextItem f s) [
       | none ↦ readEnd s at n
-      | some i ↦ after i (reading f k (drop (itemSize f i) s) (at + itemSize f i) (n + tally i))
+      | some i ↦ itemFirst i (reading f k (drop (itemSize f i) s) (at + itemSize f i) (n + tally i))
     ]
 
 unfoldable pub readGalley : Form → List ℕ → Reading

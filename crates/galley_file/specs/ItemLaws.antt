@@ -9,25 +9,25 @@ use mathlib.Core.Path.{_≡_, refl, sym, ap, _∙_}
 use mathlib.Core.Bool.{Bool, true, false, cond, _&&_}
 use mathlib.Core.List.{List, [], _∷_, _++_}
 use mathlib.Core.Option.{Option, none, some}
-use Prim.Native.Nat.{ℕ, _+_, _*_, _≤_, _<_}
-use native.Mathlib.Nat.{add-assoc}
+use Prim.Native.Nat.{ℕ, _+_, _≤_}
+use native.Mathlib.Nat.{add-assoc, suc-ne-zero}
 use native.Mathlib.Omega.{arith}
 use borrow.Author.Tests.{ne-eqb, eq-eqb}
 use lib.Dec.{leb, eqb}
 use lib.IntN.{pos}
-use lib.ListN.{length, getD, take, drop, length-append}
+use lib.ListN.{length, getD, drop}
 use lib.Seq.{getD-drop, drop-drop}
 use lib.Signed.{_≤ℤ_}
 use Rattle.octets.specs.Octets.{Bytes, natAt, bytes}
-use Rattle.octets.specs.Field.{field, startsField, endField}
-use Rattle.octets.specs.FieldLaws.{length-field, field-starts, starts, starts-field}
+use Rattle.octets.specs.Field.{field, startsField}
+use Rattle.octets.specs.FieldLaws.{field-starts, starts, starts-field}
 use Rattle.galley_file.specs.declared.character.Character.{Character}
 use Rattle.galley_file.specs.declared.item.Item.{Item}
 use Rattle.galley_file.specs.declared.item.Item.the-variants.{Placed, Cut}
 use Rattle.galley_file.specs.declared.form.Form.{Form}
 use Rattle.galley_file.specs.declared.form.Form.the-variants.{Old, New}
 use Rattle.galley_file.specs.Form.{characterTag, heightBytes, bodyBytes, characterSize, greatestHeight}
-use Rattle.galley_file.specs.Character.{valid, characterField, characterAt, isCharacter}
+use Rattle.galley_file.specs.Character.{characterAt, isCharacter}
 use Rattle.galley_file.specs.CharacterLaws.{length-characterField, characterAt-field, field-isCharacter, drop-field, height-number, read-character, isCharacter-field}
 use Rattle.galley_file.specs.Item.{cutField, isCut, validItem, itemField, itemSize, nextItem, itemAt, WholeAt, tally, charactersOf, cutsOf}
 
@@ -133,7 +133,7 @@ next-is form s i =
     (λ e f q.
     let w : Cut ≡ i = cc in
     rw (← w) (record { is-valid = refl; long = cut-long s f; here = rw (eq-eqb _ _ (tag-cut s f)) }))
-    (λ e f q. let z : _≡_ {A = ℕ} 0 1 = cc in absurd (omega arith))
+    (λ e f q. absurd (suc-ne-zero 0 cc))
 
 -- bytes that have a next item are its field and what follows
 pub field-next : (form : Form) (s : List ℕ) (i : Item) → Bytes s → nextItem form s ≡ some i → s ≡ itemField form i ++ drop (itemSize form i) s
@@ -141,7 +141,7 @@ field-next form s i b =
     next-cases form s (λ o. o ≡ some i → s ≡ itemField form i ++ drop (itemSize form i) s)
     (λ e q. let w : Placed (characterAt form s 0) ≡ i = cc in rw (← w) (isCharacter-field form s b e))
     (λ e f q. let w : Cut ≡ i = cc in rw (← w) (cut-field s b f))
-    (λ e f q. let z : _≡_ {A = ℕ} 0 1 = cc in absurd (omega arith))
+    (λ e f q. absurd (suc-ne-zero 0 cc))
 
 shift : (form : Form) (s : List ℕ) (at i : ℕ) → itemAt form (drop at s) i ≡ itemAt form s (at + i)
 unfolding itemAt characterAt

@@ -8,6 +8,7 @@ pub mod Item
 pub mod ItemLaws
 pub mod Galley
 pub mod Outcome
+pub mod ReadingLaws
 pub mod GalleyLaws
 pub mod Walk
 pub mod Faults

@@ -15,10 +15,11 @@ use lib.Seq.{drop-drop}
 use Rattle.galley_file.specs.declared.item.Item.{Item}
 use Rattle.galley_file.specs.declared.form.Form.{Form}
 use Rattle.galley_file.specs.Form.{greatestHeight}
-use Rattle.galley_file.specs.Item.{validItem, itemField, itemSize, itemAt, WholeAt, tally}
+use Rattle.galley_file.specs.Item.{validItem, itemSize, itemAt, WholeAt, tally}
 use Rattle.galley_file.specs.ItemLaws.{length-itemField, size-least, next-is, next-itemAt}
 use Rattle.galley_file.specs.Galley.{maxItems, fields, whole, reading, readGalley}
-use Rattle.galley_file.specs.GalleyLaws.{first, last, reading-length, fields-append, fields-one}
+use Rattle.galley_file.specs.GalleyLaws.{fields-append, fields-one}
+use Rattle.galley_file.specs.ReadingLaws.{first, last, reading-length}
 
 pub record Walk (form : Form) (g : List ℕ) (done rest : List Item) (at : ℕ) : Type 0 where
   pub at-is : at ≡ length (fields form done)

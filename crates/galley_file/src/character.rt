@@ -36,18 +36,28 @@ const FONTS: u8 = 120;
 
 const LAST_CODE: u8 = 108;
 
-// The last x that is valid in every size.
-const LAST_X: u32 = 3_184;
+// The least x of a double size, and the greatest, which is valid in every size.
+const FIRST_DOUBLE_X: Units = Units(-55);
+
+const LAST_DOUBLE_X: Units = Units(3_184);
 
 // Whether x is valid in a single or a double size.
-fn valid_x(double: bool, x: Units) -> bool
+pub fn valid_x(double: bool, x: Units) -> bool
     ensures { λ r. ⌜ r ≡ validX double (x .0) ⌝ }
 {
     let v = x.0;
     if double {
-        if -55 <= v { v <= 3_184 } else { false }
+        if FIRST_DOUBLE_X.0 <= v {
+            v <= LAST_DOUBLE_X.0
+        } else {
+            false
+        }
     } else {
-        if 0 <= v { v <= 3_239 } else { false }
+        if 0 <= v {
+            v <= measure::CARRIAGE_END.0
+        } else {
+            false
+        }
     }
 }
 
@@ -106,13 +116,13 @@ pub fn character_at(f: Form, s: &[u8], i: usize) -> Character
     }
 }
 
-// Whether the character whose field s starts with is valid, of a height in range. An x of 0 to LAST_X is valid in every size.
+// Whether the character whose field s starts with is valid, of a height in range. An x of 0 to LAST_DOUBLE_X is valid in every size.
 fn is_valid_first(f: Form, s: &[u8]) -> bool
     requires { ⌜ (characterSize f ≤ length (now s)) × (pos (natAt (heightBytes f) 5 (now s)) ≤ℤ greatestHeight f) ⌝ }
     ensures { λ r. ⌜ r ≡ valid (greatestHeight f) (characterAt f (now (s .entry)) 0) ⌝ }
 {
     let c = character_at(f, s, 0);
-    if number::nat2_at(s, X_AT) <= LAST_X {
+    if number::nat2_at(s, X_AT) <= LAST_DOUBLE_X.0 as u32 {
         valid_beside_x(c, true)
     } else {
         valid_but_height(c)
@@ -124,7 +134,7 @@ pub fn is_character(f: Form, s: &[u8]) -> bool
     ensures { λ r. ⌜ r ≡ isCharacter f (now (s .entry)) ⌝ }
 {
     if field::starts_field(s, form::character_tag(f), form::body_bytes(f)) {
-        if height_at(f, s, HEIGHT_AT) <= form::height_limit(f) {
+        if height_at(f, s, HEIGHT_AT) <= form::greatest_height(f).0 as u32 {
             is_valid_first(f, s)
         } else {
             false

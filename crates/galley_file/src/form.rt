@@ -1,7 +1,7 @@
 // The two forms of a galley (document 02, "Old galleys and new"): a character's field, and the limits that follow from it.
+use measure::Quanta;
 ghost use mathlib.Core.Path.{_≡_};
 ghost use Prim.Native.Nat.{_≤_};
-ghost use lib.IntN.{pos};
 ghost use Rattle.galley_file.specs.Form.{characterTag, bodyBytes, characterSize, greatestHeight, maxGalley};
 
 pub enum Form {
@@ -44,13 +44,12 @@ pub fn character_size(f: Form) -> usize
     }
 }
 
-// The greatest height.
-pub fn height_limit(f: Form) -> u32
-    ensures { λ r. ⌜ pos r ≡ greatestHeight f ⌝ }
+pub fn greatest_height(f: Form) -> Quanta
+    ensures { λ r. ⌜ r .0 ≡ greatestHeight f ⌝ }
 {
     match f {
-        Form::Old => 65_535,
-        Form::New => 1_000_000,
+        Form::Old => measure::LOW_END,
+        Form::New => measure::HEIGHT_END,
     }
 }
 

@@ -55,7 +55,7 @@ pub fn is_low(i: Item) -> bool
     ensures { λ r. ⌜ r ≡ isLow i ⌝ }
 {
     match i {
-        Item::Placed(c) => c.height.0 <= measure::LOW_END,
+        Item::Placed(c) => c.height.0 <= measure::LOW_END.0,
         Item::Cut => true,
     }
 }

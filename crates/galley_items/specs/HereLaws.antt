@@ -17,10 +17,11 @@ use Rattle.galley_file.specs.declared.item.Item.{Item}
 use Rattle.galley_file.specs.Item.{itemSize, nextItem}
 use Rattle.galley_file.specs.ItemLaws.{next-none}
 use Rattle.galley_file.specs.Galley.{itemsOf}
-use Rattle.galley_file.specs.GalleyLaws.{first, last, read-as}
+use Rattle.galley_file.specs.GalleyLaws.{read-as}
+use Rattle.galley_file.specs.ReadingLaws.{first, last}
 use Rattle.galley_file.specs.Outcome.{checkOutcome}
 use Rattle.galley_file.specs.Walk.{Walk, walk-start, walk-step}
-use Rattle.galley_items.specs.Here.{HereOutcome, isItem, noItem, orMalformed, hereOutcome}
+use Rattle.galley_items.specs.Here.{isItem, noItem, orMalformed, hereOutcome}
 
 unfoldable pub met : ℕ → List ℕ → ℕ → List Item
 met zero g at = []

@@ -7,8 +7,6 @@ use mathlib.Core.Bool.{Bool, true, false, cond, _&&_}
 use Prim.Native.Nat.{ℕ}
 use lib.IntN.{ℤ, pos, negℤ}
 use lib.Signed.{leZ}
-use Rattle.measure.specs.declared.Place as P
-use Rattle.measure.specs.declared.Place.the-variants as PV
 use Rattle.measure.specs.declared.Carriage as C
 use Rattle.measure.specs.declared.Carriage.the-variants as CV
 use Rattle.measure.specs.declared.Height as H
@@ -33,19 +31,8 @@ directedBy false n = pos n
 abbrev pub within : ℤ → ℤ → Bool
 within top z = leZ (pos 0) z && leZ z top
 
-unfoldable pub placeAt : ℤ → ℤ → P.Place
-placeAt top z = cond (within top z) (PV.At z) PV.Outside
-
-abbrev pub carriageOf : P.Place → C.Carriage
-carriageOf (PV.At z) = CV.At (record { 0 = z })
-carriageOf PV.Outside = CV.Outside
-
 unfoldable pub carriageAt : ℤ → C.Carriage
-carriageAt z = carriageOf (placeAt carriageEnd z)
-
-abbrev pub heightOf : P.Place → H.Height
-heightOf (PV.At z) = HV.At (record { 0 = z })
-heightOf PV.Outside = HV.Outside
+carriageAt z = cond (within carriageEnd z) (CV.At (record { 0 = z })) CV.Outside
 
 unfoldable pub heightAt : ℤ → H.Height
-heightAt z = heightOf (placeAt heightEnd z)
+heightAt z = cond (within heightEnd z) (HV.At (record { 0 = z })) HV.Outside

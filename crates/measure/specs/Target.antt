@@ -23,11 +23,11 @@ unfoldable pub xTarget : ℤ → ℤ
 xTarget x = third (pos 32768 *ℤ x)
 
 -- the place of entry k of the table, whose first is -55
-abbrev pub placeOf : ℕ → ℤ
-placeOf k = pos k -ℤ pos 55
+abbrev pub entryX : ℕ → ℤ
+entryX k = pos k -ℤ pos 55
 
 unfoldable pub xTargets : List ℤ
-xTargets = map (λ (k : ℕ). xTarget (placeOf k)) (numbers 0 3295)
+xTargets = map (λ (k : ℕ). xTarget (entryX k)) (numbers 0 3295)
 
 unfoldable pub yTarget : ℤ → ℤ
 yTarget h = pos 32768 *ℤ h

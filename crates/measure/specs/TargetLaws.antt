@@ -12,7 +12,7 @@ use lib.ListN.{getD}
 use Rattle.integers.specs.Parts.{integers, up, dn, sum-parts, dif-parts, scale-parts, neg-up, neg-dn, abs-parts, abs-le, parts-eq}
 use Rattle.integers.specs.Tables.{table-entry}
 use Rattle.measure.specs.Place.{lowEnd}
-use Rattle.measure.specs.Target.{third, xTarget, placeOf, xTargets, yTarget, Near}
+use Rattle.measure.specs.Target.{third, xTarget, entryX, xTargets, yTarget, Near}
 
 third-up : (n : ℤ) → up (third n) ≡ (up n + 1) / 3
 third-up (pos n) = refl
@@ -69,9 +69,9 @@ pub target-greatest : (x : ℤ) → x ≤ℤ pos 3239 → xTarget x ≤ℤ pos 3
 target-greatest x h = omega (integers, target-parts x)
 
 -- each entry of the table is the target of its place
-pub target-entry : (k : ℕ) → k < 3295 → getD xTargets k (pos 0) ≡ xTarget (placeOf k)
+pub target-entry : (k : ℕ) → k < 3295 → getD xTargets k (pos 0) ≡ xTarget (entryX k)
 unfolding xTargets
-target-entry k h = table-entry (λ (k : ℕ). xTarget (placeOf k)) (pos 0) 3295 k h
+target-entry k h = table-entry (λ (k : ℕ). xTarget (entryX k)) (pos 0) 3295 k h
 
 -- ---- moves
 

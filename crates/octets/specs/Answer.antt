@@ -2,7 +2,7 @@
 --     Outcome     accepted with a length, or refused with a number and a place
 --     Result      of an operation that fills a buffer: the bytes that it writes, or a refusal
 --     outcome     the outcome of a result
---     after       the lent buffer after a result
+--     bufferAfter       the lent buffer after a result
 --     ifRoom      a result for a buffer of so many bytes: room comes last
 --     Gives       what an operation that fills a buffer promises: outcome and buffer are its result's
 use Prim.Native.Nat.{ℕ}
@@ -52,8 +52,8 @@ noGalleyRoom = 12
 abbrev pub notStarted : ℕ
 notStarted = 13
 
-abbrev pub dviTooLong : ℕ
-dviTooLong = 20
+abbrev pub fileTooLong : ℕ
+fileTooLong = 20
 
 abbrev pub widthsNotWhole : ℕ
 widthsNotWhole = 31
@@ -176,9 +176,9 @@ outcome (refusal number place) = refused number place
 outcome (written bs) = accepted (length bs)
 
 -- the bytes, and beyond them the buffer unchanged; a refusal changes nothing
-abbrev pub after : List ℕ → Result → List ℕ
-after buffer (refusal number place) = buffer
-after buffer (written bs) = bs ++ drop (length bs) buffer
+abbrev pub bufferAfter : List ℕ → Result → List ℕ
+bufferAfter buffer (refusal number place) = buffer
+bufferAfter buffer (written bs) = bs ++ drop (length bs) buffer
 
 -- where the room is too little, this refusal, at the bytes needed
 unfoldable pub ifRoom : ℕ → ℕ → Result → Result
@@ -190,9 +190,9 @@ ifRoom number room (written bs) = cond (ltb room (length bs)) (refusal number (l
 -- the room is the length of the lent buffer; the outcome given, and the buffer after the call, are the result's
 pub record Gives (given : Outcome) (result : ℕ → Result) (buffer later : List ℕ) : Type 0 where
   pub outcome-is : given ≡ outcome (result (length buffer))
-  pub buffer-is : later ≡ after buffer (result (length buffer))
+  pub buffer-is : later ≡ bufferAfter buffer (result (length buffer))
 
 -- the same where number, place and length are given in an array
 pub record GivesNumbers (given : List ℕ) (result : ℕ → Result) (buffer later : List ℕ) : Type 0 where
   pub numbers-are : given ≡ numbersOf (outcome (result (length buffer)))
-  pub buffer-is : later ≡ after buffer (result (length buffer))
+  pub buffer-is : later ≡ bufferAfter buffer (result (length buffer))

@@ -1,7 +1,7 @@
 -- Fields (document 01, "Galley": "A field is one tag byte, a two-byte length, a body"). Galleys and sheets are made of them.
 use Prim.Native.Nat.{ℕ, _+_}
 use mathlib.Core.Bool.{Bool, _&&_}
-use mathlib.Core.List.{List, [], _∷_, _++_}
+use mathlib.Core.List.{List, _∷_, _++_}
 use lib.Dec.{leb, eqb}
 use lib.ListN.{length, getD}
 use Rattle.octets.specs.Octets.{bytes, natAt}

@@ -1,6 +1,7 @@
 -- Numbers in bytes, fields, sums in 32 bits, and what an operation answers.
 pub mod Octets
 pub mod OctetsLaws
+pub mod WordLaws
 pub mod Write
 pub mod PutIfRoom
 pub mod PutIfRoomLaws

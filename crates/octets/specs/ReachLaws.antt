@@ -2,12 +2,11 @@
 -- Assumes nothing.
 use mathlib.Core.Path.{_≡_, refl, sym, ap, _∙_}
 use mathlib.Core.Bool.{Bool, true, false}
-use Prim.Native.Nat.{ℕ}
-use native.Mathlib.Omega.{arith}
+use native.Mathlib.Nat.{suc-ne-zero}
 use lib.IntN.{ℤ, _+ℤ_, _-ℤ_}
 use mir.Syntax.{w32}
 use mir.Val.{SFits, toZ, ofZ}
-use Rattle.integers.specs.Parts.{plain}
+use Rattle.integers.specs.Bits.{plain}
 use Rattle.octets.specs.Octets.{fits32}
 use Rattle.octets.specs.Reach.{reachIf, reach}
 use Rattle.octets.specs.declared.reach.Reach.{Reach}
@@ -15,10 +14,10 @@ use Rattle.octets.specs.declared.reach.Reach.the-variants.{To, Off}
 
 to-is : (b : Bool) (z v : ℤ) → reachIf b z ≡ To v → (b ≡ true) × (v ≡ z)
 to-is true z v e = (refl, (cc))
-to-is false z v e = let d : _≡_ {A = ℕ} 0 1 = cc in absurd (omega arith)
+to-is false z v e = absurd (suc-ne-zero 0 cc)
 
 off-is : (b : Bool) (z : ℤ) → reachIf b z ≡ Off → b ≡ false
-off-is true z e = let d : _≡_ {A = ℕ} 0 1 = cc in absurd (omega arith)
+off-is true z e = absurd (suc-ne-zero 0 cc)
 off-is false z e = refl
 
 -- what is answered of the number z, which the code has as y

@@ -42,7 +42,7 @@ pub const NO_GALLEY_ROOM: u8 = 12;
 
 pub const NOT_STARTED: u8 = 13;
 
-pub const DVI_TOO_LONG: u8 = 20;
+pub const FILE_TOO_LONG: u8 = 20;
 
 pub const WIDTHS_NOT_WHOLE: u8 = 31;
 

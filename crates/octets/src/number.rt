@@ -35,6 +35,14 @@ fn to_bits(z: i32) -> u32
     }
 }
 
+// z, or -1 - z where z is negative.
+pub fn magnitude(z: i32) -> u32
+    ensures { λ r. ⌜ r ≡ mag z ⌝ }
+{
+    let bits = to_bits(z);
+    if z < 0 { 4_294_967_295 - bits } else { bits }
+}
+
 // The number in the two bytes from `at`.
 pub fn nat2_at(s: &[u8], at: usize) -> u32
     requires { ⌜ at + 2 ≤ length (now s) ⌝ }
@@ -56,7 +64,7 @@ pub fn nat4_at(s: &[u8], at: usize) -> u32
     requires { ⌜ at + 4 ≤ length (now s) ⌝ }
     ensures { λ r. ⌜ r ≡ natAt 4 at (now (s .entry)) ⌝ }
 {
-    (nat2_at(s, at) * 256 + wide(s[at + 2])) * 256 + wide(s[at + 3])
+    nat3_at(s, at) * 256 + wide(s[at + 3])
 }
 
 // The two's complement number in the byte at `at`.
@@ -144,10 +152,8 @@ pub fn put_signed3(out: &mut [u8], at: usize, z: i32) -> usize
     ensures { λ r. ⌜ Wrote (now (out .entry)) at (signedBytes 3 z) (now (out .exit)) r ⌝ }
 {
     let n = to_bits(z);
-    out[at] = (n / 65_536 % 256) as u8;
-    out[at + 1] = (n / 256 % 256) as u8;
-    out[at + 2] = (n % 256) as u8;
-    at + 3
+    let next = put_byte(out, at, (n / 65_536 % 256) as u8);
+    put_nat2(out, next, n)
 }
 
 // Writes z in two's complement, in four bytes.
@@ -156,13 +162,6 @@ pub fn put_signed4(out: &mut [u8], at: usize, z: i32) -> usize
     ensures { λ r. ⌜ Wrote (now (out .entry)) at (signedBytes 4 z) (now (out .exit)) r ⌝ }
 {
     put_nat4(out, at, to_bits(z))
-}
-
-// z, or -1 - z where z is negative.
-pub fn magnitude(z: i32) -> u32
-    ensures { λ r. ⌜ r ≡ mag z ⌝ }
-{
-    if z < 0 { (-1 - z) as u32 } else { z as u32 }
 }
 
 // The fewest of 2, 3 and 4 bytes that hold z in two's complement.

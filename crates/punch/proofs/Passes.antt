@@ -15,6 +15,7 @@ use Rattle.octets.specs.Transducer.{transduced}
 use Rattle.octets.specs.TransducerLaws.{transduced-append, transduced-more}
 use Rattle.galley_file.specs.declared.form.Form.the-variants.{New}
 use Rattle.galley_file.specs.declared.item.Item.{Item}
+use Rattle.galley_file.specs.Form.{maxGalley}
 use Rattle.galley_file.specs.Item.{validItem, itemSize, itemAt, WholeAt}
 use Rattle.galley_file.specs.ItemLaws.{size-least}
 use Rattle.galley_file.specs.Galley.{itemsOf}
@@ -33,7 +34,7 @@ use Rattle.octets.specs.Space.{Space}
 
 -- ---- the pass
 
-pub short-galley : (g : List ℕ) (count : ℕ) → accepted count ≡ checkOutcome New g → length g ≤ 11534343
+pub short-galley : (g : List ℕ) (count : ℕ) → accepted count ≡ checkOutcome New g → length g ≤ maxGalley New
 short-galley g count e = checked New g count e .fits
 
 module _ (w : Bool) (g : List ℕ) where
@@ -85,7 +86,7 @@ module _ (w : Bool) (g : List ℕ) where
       most : length (itemCodes s i) ≤ 1100000
       most = item-most s i (c .sound) punching-valid
 
-      pub punching-space : length g ≤ 11534343 → (w ≡ true → 2 + length (itemsCodes begun (itemsOf New g)) ≤ length first) → Space w out next (itemCodes s i)
+      pub punching-space : length g ≤ maxGalley New → (w ≡ true → 2 + length (itemsCodes begun (itemsOf New g)) ≤ length first) → Space w out next (itemCodes s i)
       punching-space short room =
           let d = c .done ++ (i ∷ []) in
           let r = onward .next .rest in
@@ -118,7 +119,7 @@ module _ (w : Bool) (g : List ℕ) where
           }
 
     -- at End
-    pub punching-end : length g ≤ at + 7 → length g ≤ 11534343 → (Put w first 2 (itemsCodes begun (itemsOf New g)) out next) × (next < 18446744073709551615)
+    pub punching-end : length g ≤ at + 7 → length g ≤ maxGalley New → (Put w first 2 (itemsCodes begun (itemsOf New g)) out next) × (next < 18446744073709551615)
     punching-end h short = (
       put-named (ap (itemsCodes begun) (sym (midway-end New g (itemsOf New g) (c .done) at (c .midway) h))) (c .put),
       omega (arith, c .small, punching-inside, short),

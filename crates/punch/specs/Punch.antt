@@ -3,13 +3,14 @@
 --     punched         the tape of a list of items
 --     punchResult     what punching a galley gives
 --     RoundTrip       reading the punched tape gives exactly the galley
+--     Punches         what punching promises, and PunchesNumbers where the numbers are given in an array
 use Prim.Native.Nat.{ℕ, _≤_}
 use mathlib.Core.Path.{_≡_}
 use mathlib.Core.Bool.{cond}
 use mathlib.Core.List.{List, [], _∷_, _++_, foldl}
 use lib.Dec.{ltb}
 use lib.ListN.{length, take}
-use Rattle.octets.specs.Answer.{Outcome, accepted, Result, refusal, written, ifRoom, punchedTooLong, noTapeRoom}
+use Rattle.octets.specs.Answer.{Outcome, accepted, numbersOf, Result, refusal, written, ifRoom, Gives, punchedTooLong, noTapeRoom}
 use Rattle.octets.specs.Transducer.{transduced}
 use Rattle.galley_file.specs.declared.form.Form.the-variants.{New}
 use Rattle.galley_file.specs.declared.item.Item.{Item}
@@ -45,3 +46,16 @@ punchResult g room = ifRoom noTapeRoom room (checkedResult New (λ is. ifShort (
 -- "reading the punched tape gives exactly the galley": where n bytes are accepted, those bytes of the buffer, read for the 8-font machine into a buffer with room for the galley
 abbrev pub RoundTrip : List ℕ → Outcome → List ℕ → Type 0
 RoundTrip g o later = (n room : ℕ) → o ≡ accepted n → length g ≤ room → tapeResult (take n later) 8 room ≡ written g
+
+-- ---- what punching promises
+
+-- outcome and buffer are the result's, and reading the tape gives the galley
+pub record Punches (given : Outcome) (g buffer later : List ℕ) : Type 0 where
+  pub gives-tape : Gives given (punchResult g) buffer later
+  pub reads-galley : RoundTrip g given later
+
+-- the same where the numbers of this outcome are given in an array
+pub record PunchesNumbers (numbers g buffer later : List ℕ) : Type 0 where
+  pub given : Outcome
+  pub numbers-are : numbers ≡ numbersOf given
+  pub punches : Punches given g buffer later

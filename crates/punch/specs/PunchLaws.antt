@@ -9,7 +9,7 @@ use mathlib.Core.Path.{_≡_, refl, sym, ap, subst, _∙_}
 use mathlib.Core.Bool.{Bool, true, false, cond}
 use mathlib.Core.List.{List, [], _∷_, _++_, append-nil}
 use Prim.Native.Nat.{ℕ, _≤_}
-use native.Mathlib.Omega.{arith}
+use native.Mathlib.Nat.{suc-ne-zero}
 use borrow.Author.Tests.{le-ltb, ltb-false}
 use lib.Dec.{ltb}
 use lib.IntN.{pos}
@@ -17,7 +17,7 @@ use lib.ListN.{length, drop, take}
 use lib.Seq.{take-at}
 use Rattle.integers.specs.Parts.{integers}
 use Rattle.octets.specs.Octets.{Bytes}
-use Rattle.octets.specs.Answer.{Outcome, Result, refusal, written, outcome, after, ifRoom, Gives, afterCut, noGalleyRoom, punchedTooLong, noTapeRoom}
+use Rattle.octets.specs.Answer.{Outcome, Result, refusal, written, outcome, bufferAfter, ifRoom, Gives, afterCut, noGalleyRoom, punchedTooLong, noTapeRoom}
 use Rattle.octets.specs.AnswerLaws.{room-enough, room-made}
 use Rattle.measure.specs.declared.Units.{Units}
 use Rattle.measure.specs.declared.Quanta.{Quanta}
@@ -36,7 +36,7 @@ use Rattle.typesetter.specs.declared.code.Instruction.the-variants.{Stop}
 use Rattle.typesetter.specs.declared.machine.Modes.{Modes}
 use Rattle.typesetter.specs.declared.machine.State.{State}
 use Rattle.typesetter.specs.Code.{codeOf}
-use Rattle.typesetter.specs.Machine.{start, withStop, escapeOf, instructionEffect, codeEffect, effectOf}
+use Rattle.typesetter.specs.Machine.{start, withStop, escapeOf, instructionEffect, codeEffect, byteEffect}
 use Rattle.typesetter.specs.StepLaws.{instruction-taken}
 use Rattle.tape.specs.Tape.{maxTape, Run, run, closing, readResult, tapeResult}
 use Rattle.punch_codes.specs.Codes.{startCodes, begun, setFor, stateAfter}
@@ -82,7 +82,7 @@ stop-reach s w =
     reach-moved (sym (instruction-taken s 0x49 code (w .initialized-is) (w .cut-is) (w .stopped-is)))
 
 start-reach : Reach (start Eight) startCodes [] begun
-unfolding codeOf escapeOf instructionEffect codeEffect effectOf
+unfolding codeOf escapeOf instructionEffect codeEffect byteEffect
 start-reach = reach-then (reach-moved {b = 0x40} refl) (reach-moved {b = 0xEF} refl)
 
 module _ (is : List Item) (v : AllValid heightEnd is) where
@@ -131,7 +131,7 @@ reads-back g tape room b e space enough =
   where
     go : (is : List Item) → AllValid heightEnd is → g ≡ galley New is → (t : Bool) → ltb maxTape (length (punched is)) ≡ t → cond t (refusal punchedTooLong 0) (written (punched is)) ≡ written tape
         → tapeResult tape 8 space ≡ written g
-    go is v q true l h = let z : _≡_ {A = ℕ} 0 1 = cc in absurd (omega arith)
+    go is v q true l h = absurd (suc-ne-zero 0 cc)
     go is v q false l h =
         let same : punched is ≡ tape = cc in
         ap (λ (k : List ℕ). tapeResult k 8 space) (sym same)
@@ -141,8 +141,8 @@ reads-back g tape room b e space enough =
 pub round-trip : {g : List ℕ} {o : Outcome} {buffer later : List ℕ} → Bytes g → Gives o (punchResult g) buffer later → RoundTrip g o later
 round-trip {g} {o} {buffer} {later} b p n room e enough = go (punchResult g (length buffer)) refl (p .outcome-is) (p .buffer-is)
   where
-    go : (r : Result) → punchResult g (length buffer) ≡ r → o ≡ outcome r → later ≡ after buffer r → tapeResult (take n later) 8 room ≡ written g
-    go (refusal k i) q s l = let z : _≡_ {A = ℕ} 0 1 = cc in absurd (omega arith)
+    go : (r : Result) → punchResult g (length buffer) ≡ r → o ≡ outcome r → later ≡ bufferAfter buffer r → tapeResult (take n later) 8 room ≡ written g
+    go (refusal k i) q s l = absurd (suc-ne-zero 0 cc)
     go (written bs) q s l =
         let size : length bs ≡ n = cc in
         ap (λ (k : List ℕ). tapeResult k 8 room) (ap (take n) l ∙ take-at bs (drop (length bs) buffer) n size)

@@ -16,7 +16,7 @@ ghost use Rattle.galley_file.specs.declared.form.Form.the-variants.{New};
 ghost use Rattle.galley_file.specs.Galley.{itemsOf};
 ghost use Rattle.galley_file.specs.Outcome.{checkOutcome};
 ghost use Rattle.punch_codes.specs.Codes.{begun};
-ghost use Rattle.punch.specs.Punch.{itemsCodes, punched, punchResult, RoundTrip};
+ghost use Rattle.punch.specs.Punch.{itemsCodes, punched, punchResult, Punches};
 
 const STOP: u8 = 0x49;
 
@@ -71,7 +71,7 @@ fn punch_checked(g: &[u8], count: usize, out: &mut [u8]) -> Answer
 
 // Punches the tape of a galley into the lent buffer. Reading that tape gives the galley.
 pub fn punch_tape(galley: &[u8], tape: &mut [u8]) -> Answer
-    ensures { λ r. ⌜ Gives (outcomeOf r) (punchResult (now (galley .entry))) (now (tape .entry)) (now (tape .exit)) × RoundTrip (now (galley .entry)) (outcomeOf r) (now (tape .exit)) ⌝ }
+    ensures { λ r. ⌜ Punches (outcomeOf r) (now (galley .entry)) (now (tape .entry)) (now (tape .exit)) ⌝ }
 {
     let checked = galley_check::check_galley(galley);
     match checked {

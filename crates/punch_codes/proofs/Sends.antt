@@ -8,7 +8,7 @@ use native.Mathlib.Nat.{div-eq-of-lt, mod-eq-of-lt}
 use native.Mathlib.Omega.{arith}
 use borrow.Author.Tests.{eq-eqb, ne-eqb}
 use lib.IntN.{ℤ, pos, negsuc, natAbs, _-ℤ_}
-use lib.ListN.{length, replicate, set, length-replicate, replicate-append-replicate}
+use lib.ListN.{replicate, set, length-replicate, replicate-append-replicate}
 use lib.Seq.{sets}
 use Rattle.integers.specs.Parts.{up, dn, dif-parts}
 use Rattle.octets.specs.Write.{sets-append}

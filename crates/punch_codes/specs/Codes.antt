@@ -23,7 +23,7 @@ use Rattle.galley_file.specs.Font.{fontOf, sizeIndex, isDouble}
 use Rattle.typesetter.specs.declared.code.Machine.the-variants.{Eight}
 use Rattle.typesetter.specs.declared.machine.Modes.{Modes}
 use Rattle.typesetter.specs.declared.machine.State.{State}
-use Rattle.typesetter.specs.Machine.{start, initializedOf, origin, withCarriage, withCut}
+use Rattle.typesetter.specs.Machine.{start, initializedOf, origin, offSwitchAt, withCut}
 use Rattle.punch_codes.specs.declared.put.Axis.{Axis}
 
 -- ---- "begin, and follow each cut, with initialize and an escape of 16"
@@ -32,7 +32,7 @@ abbrev pub startCodes : List ℕ
 startCodes = 0x40 ∷ 0xEF ∷ []
 
 abbrev pub begunFrom : State → State
-begunFrom s = withCarriage (initializedOf s) origin
+begunFrom s = offSwitchAt (initializedOf s) origin
 
 abbrev pub begun : State
 begun = begunFrom (start Eight)

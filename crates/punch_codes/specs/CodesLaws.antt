@@ -4,7 +4,7 @@
 --     character-reach       the codes of a character, and cut-reach those of a cut
 --     item-most             how many codes an item has at most
 -- Assumes nothing.
-use mathlib.Core.Path.{_≡_, refl, ap, sym, subst, _∙_}
+use mathlib.Core.Path.{_≡_, refl, sym, subst, _∙_}
 use mathlib.Core.Bool.{Bool, true, false, cond}
 use mathlib.Core.List.{[], _∷_, _++_}
 use Prim.Native.Nat.{ℕ, _+_, _-_, _/_, _%_, _≤_, _<_}
@@ -37,7 +37,7 @@ use Rattle.typesetter.specs.declared.machine.Modes.{Modes}
 use Rattle.typesetter.specs.declared.machine.State.{State}
 use Rattle.typesetter.specs.declared.machine.Effect.the-variants.{Flashed}
 use Rattle.typesetter.specs.Code.{codeOf}
-use Rattle.typesetter.specs.Machine.{fontAt, pastHalf, codeIn, withEscape, withHalf, withRail, withMag, withTilt, escapeOf, instructionEffect, codeEffect, effectOf}
+use Rattle.typesetter.specs.Machine.{fontAt, pastHalf, codeIn, withEscape, withHalf, withRail, withMag, withTilt, escapeOf, instructionEffect, codeEffect, byteEffect}
 use Rattle.typesetter.specs.Sound.{Sound}
 use Rattle.typesetter.specs.StepLaws.{flash-set, instruction-taken}
 use Rattle.tape.specs.RunLaws.{flashed, pageEnded}
@@ -143,7 +143,7 @@ module _ (m : Modes) (n : ℕ) (u : Units) (h : Quanta) (c : Character) (v : Val
       let m₅ = withEscape m₄ (t .modes .«escape_back») in
       reach-then (escapes-reach m₄ k (u .0) (carriageFor c) h i (carriage-range v)) (leads-reach m₅ k (t .carriage) (h .0) (c .height .0) j (height-in-range v))
 
-  flash-taken : effectOf t (flashFor (c .code)) ≡ Flashed c
+  flash-taken : byteEffect t (flashFor (c .code)) ≡ Flashed c
   unfolding setFor instructionEffect
   flash-taken =
       let k = flashFor (c .code) in
@@ -160,7 +160,7 @@ module _ (m : Modes) (n : ℕ) (u : Units) (h : Quanta) (c : Character) (v : Val
 
 -- a cut, and initialize and the escape of 16 after it
 pub cut-reach : (m : Modes) (n : ℕ) (u : Units) (h : Quanta) → Reach (ready m n u h) (itemCodes (ready m n u h) Cut) (Cut ∷ []) (stateAfter (ready m n u h) Cut)
-unfolding itemCodes stateAfter codeOf escapeOf instructionEffect codeEffect effectOf
+unfolding itemCodes stateAfter codeOf escapeOf instructionEffect codeEffect byteEffect
 cut-reach m n u h = reach-then (reach-set {b = 0x4B} refl pageEnded) (reach-then (reach-moved {b = 0x40} refl) (reach-moved {b = 0xEF} refl))
 
 -- ---- at most so many codes

@@ -1,4 +1,8 @@
 -- The machine at work, code by code: what each code that is punched does to it.
+--     code-flash                                           the code of a flash
+--     rail-reach, mag-reach, tilt-reach, half-reach        a switch, where it is to stand otherwise
+--     size-reach                                           a size, where it differs
+--     escapes-reach, leads-reach                           the escapes and the leads of a distance
 -- Assumes nothing.
 use mathlib.Core.Path.{_≡_, refl, sym, ap, subst, _∙_}
 use mathlib.Core.Bool.{Bool, true, false, cond}
@@ -14,7 +18,7 @@ use Rattle.measure.specs.declared.Units.{Units}
 use Rattle.measure.specs.declared.Quanta.{Quanta}
 use Rattle.measure.specs.declared.Carriage.the-variants as carriage
 use Rattle.measure.specs.declared.Height.the-variants as height
-use Rattle.measure.specs.Place.{carriageEnd, heightEnd, directedBy, placeAt, carriageAt, heightAt}
+use Rattle.measure.specs.Place.{carriageEnd, heightEnd, directedBy, carriageAt, heightAt}
 use Rattle.measure.specs.PlaceLaws.{InRange}
 use Rattle.typesetter.specs.declared.code.Machine.the-variants.{Eight}
 use Rattle.typesetter.specs.declared.code.Code.the-variants.{Illegal, Instructs}
@@ -23,7 +27,7 @@ use Rattle.typesetter.specs.declared.machine.Modes.{Modes}
 use Rattle.typesetter.specs.declared.machine.State.{State}
 use Rattle.typesetter.specs.declared.machine.Effect.the-variants.{Moved}
 use Rattle.typesetter.specs.Code.{codeOf}
-use Rattle.typesetter.specs.Machine.{withEscape, withLead, withHalf, withRail, withMag, withTilt, instructionEffect, codeEffect, effectOf}
+use Rattle.typesetter.specs.Machine.{withEscape, withLead, withHalf, withRail, withMag, withTilt, instructionEffect, codeEffect, byteEffect}
 use Rattle.typesetter.specs.StepLaws.{lead-to, escape-to, instruction-taken}
 use Rattle.punch_codes.specs.Codes.{wayTo, switchCodes, sizeCodes, distanceCodes, escapes, leads, motionCodes}
 use Rattle.punch_codes.specs.Reach.{Reach, reach-none, reach-moved, reach-then}
@@ -50,11 +54,11 @@ code-flash = agree (λ v. codeOf Eight (1 + v)) (λ v. Instructs (Flash (1 + v))
 -- ---- a place in range
 
 carriage-at : (n : ℕ) → n ≤ 3239 → carriageAt (pos n) ≡ carriage.At (record { 0 = pos n })
-unfolding carriageAt placeAt
+unfolding carriageAt
 carriage-at n h = rw (true-leZ (pos 0) (pos n) (omega arith), true-leZ (pos n) (pos 3239) (omega arith))
 
 height-at : (n : ℕ) → n ≤ 1000000 → heightAt (pos n) ≡ height.At (record { 0 = pos n })
-unfolding heightAt placeAt
+unfolding heightAt
 height-at n h = rw (true-leZ (pos 0) (pos n) (omega arith), true-leZ (pos n) (pos 1000000) (omega arith))
 
 forward : (p a : ℕ) → pos p +ℤ directedBy false a ≡ pos (p + a)
@@ -69,34 +73,34 @@ backward p a = omega (integers, sum-parts (pos (p + a)) (negℤ (pos a)), neg-up
 
 module _ (m : Modes) (n : ℕ) (c : Units) (h : Quanta) where
   pub rail-reach : (next : Bool) → Reach (ready m n c h) (switchCodes 0x41 0x42 (m .«upper_rail») next) [] (ready (withRail m next) n c h)
-  unfolding effectOf codeEffect codeOf instructionEffect
+  unfolding byteEffect codeEffect codeOf instructionEffect
   rail-reach next = switch-reach (λ b. ready (withRail m b) n c h) 0x41 0x42 (λ b. refl) (λ b. refl) (m .«upper_rail») next
 
   pub mag-reach : (next : Bool) → Reach (ready m n c h) (switchCodes 0x44 0x43 (m .«upper_mag») next) [] (ready (withMag m next) n c h)
-  unfolding effectOf codeEffect codeOf instructionEffect
+  unfolding byteEffect codeEffect codeOf instructionEffect
   mag-reach next = switch-reach (λ b. ready (withMag m b) n c h) 0x44 0x43 (λ b. refl) (λ b. refl) (m .«upper_mag») next
 
   pub tilt-reach : (next : Bool) → Reach (ready m n c h) (switchCodes 0x4E 0x4F (m .«tilt_down») next) [] (ready (withTilt m next) n c h)
-  unfolding effectOf codeEffect codeOf instructionEffect
+  unfolding byteEffect codeEffect codeOf instructionEffect
   tilt-reach next = switch-reach (λ b. ready (withTilt m b) n c h) 0x4E 0x4F (λ b. refl) (λ b. refl) (m .«tilt_down») next
 
   pub half-reach : (next : Bool) → Reach (ready m n c h) (switchCodes 0x45 0x46 (m .«upper_half») next) [] (ready (withHalf m next) n c h)
-  unfolding effectOf codeEffect codeOf instructionEffect
+  unfolding byteEffect codeEffect codeOf instructionEffect
   half-reach next = switch-reach (λ b. ready (withHalf m b) n c h) 0x45 0x46 (λ b. refl) (λ b. refl) (m .«upper_half») next
 
   escape-way-reach : (next : Bool) → Reach (ready m n c h) (switchCodes 0x47 0x48 (m .«escape_back») next) [] (ready (withEscape m next) n c h)
-  unfolding effectOf codeEffect codeOf instructionEffect
+  unfolding byteEffect codeEffect codeOf instructionEffect
   escape-way-reach next = switch-reach (λ b. ready (withEscape m b) n c h) 0x47 0x48 (λ b. refl) (λ b. refl) (m .«escape_back») next
 
   lead-way-reach : (next : Bool) → Reach (ready m n c h) (switchCodes 0x4A 0x4C (m .«lead_back») next) [] (ready (withLead m next) n c h)
-  unfolding effectOf codeEffect codeOf instructionEffect
+  unfolding byteEffect codeEffect codeOf instructionEffect
   lead-way-reach next = switch-reach (λ b. ready (withLead m b) n c h) 0x4A 0x4C (λ b. refl) (λ b. refl) (m .«lead_back») next
 
   pub size-reach : (next : ℕ) → next < 15 → Reach (ready m n c h) (sizeCodes n next) [] (ready m next c h)
   unfolding sizeCodes instructionEffect
   size-reach next l = go (eqb n next) refl
     where
-      taken : effectOf (ready m n c h) (0x50 + next) ≡ Moved (ready m next c h)
+      taken : byteEffect (ready m n c h) (0x50 + next) ≡ Moved (ready m next c h)
       taken = sym (instruction-taken (ready m n c h) (0x50 + next) (code-size next l) refl refl refl)
 
       go : (t : Bool) → eqb n next ≡ t → Reach (ready m n c h) (cond t [] ((0x50 + next) ∷ [])) [] (ready m next c h)
@@ -109,7 +113,7 @@ module _ (m : Modes) (n : ℕ) (h : Quanta) where
   abbrev across : Bool → ℕ → State
   across back p = ready (withEscape m back) n (record { 0 = pos p }) h
 
-  escaped : (back : Bool) (p q a : ℕ) → 1 ≤ a → a ≤ 127 → pos p +ℤ directedBy back a ≡ pos q → q ≤ 3239 → effectOf (across back p) (0x80 + (127 - a)) ≡ Moved (across back q)
+  escaped : (back : Bool) (p q a : ℕ) → 1 ≤ a → a ≤ 127 → pos p +ℤ directedBy back a ≡ pos q → q ≤ 3239 → byteEffect (across back p) (0x80 + (127 - a)) ≡ Moved (across back q)
   unfolding instructionEffect
   escaped back p q a low high to inside =
       let k : codeOf Eight (0x80 + (127 - a)) ≡ Instructs (Escape a) = code-escape (127 - a) (omega arith) ∙ ap (λ (x : ℕ). Instructs (Escape x)) (omega arith) in
@@ -124,7 +128,7 @@ module _ (m : Modes) (n : ℕ) (c : Units) where
   abbrev down : Bool → ℕ → State
   down back p = ready (withLead m back) n c (record { 0 = pos p })
 
-  led : (back : Bool) (p q a : ℕ) → a ≤ 31 → pos p +ℤ directedBy back a ≡ pos q → q ≤ 1000000 → effectOf (down back p) (0x60 + (31 - a)) ≡ Moved (down back q)
+  led : (back : Bool) (p q a : ℕ) → a ≤ 31 → pos p +ℤ directedBy back a ≡ pos q → q ≤ 1000000 → byteEffect (down back p) (0x60 + (31 - a)) ≡ Moved (down back q)
   unfolding instructionEffect
   led back p q a high to inside =
       let k : codeOf Eight (0x60 + (31 - a)) ≡ Instructs (Lead a) = code-lead (31 - a) (omega arith) ∙ ap (λ (x : ℕ). Instructs (Lead x)) (omega arith) in

@@ -20,7 +20,7 @@ use Rattle.typesetter.specs.declared.code.Machine.the-variants.{Eight}
 use Rattle.typesetter.specs.declared.machine.Modes.{Modes}
 use Rattle.typesetter.specs.declared.machine.State.{State}
 use Rattle.typesetter.specs.declared.machine.Effect.the-variants.{Moved}
-use Rattle.typesetter.specs.Machine.{effectOf}
+use Rattle.typesetter.specs.Machine.{byteEffect}
 use Rattle.punch_codes.specs.Codes.{wayTo, switchCodes, remainderCodes, distanceCodes}
 use Rattle.punch_codes.specs.Reach.{Reach, reach-none, reach-moved, reach-then}
 
@@ -30,7 +30,7 @@ ready m n c h = record { machine = Eight; initialized = true; parked = false; st
 
 -- ---- switches
 
-module _ (st : Bool → State) (off on : ℕ) (to-off : (b : Bool) → effectOf (st b) off ≡ Moved (st false)) (to-on : (b : Bool) → effectOf (st b) on ≡ Moved (st true)) where
+module _ (st : Bool → State) (off on : ℕ) (to-off : (b : Bool) → byteEffect (st b) off ≡ Moved (st false)) (to-on : (b : Bool) → byteEffect (st b) on ≡ Moved (st true)) where
   pub switch-reach : (now next : Bool) → Reach (st now) (switchCodes off on now next) [] (st next)
   unfolding switchCodes
   switch-reach false false = reach-none
@@ -49,8 +49,8 @@ apart p q = distance-is (pos q -ℤ pos p) p q (omega (arith, dif-parts (pos q) 
 
 -- what a code does to a machine whose direction and place are these
 module _ (longest code top : ℕ) (st : Bool → ℕ → State)
-    (ahead : (p a : ℕ) → 1 ≤ a → a ≤ longest → p + a ≤ top → effectOf (st false p) (code + (longest - a)) ≡ Moved (st false (p + a)))
-    (behind : (p a : ℕ) → 1 ≤ a → a ≤ longest → p + a ≤ top → effectOf (st true (p + a)) (code + (longest - a)) ≡ Moved (st true p))
+    (ahead : (p a : ℕ) → 1 ≤ a → a ≤ longest → p + a ≤ top → byteEffect (st false p) (code + (longest - a)) ≡ Moved (st false (p + a)))
+    (behind : (p a : ℕ) → 1 ≤ a → a ≤ longest → p + a ≤ top → byteEffect (st true (p + a)) (code + (longest - a)) ≡ Moved (st true p))
     (some-way : 1 ≤ longest) where
   full : code + (longest - longest) ≡ code
   full = omega arith
@@ -60,7 +60,7 @@ module _ (longest code top : ℕ) (st : Bool → ℕ → State)
   runs-ahead zero p h = subst (λ (n : ℕ). Reach (st false p) [] [] (st false n)) (omega arith) reach-none
   runs-ahead (suc k) p h =
       let e = suc-mul k longest in
-      let one = reach-moved (subst (λ (b : ℕ). effectOf (st false p) b ≡ Moved (st false (p + longest))) full (ahead p longest some-way (omega arith) (omega arith))) in
+      let one = reach-moved (subst (λ (b : ℕ). byteEffect (st false p) b ≡ Moved (st false (p + longest))) full (ahead p longest some-way (omega arith) (omega arith))) in
       let more = runs-ahead k (p + longest) (omega arith) in
       subst (λ (n : ℕ). Reach (st false p) (code ∷ replicate k code) [] (st false n)) (omega arith) (reach-then one more)
 
@@ -68,7 +68,7 @@ module _ (longest code top : ℕ) (st : Bool → ℕ → State)
   runs-behind zero p h = subst (λ (n : ℕ). Reach (st true n) [] [] (st true p)) (omega arith) reach-none
   runs-behind (suc k) p h =
       let e = suc-mul k longest in
-      let one = reach-moved (subst (λ (b : ℕ). effectOf (st true ((p + k * longest) + longest)) b ≡ Moved (st true (p + k * longest))) full (behind (p + k * longest) longest some-way (omega arith) (omega arith))) in
+      let one = reach-moved (subst (λ (b : ℕ). byteEffect (st true ((p + k * longest) + longest)) b ≡ Moved (st true (p + k * longest))) full (behind (p + k * longest) longest some-way (omega arith) (omega arith))) in
       let more = runs-behind k p (omega arith) in
       subst (λ (n : ℕ). Reach (st true n) (code ∷ replicate k code) [] (st true p)) (omega arith) (reach-then one more)
 

@@ -53,7 +53,7 @@ fn carriage_of(x: Units, double: bool) -> Units
     ensures { λ r. ⌜ r .0 ≡ carriageOf (x .0) double ⌝ }
 {
     if double {
-        Units(x.0 + measure::DOUBLE_SHIFT)
+        Units(x.0 + measure::DOUBLE_SHIFT.0)
     } else {
         x
     }

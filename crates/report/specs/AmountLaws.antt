@@ -33,7 +33,7 @@ use Rattle.typesetter.specs.declared.code.Machine.{Machine}
 use Rattle.typesetter.specs.declared.machine.State.{State}
 use Rattle.typesetter.specs.declared.machine.Effect.{Effect}
 use Rattle.typesetter.specs.declared.machine.Effect.the-variants.{Moved, Flashed, PageEnded, Refused}
-use Rattle.typesetter.specs.Machine.{start, effectOf}
+use Rattle.typesetter.specs.Machine.{start, byteEffect}
 use Rattle.typesetter.specs.EffectLaws.{IsFault}
 use Rattle.typesetter.specs.SoundLaws.{start-sound}
 use Rattle.tape.specs.declared.Ending.{Ending}
@@ -210,9 +210,9 @@ most = 31 * maxTape
 total-most : (f : Move → ℕ) → ((s : State) (b : ℕ) → f (taken s b) ≤ 31) → (s : State) (bs : List ℕ) → total f (moves s bs) ≤ 31 * length bs
 unfolding total moves
 total-most f m s [] = omega arith
-total-most f m s (b ∷ bs) = go (λ u. total-most f m u bs) (effectOf s b) refl
+total-most f m s (b ∷ bs) = go (λ u. total-most f m u bs) (byteEffect s b) refl
   where
-    go : ((u : State) → total f (moves u bs) ≤ 31 * length bs) → (x : Effect) → effectOf s b ≡ x → total f (moves s (b ∷ bs)) ≤ 31 * suc (length bs)
+    go : ((u : State) → total f (moves u bs) ≤ 31 * length bs) → (x : Effect) → byteEffect s b ≡ x → total f (moves s (b ∷ bs)) ≤ 31 * suc (length bs)
     go later (Moved u) q = rw (q, moves) (omega (arith, m s b, later u))
     go later (Flashed c) q = rw (q, moves) (omega (arith, later s))
     go later (PageEnded u) q = rw (q, moves) (omega (arith, later u))

@@ -1,5 +1,7 @@
 -- Along an accepted tape forward less backward lead is the sum of the heights at which its pages end.
 -- The height of the page that is open stands for what is still to end: `level`, 0 after stop.
+--     level         the height still to end in a state
+--     run-levels    over any run: lead, heights ended, and the levels before and after
 -- Assumes nothing.
 use mathlib.Core.Path.{_≡_, refl, sym, ap, _∙_}
 use mathlib.Core.Bool.{Bool, true, false, cond}
@@ -20,7 +22,7 @@ use Rattle.typesetter.specs.declared.machine.State.{State}
 use Rattle.typesetter.specs.declared.machine.Effect.{Effect}
 use Rattle.typesetter.specs.declared.machine.Effect.the-variants.{Moved, Flashed, PageEnded, Refused}
 use Rattle.typesetter.specs.Code.{codeOf}
-use Rattle.typesetter.specs.Machine.{withModes, withHeight, effectOf}
+use Rattle.typesetter.specs.Machine.{withModes, withHeight, byteEffect}
 use Rattle.typesetter.specs.EffectLaws.{Turning, rails, mags, halves, escapeWays, leadWays, tilts, Causes, refuses, ignores, initializes, flashes, turns, sizes, stops, cuts, leads, escapes, causes}
 use Rattle.tape.specs.declared.Ending.the-variants.{Reached, Fault}
 use Rattle.tape.specs.Tape.{run}
@@ -109,7 +111,7 @@ module _ (s : State) where
   levels-by (leads {n} {h} f e) = lead-level n h f e
   levels-by (escapes r) = nothing (level s) (s .modes .«lead_back»)
 
-  levels : (b : ℕ) {x : Effect} → effectOf s b ≡ x → Levels (codeOf (s .machine) b) x
+  levels : (b : ℕ) {x : Effect} → byteEffect s b ≡ x → Levels (codeOf (s .machine) b) x
   levels b e = levels-by (causes s b e)
 
 -- ---- a run
@@ -125,10 +127,10 @@ unfolding run moves total pageEnds sumHeights
 run-levels s at [] {t} e =
     let same : s ≡ t = cc in
     nothing (level s) true ∙ ap (λ (u : State). (level u +ℤ pos 0) +ℤ pos 0) same
-run-levels s at (b ∷ bs) {t} e = go (λ u. run-levels u (suc at) bs) (effectOf s b) refl
+run-levels s at (b ∷ bs) {t} e = go (λ u. run-levels u (suc at) bs) (byteEffect s b) refl
   where
     go : ((u : State) → run u (suc at) bs .ending ≡ Reached t → level u +ℤ pos (total forwardOf (moves u bs)) ≡ (level t +ℤ sumHeights (pageEnds u bs)) +ℤ pos (total backwardOf (moves u bs)))
-        → (x : Effect) → effectOf s b ≡ x → level s +ℤ pos (total forwardOf (moves s (b ∷ bs))) ≡ (level t +ℤ sumHeights (pageEnds s (b ∷ bs))) +ℤ pos (total backwardOf (moves s (b ∷ bs)))
+        → (x : Effect) → byteEffect s b ≡ x → level s +ℤ pos (total forwardOf (moves s (b ∷ bs))) ≡ (level t +ℤ sumHeights (pageEnds s (b ∷ bs))) +ℤ pos (total backwardOf (moves s (b ∷ bs)))
     go later (Moved u) q =
         let k = codeOf (s .machine) b in
         rw (q, moves, pageEnds)

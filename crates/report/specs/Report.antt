@@ -2,7 +2,7 @@
 --     numberEntry     the entry of the tapes with a number
 --     amount          what a tape's figures add to each entry of the report
 --     added           so much added to each entry
---     countOutcome    what a call answers
+--     reportOutcome    what a call answers
 --     countedIn       the report after it
 use Prim.Native.Nat.{ℕ, zero, suc, _+_, _-_}
 use mathlib.Core.Bool.{cond}
@@ -46,8 +46,8 @@ abbrev pub maxTapes : ℕ
 maxTapes = 65536
 
 -- whatever the tape's answer, it is counted and the call returns 0; 47 at place 0, before all others, for one tape more
-unfoldable pub countOutcome : List ℕ → Outcome
-countOutcome report = cond (ltb (getD report 0 0) maxTapes) (accepted 0) (refused reportFull 0)
+unfoldable pub reportOutcome : List ℕ → Outcome
+reportOutcome report = cond (ltb (getD report 0 0) maxTapes) (accepted 0) (refused reportFull 0)
 
 unfoldable pub countedIn : List ℕ → List ℕ → ℕ → List ℕ
 countedIn report tape machine = cond (ltb (getD report 0 0) maxTapes) (added (amount (figuresOf tape machine)) 0 entries report) report

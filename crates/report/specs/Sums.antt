@@ -31,7 +31,7 @@ use Rattle.typesetter.specs.declared.code.Code.the-variants.{Ignored, Illegal, 
 use Rattle.typesetter.specs.declared.machine.State.{State}
 use Rattle.typesetter.specs.declared.machine.Effect.the-variants.{Moved, Flashed, PageEnded, Refused}
 use Rattle.typesetter.specs.Code.{codeOf}
-use Rattle.typesetter.specs.Machine.{start, effectOf}
+use Rattle.typesetter.specs.Machine.{start, byteEffect}
 use Rattle.tape.specs.Tape.{machineOf, tapeResult}
 use Rattle.figures.specs.Figures.{figuresOf}
 use Rattle.report.specs.Report.{amount, entries, countedIn}
@@ -101,7 +101,7 @@ isStop (Instructs o) = instructionStops o
 unfoldable pub pageEnds : State → List ℕ → List Quanta
 pageEnds s [] = []
 pageEnds s (b ∷ bs) =
-    elim (effectOf s b) [
+    elim (byteEffect s b) [
       | Moved t ↦ cond (isStop (codeOf (s .machine) b)) (s .height ∷ pageEnds t bs) (pageEnds t bs)
       | Flashed c ↦ pageEnds s bs
       | PageEnded t ↦ s .height ∷ pageEnds t bs

@@ -23,7 +23,7 @@ use Rattle.integers.specs.Parts.{integers, sum-parts, dif-parts}
 use Rattle.integers.specs.Tables.{numbers}
 use Rattle.octets.specs.Answer.{accepted, refused, reportFull}
 use Rattle.figures.specs.Figures.{figuresOf, sum64}
-use Rattle.report.specs.Report.{amount, entries, added, maxTapes, countOutcome, countedIn}
+use Rattle.report.specs.Report.{amount, entries, added, maxTapes, reportOutcome, countedIn}
 use Rattle.report.specs.Sums.{Tape, kept, empty, entry, reportOf, sumOf, resultOf, charactersIn, endsBy, sumHeights, heightsIn, at, Sums}
 use Rattle.report.specs.AmountLaws.{one-number, all-fonts, sum-add, figures-level, few}
 
@@ -143,15 +143,15 @@ pub kept-is : (ts : List Tape) → length ts ≤ maxTapes → kept empty ts ≡ 
 kept-is ts h = ap (λ (r : List ℕ). kept r ts) no-tapes ∙ kept-from [] ts (omega arith)
 
 -- "it is counted and the call returns 0"
-pub one-counted : (ts : List Tape) → length ts < maxTapes → countOutcome (kept empty ts) ≡ accepted 0
-unfolding countOutcome
+pub one-counted : (ts : List Tape) → length ts < maxTapes → reportOutcome (kept empty ts) ≡ accepted 0
+unfolding reportOutcome
 one-counted ts h =
     let room : ltb (getD (kept empty ts) 0 0) maxTapes ≡ true = ap (λ (l : List ℕ). ltb (getD l 0 0) maxTapes) (kept-is ts (omega arith)) ∙ lt-ltb (getD (reportOf ts) 0 0) maxTapes (omega (arith, first-entry ts)) in
     ap (λ (u : Bool). cond u (accepted 0) (refused reportFull 0)) room
 
 -- the report is full with 65,536 tapes, and stays as it is
-pub one-more : (ts : List Tape) → length ts ≡ maxTapes → (t : Tape) → (countOutcome (kept empty ts) ≡ refused reportFull 0) × (countedIn (kept empty ts) (t .bytes) (t .machine) ≡ kept empty ts)
-unfolding countOutcome countedIn
+pub one-more : (ts : List Tape) → length ts ≡ maxTapes → (t : Tape) → (reportOutcome (kept empty ts) ≡ refused reportFull 0) × (countedIn (kept empty ts) (t .bytes) (t .machine) ≡ kept empty ts)
+unfolding reportOutcome countedIn
 one-more ts h t =
     let r = kept empty ts in
     let full : ltb (getD r 0 0) maxTapes ≡ false = ap (λ (l : List ℕ). ltb (getD l 0 0) maxTapes) (kept-is ts (omega arith)) ∙ le-ltb (getD (reportOf ts) 0 0) maxTapes (omega (arith, first-entry ts)) in (

@@ -7,7 +7,7 @@ ghost use lib.ListN.{length};
 ghost use Rattle.octets.specs.Answer.{outcomeOf};
 ghost use Rattle.figures.specs.Figures.{Figures};
 ghost use Rattle.figures.specs.Counting.{Tallied};
-ghost use Rattle.report.specs.Report.{numberEntry, amount, added, countOutcome, countedIn};
+ghost use Rattle.report.specs.Report.{numberEntry, amount, added, reportOutcome, countedIn};
 
 // The numbers of a report: tapes counted, accepted, refused under 1 to 10 and under 50, characters of each font number, forward and backward lead.
 pub const ENTRIES: usize = 135;
@@ -72,7 +72,7 @@ fn add(report: &mut [u64; 135], t: Tally, fonts: &[u64])
 
 // Counts a tape of the machine with so many fonts, 4 or 8, in the lent report, which starts as 135 zeros.
 pub fn count_tape(tape: &[u8], machine: u32, report: &mut [u64; 135]) -> Answer
-    ensures { λ r. ⌜ (outcomeOf r ≡ countOutcome (now (report .entry))) × (now (report .exit) ≡ countedIn (now (report .entry)) (now (tape .entry)) machine) ⌝ }
+    ensures { λ r. ⌜ (outcomeOf r ≡ reportOutcome (now (report .entry))) × (now (report .exit) ≡ countedIn (now (report .entry)) (now (tape .entry)) machine) ⌝ }
 {
     if MAX_TAPES <= report[0] {
         return Answer::Refused(answer::REPORT_FULL, 0);

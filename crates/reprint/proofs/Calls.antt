@@ -8,13 +8,14 @@ use lib.IntN.{ℤ}
 use lib.ListN.{length, take, drop}
 use lib.Seq.{take-at}
 use Rattle.octets.specs.Octets.{Bytes}
-use Rattle.octets.specs.Answer.{Outcome, accepted, refused, written, outcome, after, noDviRoom, noSheetRoom}
+use Rattle.octets.specs.Answer.{Outcome, accepted, refused, written, outcome, bufferAfter, noDviRoom, noSheetRoom}
 use Rattle.octets.specs.AnswerLaws.{room-short, room-enough, accepted-length, refused-length, accepted-room, gives}
 use Rattle.galley_file.specs.declared.form.Form.the-variants.{New}
 use Rattle.galley_file.specs.Form.{maxGalley}
 use Rattle.galley_file.specs.Item.{charactersOf, cutsOf}
 use Rattle.galley_file.specs.Galley.{maxItems, Reading, readGalley, itemsIn, itemsOf}
-use Rattle.galley_file.specs.GalleyLaws.{checked, reading-length, length-fields}
+use Rattle.galley_file.specs.GalleyLaws.{checked, length-fields}
+use Rattle.galley_file.specs.ReadingLaws.{reading-length}
 use Rattle.galley_check.specs.Low.{lowOutcome}
 use Rattle.galley_check.specs.LowLaws.{low-checked}
 use Rattle.sheet.specs.Readable.{fontChars}
@@ -66,11 +67,11 @@ module _ (g : List ℕ) (count : ℕ) (b : Bytes g) (e : lowOutcome g ≡ accept
   refused-file room number place q = refused-length noDviRoom room number place (file g count b e) (q ∙ ap outcome (file-written g count b e room))
 
   -- a buffer that is too short for the file
-  pub refused-writing : (widths : List ℤ) (dvi out : List ℕ) (number place : ℕ) {dvi′ : List ℕ} → refused number place ≡ outcome (dviResult g (length dvi)) → dvi′ ≡ after dvi (dviResult g (length dvi))
+  pub refused-writing : (widths : List ℤ) (dvi out : List ℕ) (number place : ℕ) {dvi′ : List ℕ} → refused number place ≡ outcome (dviResult g (length dvi)) → dvi′ ≡ bufferAfter dvi (dviResult g (length dvi))
       → reprintResult g widths (length dvi) (length out) ≡ stopped noDviRoom (length (file g count b e)) → GivesBoth (refused number place) (refused number place) (reprintResult g widths) dvi dvi′ out out
   refused-writing widths dvi out number place q d k =
       let f = refused-file (length dvi) number place q in
-      let kept = d ∙ ap (after dvi) (file-written g count b e (length dvi) ∙ room-short noDviRoom (length dvi) (file g count b e) (f .1 .1)) in
+      let kept = d ∙ ap (bufferAfter dvi) (file-written g count b e (length dvi) ∙ room-short noDviRoom (length dvi) (file g count b e) (f .1 .1)) in
       let named : refused number place ≡ refused noDviRoom (length (file g count b e)) = λ i. refused (f .0 i) (f .1 .0 i) in
       record { file-given = gives (ap ofFile k) named kept; sheet-given = gives (ap ofSheet k) named refl }
 
@@ -82,10 +83,10 @@ module _ (g : List ℕ) (count : ℕ) (b : Bytes g) (e : lowOutcome g ≡ accept
         let h = accepted-room noDviRoom (length dvi) n (written (file g count b e)) (q ∙ ap outcome (file-written g count b e (length dvi))) in
         omega arith
 
-    pub after-writing : after dvi (dviResult g (length dvi)) ≡ file g count b e ++ drop (length (file g count b e)) dvi
-    after-writing = ap (after dvi) (file-written g count b e (length dvi) ∙ room-enough noDviRoom (length dvi) (file g count b e) file-fits)
+    pub after-writing : bufferAfter dvi (dviResult g (length dvi)) ≡ file g count b e ++ drop (length (file g count b e)) dvi
+    after-writing = ap (bufferAfter dvi) (file-written g count b e (length dvi) ∙ room-enough noDviRoom (length dvi) (file g count b e) file-fits)
 
-    pub written-part : (later : List ℕ) → later ≡ after dvi (dviResult g (length dvi)) → take n later ≡ file g count b e
+    pub written-part : (later : List ℕ) → later ≡ bufferAfter dvi (dviResult g (length dvi)) → take n later ≡ file g count b e
     written-part later k =
         ap (take n) (k ∙ after-writing)
         ∙ take-at (file g count b e) (drop (length (file g count b e)) dvi) n (sym (accepted-file (length dvi) n q))
@@ -101,11 +102,11 @@ module _ (g : List ℕ) (count : ℕ) (b : Bytes g) (e : lowOutcome g ≡ accept
           ∙ sheet-written g count b e widths w (length out)
           ∙ room-enough noSheetRoom (length out) (shownSheet g count b e widths w) (omega (arith, sheet-size g count b e widths w))
 
-      pub completes : (needed : ℕ) (dvi′ out′ part : List ℕ) → needed ≡ sheetSize (found g count b e .items) → part ≡ file g count b e → dvi′ ≡ after dvi (dviResult g (length dvi))
-          → out′ ≡ after out (sheetResult part widths (length out)) → GivesBoth (accepted n) (accepted needed) (reprintResult g widths) dvi dvi′ out out′
+      pub completes : (needed : ℕ) (dvi′ out′ part : List ℕ) → needed ≡ sheetSize (found g count b e .items) → part ≡ file g count b e → dvi′ ≡ bufferAfter dvi (dviResult g (length dvi))
+          → out′ ≡ bufferAfter out (sheetResult part widths (length out)) → GivesBoth (accepted n) (accepted needed) (reprintResult g widths) dvi dvi′ out out′
       completes needed dvi′ out′ part z k d y = record {
         file-given = gives (ap ofFile whole-reprint) (ap accepted (accepted-file (length dvi) n q)) (d ∙ after-writing);
-        sheet-given = gives (ap ofSheet whole-reprint) (ap accepted (z ∙ sym (sheet-size g count b e widths w))) (y ∙ ap (after out) (reads part k));
+        sheet-given = gives (ap ofSheet whole-reprint) (ap accepted (z ∙ sym (sheet-size g count b e widths w))) (y ∙ ap (bufferAfter out) (reads part k));
       }
 
 -- what a call gives is the reprint, and so demand 3 holds of it

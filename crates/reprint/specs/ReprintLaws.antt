@@ -8,7 +8,7 @@ use borrow.Author.Tests.{eq-eqb, ne-eqb}
 use lib.IntN.{ℤ, pos}
 use lib.ListN.{length}
 use Rattle.octets.specs.Octets.{Bytes}
-use Rattle.octets.specs.Answer.{Outcome, accepted, refused, written, outcome, after, ifRoom, widthsNotWhole, noDviRoom, noSheetRoom}
+use Rattle.octets.specs.Answer.{Outcome, accepted, refused, written, outcome, bufferAfter, ifRoom, widthsNotWhole, noDviRoom, noSheetRoom}
 use Rattle.octets.specs.AnswerLaws.{room-refused, room-short, room-enough}
 use Rattle.measure.specs.Place.{lowEnd}
 use Rattle.galley_file.specs.declared.form.Form.the-variants.{New}
@@ -129,12 +129,12 @@ reprints g widths dvi out b o count is c readAs v w f s =
       galley-is = a .bytes;
       valid = low g count b e;
       writer-accepts = file-written g count b e (length dvi) ∙ room-enough noDviRoom (length dvi) (dviFile (a .items)) room;
-      file-is = o .file-given .buffer-is ∙ ap (λ (r : Reprint). after dvi (ofFile r)) done;
+      file-is = o .file-given .buffer-is ∙ ap (λ (r : Reprint). bufferAfter dvi (ofFile r)) done;
       faithful = t;
       marks = marksOf 1 (a .items);
       shown = file-shows widths (low g count b e) (few g count b e);
       reader-accepts = t .read-back (length out) ∙ room-enough noSheetRoom (length out) (sheet (pageMark (pos 1) ∷ marksOf 1 (a .items))) (omega (arith, fits, size-of (a .items)));
-      sheet-is = o .sheet-given .buffer-is ∙ ap (λ (r : Reprint). after out (ofSheet r)) done;
+      sheet-is = o .sheet-given .buffer-is ∙ ap (λ (r : Reprint). bufferAfter out (ofSheet r)) done;
       file-length = o .file-given .outcome-is ∙ ap (λ (r : Reprint). outcome (ofFile r)) done;
       sheet-length = o .sheet-given .outcome-is ∙ ap (λ (r : Reprint). outcome (ofSheet r)) done ∙ ap accepted (size-of (a .items));
     }

@@ -13,7 +13,7 @@ use native.Mathlib.Omega.{arith}
 use borrow.Author.Tests.{lt-ltb, le-ltb, le-leb, leb-true}
 use lib.Dec.{leb}
 use lib.ListN.{length}
-use Rattle.octets.specs.Answer.{Outcome, written, outcome, after, tapeTooLong, afterCut, noStop, noGalleyRoom, notStarted}
+use Rattle.octets.specs.Answer.{Outcome, written, outcome, bufferAfter, tapeTooLong, afterCut, noStop, noGalleyRoom, notStarted}
 use Rattle.octets.specs.AnswerLaws.{gives}
 use Rattle.octets.specs.Field.{endField}
 use Rattle.octets.specs.FieldLaws.{both, length-end}
@@ -129,7 +129,7 @@ module _ (r : Running) (room : ℕ) where
 -- ---- what a call promises, once its reply is known
 
 pub leaves : {given : Outcome} {left : Running} {reply : ℕ → Replied} {buffer later : List ℕ} (x : Replied) → reply (length buffer) ≡ x
-    → given ≡ outcome (x .result) → left ≡ x .tape → later ≡ after buffer (x .result) → Leaves given left reply buffer later
+    → given ≡ outcome (x .result) → left ≡ x .tape → later ≡ bufferAfter buffer (x .result) → Leaves given left reply buffer later
 leaves x q o t b = record { gives = gives (ap (λ (y : Replied). y .result) q) o b; leaves = t ∙ sym (ap (λ (y : Replied). y .tape) q) }
 
 -- what is left for one reply is left for an equal one

@@ -7,10 +7,11 @@
 use mathlib.Core.Path.{_≡_, refl, sym, ap, subst, _∙_}
 use mathlib.Core.List.{List, [], _∷_, _++_, append-assoc, append-nil}
 use mathlib.Core.Logic.{_⊎_, inl, inr}
-use mathlib.Core.Option.{Option, none, some}
+use mathlib.Core.Option.{none, some}
 use Prim.Native.Nat.{ℕ}
 use Rattle.octets.specs.Field.{endField}
 use Rattle.measure.specs.Place.{heightEnd}
+use Rattle.octets.specs.Pass.{bytesOf}
 use Rattle.octets.specs.Transducer.{transduced}
 use Rattle.galley_file.specs.declared.form.Form.the-variants.{New}
 use Rattle.galley_file.specs.declared.item.Item.{Item}
@@ -26,14 +27,15 @@ use Rattle.tape.specs.Tape.{machineOf}
 use Rattle.running.specs.declared.Phase.the-variants.{AtRest}
 use Rattle.running.specs.declared.Running.{Running}
 use Rattle.running.specs.Running.{Replied, fresh, startOn, startOf, grown}
-use Rattle.session_laws.specs.Session.{Call, starting, piece, closing, given, tapeAfter, bytesOf, output}
+use Rattle.session_laws.specs.Session.{Call, starting, given, tapeAfter, output}
 use Rattle.session_laws.specs.SessionLaws.{Later, resting, Kind, roomless, still, keeps, adds, finishes, kind-of, stuck-gives}
 
 -- ---- what has gone out since the start
 
 data Sent : Running → List ℕ → Type 0 where
   sent : {r : Running} (is : List Item) → AllValid heightEnd is → r .extents ≡ extentsOf (charactersOf is) → Sent r (fields New is)
-  closed-with : {r : Running} (is : List Item) (n : ℕ) → AllValid heightEnd is → r .extents ≡ extentsOf (charactersOf is) → r .phase ≡ AtRest → Sent r (fields New is ++ endField n)
+  closed-with : {r : Running} (is : List Item) (n : ℕ) → AllValid heightEnd is → r .extents ≡ extentsOf (charactersOf is) → r .phase ≡ AtRest
+      → Sent r (fields New is ++ endField n)
 
 all-more : {is js : List Item} → AllValid heightEnd is → AllValid heightEnd js → AllValid heightEnd (is ++ js)
 all-more nil w = w
@@ -43,7 +45,8 @@ all-more (more v vs) w = more v (all-more vs w)
 same-out : {r : Running} {bs : List ℕ} → Sent r bs → Sent r (bs ++ [])
 same-out {r} {bs} s = subst (Sent r) (sym (append-nil bs)) s
 
-sent-kind : {r : Running} (is : List Item) → AllValid heightEnd is → r .extents ≡ extentsOf (charactersOf is) → {x : Replied} → Kind r x → Sent (x .tape) (fields New is ++ bytesOf (x .result))
+sent-kind : {r : Running} (is : List Item) → AllValid heightEnd is → r .extents ≡ extentsOf (charactersOf is) → {x : Replied} → Kind r x
+    → Sent (x .tape) (fields New is ++ bytesOf (x .result))
 sent-kind is v e roomless = same-out (sent is v e)
 sent-kind is v e (still s) = same-out (sent is v e)
 sent-kind is v e (keeps h) = same-out (sent is v e)

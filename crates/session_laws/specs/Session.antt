@@ -1,13 +1,13 @@
 -- Sessions: calls on a running tape, one after another (document 02, "From the tape drive").
---     Call          a start, a piece or the close, and given what it gives
---     tapeAfter     the running tape after some calls, and tapeGiven after one
---     results       what they give, one after another
---     output        the bytes that they write, joined, and bytesGiven those of one
---     Made          a running tape that these calls alone have made
---     withoutRoom   the calls of a session that were not refused for room
---     Piece         some bytes of a tape and the room lent with them; joined, the tape that pieces are cut from
---     RoomFor       there is room for a piece, and Roomy for each of some
---     session       a start, the pieces and the close
+--     Call            a start, a piece or the close, and given what it gives
+--     tapeAfter       the running tape after some calls, and tapeGiven after one
+--     results         what they give, one after another
+--     output          the bytes that they write, joined, and bytesGiven those of one
+--     MadeByCalls     a running tape that these calls alone have made
+--     withoutRoom     the calls of a session that were not refused for room
+--     Piece           some bytes of a tape and the room lent with them; wholeTape the tape that pieces are cut from
+--     RoomFor         there is room for a piece, and RoomForEach for each of some
+--     session         a start, the pieces and the close
 use Prim.Native.Nat.{ℕ, _+_, _≤_}
 use mathlib.Core.Path.{_≡_}
 use mathlib.Core.Bool.{Bool, false, cond}
@@ -15,6 +15,7 @@ use mathlib.Core.List.{List, [], _∷_, _++_, foldl}
 use lib.Dec.{eqb}
 use lib.ListN.{length}
 use Rattle.octets.specs.Answer.{Result, refusal, written, noGalleyRoom}
+use Rattle.octets.specs.Pass.{bytesOf}
 use Rattle.octets.specs.Transducer.{transduced}
 use Rattle.galley_file.specs.declared.form.Form.the-variants.{New}
 use Rattle.galley_file.specs.Galley.{fields}
@@ -47,10 +48,6 @@ unfoldable pub results : Running → List Call → List Result
 results r [] = []
 results r (c ∷ cs) = given r c .result ∷ results (given r c .tape) cs
 
-abbrev pub bytesOf : Result → List ℕ
-bytesOf (refusal n place) = []
-bytesOf (written bs) = bs
-
 abbrev pub bytesGiven : Running → Call → List ℕ
 bytesGiven r c = bytesOf (given r c .result)
 
@@ -58,9 +55,9 @@ abbrev pub output : Running → List Call → List ℕ
 output r cs = transduced bytesGiven tapeGiven r cs
 
 -- "one that these calls alone have made"
-pub data Made : Running → Type 0 where
-  new : Made newTape
-  by-call : {r : Running} → Made r → (c : Call) → Made (given r c .tape)
+pub data MadeByCalls : Running → Type 0 where
+  new : MadeByCalls newTape
+  by-call : {r : Running} → MadeByCalls r → (c : Call) → MadeByCalls (given r c .tape)
 
 -- ---- refusals for room
 
@@ -82,9 +79,9 @@ pub record Piece : Type 0 where
   pub codes : List ℕ
   pub room : ℕ
 
-unfoldable pub joined : List Piece → List ℕ
-joined [] = []
-joined (p ∷ ps) = p .codes ++ joined ps
+unfoldable pub wholeTape : List Piece → List ℕ
+wholeTape [] = []
+wholeTape (p ∷ ps) = p .codes ++ wholeTape ps
 
 unfoldable pub pieces : List Piece → List Call
 pieces [] = []
@@ -98,6 +95,6 @@ abbrev pub RoomFor : Machine → List ℕ → List ℕ → ℕ → Type 0
 RoomFor kind xs p room =
     (t : State) → run (start kind) 0 (xs ++ p) .ending ≡ Reached t → length (fields New (itemsOn kind (xs ++ p))) ≤ length (fields New (itemsOn kind xs)) + room
 
-pub data Roomy (kind : Machine) : List ℕ → List Piece → Type 0 where
-  none : {xs : List ℕ} → Roomy kind xs []
-  more : {xs : List ℕ} {p : Piece} {ps : List Piece} → RoomFor kind xs (p .codes) (p .room) → Roomy kind (xs ++ p .codes) ps → Roomy kind xs (p ∷ ps)
+pub data RoomForEach (kind : Machine) : List ℕ → List Piece → Type 0 where
+  none : {xs : List ℕ} → RoomForEach kind xs []
+  more : {xs : List ℕ} {p : Piece} {ps : List Piece} → RoomFor kind xs (p .codes) (p .room) → RoomForEach kind (xs ++ p .codes) ps → RoomForEach kind xs (p ∷ ps)

@@ -7,16 +7,18 @@
 -- Assumes nothing.
 use mathlib.Core.Path.{_≡_, refl, sym, ap, subst, _∙_}
 use mathlib.Core.Bool.{Bool, true, false, cond}
-use mathlib.Core.List.{List, [], _∷_, _++_, append-assoc}
+use mathlib.Core.List.{List, [], _∷_, _++_}
 use mathlib.Core.Option.{Option, none, some}
 use Prim.Native.Nat.{ℕ, _+_, _≤_}
+use native.Mathlib.Nat.{suc-ne-zero}
 use native.Mathlib.Omega.{arith}
-use borrow.Author.Tests.{eqb-true, eq-eqb}
-use lib.Dec.{eqb, ltb}
+use borrow.Author.Tests.{eqb-true}
+use lib.Dec.{ltb}
 use lib.ListN.{length}
-use Rattle.octets.specs.Answer.{Result, refusal, written, after, noGalleyRoom, notStarted}
+use Rattle.octets.specs.Answer.{Result, refusal, written, bufferAfter, noGalleyRoom, notStarted}
 use Rattle.octets.specs.Field.{endField}
 use Rattle.measure.specs.Place.{heightEnd}
+use Rattle.octets.specs.Pass.{bytesOf}
 use Rattle.octets.specs.Transducer.{transduced}
 use Rattle.galley_file.specs.declared.form.Form.the-variants.{New}
 use Rattle.galley_file.specs.declared.item.Item.{Item}
@@ -32,7 +34,7 @@ use Rattle.running.specs.declared.Phase.the-variants.{AtRest, Open, Failed}
 use Rattle.running.specs.declared.Running.{Running}
 use Rattle.running.specs.Running.{Replied, refusing, failing, isSound, inPhase, startOn, startOf, grown, pieceEnds, feedWithin, feedOpen, feedOf, atRest, closeOpen, closeOf}
 use Rattle.running.specs.RunningLaws.{sound-tape, feed-unsound, close-unsound}
-use Rattle.session_laws.specs.Session.{Call, starting, piece, closing, given, tapeAfter, results, bytesOf, output, isRoom, withoutRoom, withoutRooms}
+use Rattle.session_laws.specs.Session.{Call, starting, piece, closing, given, tapeAfter, results, output, isRoom, withoutRoom, withoutRooms}
 
 -- ---- what a piece or the close can give
 
@@ -98,7 +100,7 @@ module _ (r : Running) where
 -- ---- room
 
 no-room : {X : Type 0} → false ≡ true → X
-no-room e = absurd (let w : _≡_ {A = ℕ} 0 1 = cc in omega arith)
+no-room e = absurd (suc-ne-zero 0 cc)
 
 room-kind : {r : Running} {x : Replied} → Kind r x → isRoom (x .result) ≡ true → x .tape ≡ r
 room-kind roomless e = refl
@@ -163,7 +165,8 @@ without-room r (c ∷ cs) = go (isRoom (given r c .result)) refl (without-room (
 
 -- ---- the repeated refusal
 
-stuck-phase : {r : Running} {n place : ℕ} (p : Phase) (x : Replied) → Stuck r n place → r .phase ≡ p → (isSound r ≡ false → x ≡ refusing r notStarted 0) → inPhase r p x ≡ refusing r n place
+stuck-phase : {r : Running} {n place : ℕ} (p : Phase) (x : Replied) → Stuck r n place → r .phase ≡ p
+    → (isSound r ≡ false → x ≡ refusing r notStarted 0) → inPhase r p x ≡ refusing r n place
 stuck-phase {r} {n} {place} p x (failed-at e) q u = ap (λ (f : Phase). inPhase r f x) (sym q ∙ e)
 stuck-phase {r} p x (resting e) q u = ap (λ (f : Phase). inPhase r f x) (sym q ∙ e)
 stuck-phase {r} p x (unsound e s) q u = ap (λ (f : Phase). inPhase r f x) (sym q ∙ e) ∙ u s
@@ -184,8 +187,8 @@ refused-kind {r} {m = m} {at = at} (keeps {n} {place} h) e k =
     let a : n ≡ m = cc in
     let b : place ≡ at = cc in
     failed-at (λ i. Failed (a i) (b i))
-refused-kind (adds t n is v) e k = absurd (let w : _≡_ {A = ℕ} 0 1 = cc in omega arith)
-refused-kind finishes e k = absurd (let w : _≡_ {A = ℕ} 0 1 = cc in omega arith)
+refused-kind (adds t n is v) e k = absurd (suc-ne-zero 0 cc)
+refused-kind finishes e k = absurd (suc-ne-zero 0 cc)
 
 -- pieces and closings, without a start among them
 pub data AllLater : List Call → Type 0 where
@@ -217,9 +220,10 @@ stuck-all {r} {n} {place} s (then {c} {cs} l ls) =
     }
 
 -- "After any other refusal of a piece or closing the running tape repeats that refusal and place until started anew"
-pub repeats : (r : Running) {c : Call} → Later c → {n place : ℕ} → given r c .result ≡ refusal n place → (n ≡ noGalleyRoom → ⊥) → {cs : List Call} → AllLater cs → Repeated (given r c .tape) cs n place
+pub repeats : (r : Running) {c : Call} → Later c → {n place : ℕ} → given r c .result ≡ refusal n place → (n ≡ noGalleyRoom → ⊥) → {cs : List Call}
+    → AllLater cs → Repeated (given r c .tape) cs n place
 repeats r l e k ls = stuck-all (refused-kind (kind-of r l) e k) ls
 
 -- "a refusal changes no lent byte"
-pub refused-keeps : (r : Running) (c : Call) {n place : ℕ} → given r c .result ≡ refusal n place → (buffer : List ℕ) → after buffer (given r c .result) ≡ buffer
-refused-keeps r c e buffer = ap (after buffer) e
+pub refused-keeps : (r : Running) (c : Call) {n place : ℕ} → given r c .result ≡ refusal n place → (buffer : List ℕ) → bufferAfter buffer (given r c .result) ≡ buffer
+refused-keeps r c e buffer = ap (bufferAfter buffer) e

@@ -3,12 +3,13 @@
 --     lastPlace      the last place in a sheet where a field can start
 --     fontChars      the characters of a font
 --     ifReadable     the tests of the whole call
+--     callRefusal    the number that they refuse it with, or 0
 use Prim.Native.Nat.{ℕ, _*_}
 use mathlib.Core.Bool.{Bool, cond}
 use mathlib.Core.List.{List}
 use lib.Dec.{ltb}
 use lib.ListN.{length}
-use Rattle.octets.specs.Answer.{Result, refusal, dviTooLong, widthsNotWhole}
+use Rattle.octets.specs.Answer.{Result, refusal, fileTooLong, widthsNotWhole}
 
 abbrev pub maxFile : ℕ
 maxFile = 33554432
@@ -23,4 +24,7 @@ fontChars = 128
 
 -- 20: the file is too long; 31: the table of widths is not whole, which each format says for itself
 unfoldable pub ifReadable : List ℕ → Bool → Result → Result
-ifReadable file whole r = cond (ltb maxFile (length file)) (refusal dviTooLong 0) (cond whole r (refusal widthsNotWhole 0))
+ifReadable file whole r = cond (ltb maxFile (length file)) (refusal fileTooLong 0) (cond whole r (refusal widthsNotWhole 0))
+
+unfoldable pub callRefusal : ℕ → Bool → ℕ
+callRefusal length whole = cond (ltb maxFile length) fileTooLong (cond whole 0 widthsNotWhole)

@@ -1,4 +1,5 @@
 // The sheet's fields; the limits of what a reader is lent.
+use octets::answer;
 use octets::field;
 use octets::number;
 ghost use mathlib.Core.Path.{_≡_};
@@ -9,7 +10,7 @@ ghost use lib.ListN.{length};
 ghost use Rattle.octets.specs.Octets.{signedBytes};
 ghost use Rattle.octets.specs.Write.{Wrote, Put};
 ghost use Rattle.sheet.specs.Sheet.{pageMark, charMark, ruleMark, markField};
-ghost use Rattle.sheet.specs.Readable.{lastPlace};
+ghost use Rattle.sheet.specs.Readable.{lastPlace, callRefusal};
 
 // The longest file.
 pub const MAX_FILE: usize = 33_554_432;
@@ -35,6 +36,19 @@ const PAGE_FIELD: usize = 7;
 const CHAR_FIELD: usize = 16;
 
 const RULE_FIELD: usize = 20;
+
+// The number that a reader's whole call is refused with, or 0, by the length of its file and whether its table of widths is whole.
+pub fn call_refusal(file: usize, whole: bool) -> u8
+    ensures { λ r. ⌜ r ≡ callRefusal file whole ⌝ }
+{
+    if MAX_FILE < file {
+        return answer::FILE_TOO_LONG;
+    }
+    if whole {
+        return 0;
+    }
+    answer::WIDTHS_NOT_WHOLE
+}
 
 // Writes a number. The test always holds: it keeps the four stores in a block of their own, where the compiler makes one of them.
 fn put_number(out: &mut [u8], at: usize, z: i32) -> usize

@@ -3,7 +3,7 @@
 use octets::answer;
 ghost use mathlib.Core.Path.{_≡_};
 ghost use Rattle.octets.specs.Answer.{numbersOf};
-ghost use Rattle.report.specs.Report.{countOutcome, countedIn};
+ghost use Rattle.report.specs.Report.{reportOutcome, countedIn};
 
 // Counts a tape of the machine with so many fonts, 4 or 8, in a report.
 #[no_mangle]
@@ -13,7 +13,7 @@ pub extern "C" fn sp_count_tape(
     report: &mut [u64; 135],
     answer: &mut [usize; 3],
 )
-    ensures { λ _. ⌜ (now (answer .exit) ≡ numbersOf (countOutcome (now (report .entry)))) × (now (report .exit) ≡ countedIn (now (report .entry)) (now (tape .entry)) machine) ⌝ }
+    ensures { λ _. ⌜ (now (answer .exit) ≡ numbersOf (reportOutcome (now (report .entry)))) × (now (report .exit) ≡ countedIn (now (report .entry)) (now (tape .entry)) machine) ⌝ }
 {
     let a = report::count_tape(tape, machine, report);
     *answer = answer::numbers(a);

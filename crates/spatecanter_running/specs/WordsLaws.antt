@@ -6,14 +6,14 @@
 use mathlib.Core.Path.{_≡_, refl, ap, subst, _∙_}
 use mathlib.Core.Bool.{Bool, true, false, cond}
 use mathlib.Core.List.{List}
-use Prim.Native.Nat.{ℕ, suc, _+_, _%_, _^_, _≤_, _<_}
+use Prim.Native.Nat.{ℕ, _+_, _%_, _<_}
 use native.Mathlib.Omega.{arith}
 use lib.Dec.{eqb}
-use lib.ListN.{length}
 use lib.IntN.{ℤ, pos, negsuc, natAbs, _+ℤ_, _-ℤ_}
 use mir.Syntax.{w32}
 use mir.Val.{SFits, toZ, ofZ}
-use Rattle.integers.specs.Parts.{integers, up, dn, bounds, plain, sum-parts, dif-parts}
+use Rattle.integers.specs.Parts.{integers, bounds, sum-parts, dif-parts}
+use Rattle.integers.specs.Bits.{plain}
 use Rattle.octets.specs.Answer.{Outcome, numbersOf}
 use Rattle.octets.specs.AnswerLaws.{gives-numbers}
 use Rattle.typesetter.specs.declared.code.Machine.{Machine}

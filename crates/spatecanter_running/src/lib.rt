@@ -38,7 +38,7 @@ pub extern "C" fn sp_feed(
 )
     ensures { λ _. ⌜ LeavesWords (now (answer .exit)) (now (tape .exit)) (feedOf (tapeIn (now (tape .entry))) (now (piece .entry))) (now (out .entry)) (now (out .exit)) ⌝ }
 {
-    let f = running::fed(words::tape_in(*tape), piece, out);
+    let f = running_piece::fed(words::tape_in(*tape), piece, out);
     let next = f.tape;
     let a = f.answer;
     *tape = words::words_of(next);

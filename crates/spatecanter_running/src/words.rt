@@ -10,7 +10,7 @@ use typesetter::machine::Modes;
 use typesetter::machine::State;
 ghost use mathlib.Core.Path.{_≡_};
 ghost use Prim.Native.Nat.{_%_};
-ghost use Rattle.spatecanter_running.specs.Words.{wordOf, signedIn, flagWord, machineWord, machineIn, phaseWord, numberWord, placeWord, phaseIn, stateIn, extentsIn, wordsOf, tapeIn, Holds};
+ghost use Rattle.spatecanter_running.specs.Words.{wordOf, signedIn, flagWord, machineWord, machineIn, phaseWord, numberWord, placeWord, phaseIn, stateIn, extentsIn, tapeIn, Holds};
 
 // A signed number as a word.
 fn word_of(z: i32) -> u64

@@ -1,4 +1,2 @@
-pub mod Quicks
-pub mod Turns
 mod Passes
 mod Results

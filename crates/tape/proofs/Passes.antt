@@ -1,4 +1,4 @@
--- The laws of what a pass keeps, `Going`: at its start, at each effect of a code, at its end; and of a stretch of codes.
+-- The laws of what a pass keeps, `Going`: at its start, at each effect of a code, over codes that go further, at its end.
 -- Assumes nothing.
 use mathlib.Core.Path.{_≡_, refl, sym, ap, _∙_}
 use mathlib.Core.Bool.{Bool, true, false}
@@ -10,7 +10,6 @@ use lib.Seq as seq
 use lib.Seq.{take-all, length-take-le}
 use Rattle.octets.specs.Write.{putIf, sets-append}
 use Rattle.galley_file.specs.declared.form.Form.the-variants.{New}
-use Rattle.galley_file.specs.declared.character.Character.{Character}
 use Rattle.galley_file.specs.declared.item.Item.{Item}
 use Rattle.galley_file.specs.declared.item.Item.the-variants.{Placed, Cut}
 use Rattle.galley_file.specs.Item.{itemField, itemSize, tally, charactersOf, cutsOf}
@@ -18,18 +17,19 @@ use Rattle.galley_file.specs.ItemLaws.{length-itemField, count-item, all-counte
 use Rattle.galley_file.specs.Galley.{fields}
 use Rattle.galley_file.specs.GalleyLaws.{length-fields, fields-append, fields-one}
 use Rattle.typesetter.specs.declared.machine.State.{State}
-use Rattle.tape.specs.declared.quick.Stretch.{Stretch}
 use Rattle.typesetter.specs.declared.machine.Effect.{Effect}
-use Rattle.typesetter.specs.declared.machine.Effect.the-variants.{Moved, Flashed, Refused}
+use Rattle.typesetter.specs.declared.machine.Effect.the-variants.{Moved, Refused}
+use Rattle.tape.specs.declared.Ending.{Ending}
 use Rattle.tape.specs.declared.Ending.the-variants.{Reached, Fault}
-use Rattle.typesetter.specs.Machine.{effectOf}
+use Rattle.typesetter.specs.Machine.{byteEffect}
 use Rattle.tape.specs.Tape.{maxTape, Run, run}
 use Rattle.tape.specs.RunLaws.{Sets, flashed, pageEnded, soFar, run-length, run-moved, run-set, run-refused, run-room}
 use Rattle.typesetter.specs.Sound.{Sound}
 use Rattle.typesetter.specs.SoundLaws.{stays-sound, page-ended-sound}
-use Rattle.typesetter.specs.StepLaws.{placed}
-use Rattle.tape.specs.Quick.{Strides, stands, moves, sets}
-use Rattle.tape.specs.Pass.{putAt, Going, Further, Passed}
+use Rattle.tape_stretch.specs.Further as further
+use Rattle.tape_stretch.specs.Further.{putAt, Further}
+use Rattle.tape_stretch.specs.FurtherLaws.{further-length}
+use Rattle.tape.specs.Pass.{Going, Passed}
 
 -- one field more
 put-more : (w : Bool) (first : List ℕ) (is : List Item) (i : Item) (n k : ℕ) → n ≡ length (charactersOf is) → k ≡ 3 * cutsOf is
@@ -60,7 +60,7 @@ first-size : (i : Item) (is : List Item) → itemSize New i ≤ length (fields N
 unfolding fields
 first-size i is = omega (arith, length-append (itemField New i) (fields New is), length-itemField New i)
 
-set-sound : (s : State) → Sound s → (b : ℕ) {e : Effect} {x : Item} {t : State} → effectOf s b ≡ e → Sets s e x t → Sound t
+set-sound : (s : State) → Sound s → (b : ℕ) {e : Effect} {x : Item} {t : State} → byteEffect s b ≡ e → Sets s e x t → Sound t
 set-sound s r b q flashed = r
 set-sound s r b q pageEnded = page-ended-sound s r b q
 
@@ -77,8 +77,21 @@ module _ (s₀ : State) (at : ℕ) (tape first : List ℕ) (w : Bool) where
         let l = length-take-le i tape (r .inside) in
         omega (arith, r .counted, r .cut-bytes, all-counted (soFar s₀ at tape i), run-length s₀ at (take i tape))
 
+    -- where no more items come, the pass has found the run
+    going-passed : at + length tape ≤ maxTape → soFar s₀ at tape i ≡ run s₀ at tape .items → {x : Ending} → x ≡ run s₀ at tape .ending
+        → Passed (run s₀ at tape) w first (record { count = count; cuts = cuts; ending = x }) out
+    going-passed m is e =
+        record {
+          counted = r .counted ∙ ap (λ (l : List Item). length (charactersOf l)) is;
+          cut-bytes = r .cut-bytes ∙ ap (λ (l : List Item). 3 * cutsOf l) is;
+          few = omega (arith, going-bound, r .inside);
+          short = omega (arith, going-bound, r .inside);
+          ended = e;
+          buffer = r .wrote ∙ ap (λ (l : List Item). putIf w first 0 (fields New l)) is;
+        }
+
     module _ (h : i < length tape) where
-      pub going-moved : (t : State) → effectOf s (getD tape i 0) ≡ Moved t → Going s₀ at tape first w out t count cuts (i + 1)
+      pub going-moved : (t : State) → byteEffect s (getD tape i 0) ≡ Moved t → Going s₀ at tape first w out t count cuts (i + 1)
       going-moved t e =
           let n = run-moved s₀ at tape i s (r .ran) h e in
           let is : soFar s₀ at tape (i + 1) ≡ soFar s₀ at tape i = ap (λ (x : Run). x .items) n in
@@ -93,7 +106,7 @@ module _ (s₀ : State) (at : ℕ) (tape first : List ℕ) (w : Bool) where
           }
 
       -- a code that sets the item x and leaves the state t
-      module _ {e : Effect} {x : Item} {t : State} (q : effectOf s (getD tape i 0) ≡ e) (m : Sets s e x t) where
+      module _ {e : Effect} {x : Item} {t : State} (q : byteEffect s (getD tape i 0) ≡ e) (m : Sets s e x t) where
         pub going-room : (w ≡ true → length (fields New (run s₀ at tape .items)) ≤ length first) → w ≡ true → 11 * count + cuts + itemSize New x ≤ length out
         going-room p k =
             let is = soFar s₀ at tape i in
@@ -121,77 +134,22 @@ module _ (s₀ : State) (at : ℕ) (tape first : List ℕ) (w : Bool) where
                   ∙ sym (ap (λ (l : List Item). putIf w first 0 (fields New l)) more);
             }
 
-      pub going-refused : (n : ℕ) → at + length tape ≤ maxTape → effectOf s (getD tape i 0) ≡ Refused n
+      pub going-refused : (n : ℕ) → at + length tape ≤ maxTape → byteEffect s (getD tape i 0) ≡ Refused n
           → Passed (run s₀ at tape) w first (record { count = count; cuts = cuts; ending = Fault n (at + i) }) out
       going-refused n m e =
           let f = run-refused s₀ at tape i s (r .ran) h e in
-          let is = ap (λ (x : Run). x .items) f in
-          record {
-            counted = r .counted ∙ sym (ap (λ (l : List Item). length (charactersOf l)) is);
-            cut-bytes = r .cut-bytes ∙ sym (ap (λ (l : List Item). 3 * cutsOf l) is);
-            few = omega (arith, going-bound);
-            short = omega (arith, going-bound);
-            ended = sym (ap (λ (x : Run). x .ending) f);
-            buffer = r .wrote ∙ sym (ap (λ (l : List Item). putIf w first 0 (fields New l)) is);
-          }
+          going-passed m (sym (ap (λ (x : Run). x .items) f)) (sym (ap (λ (x : Run). x .ending) f))
 
     pub going-done : length tape ≤ i → at + length tape ≤ maxTape → Passed (run s₀ at tape) w first (record { count = count; cuts = cuts; ending = Reached s }) out
     going-done h m =
         let all : take i tape ≡ tape = take-all i tape h in
-        let is = ap (λ (l : List ℕ). run s₀ at l .items) all in
-        record {
-          counted = r .counted ∙ ap (λ (l : List Item). length (charactersOf l)) is;
-          cut-bytes = r .cut-bytes ∙ ap (λ (l : List Item). 3 * cutsOf l) is;
-          few = omega (arith, going-bound, r .inside);
-          short = omega (arith, going-bound, r .inside);
-          ended = sym (sym (ap (λ (l : List ℕ). run s₀ at l .ending) all) ∙ r .ran);
-          buffer = r .wrote ∙ ap (λ (l : List Item). putIf w first 0 (fields New l)) is;
-        }
+        going-passed m (ap (λ (l : List ℕ). run s₀ at l .items) all) (sym (r .ran) ∙ ap (λ (l : List ℕ). run s₀ at l .ending) all)
 
--- ---- further, by the next code
+  -- ---- over codes that go further
 
-module _ (w : Bool) (tape out : List ℕ) (s : State) (count cuts i : ℕ) where
-  pub further-start : Further w tape out s count cuts i s count i out
-  further-start = record { onward = omega arith; few = λ h. h; sound = λ h. h; same = refl; keeps = λ s₀ at first g. g }
-
-  module _ (t : State) (n j : ℕ) (later : List ℕ) (f : Further w tape out s count cuts i t n j later) where
-    pub further-then : {u : State} {m k : ℕ} {next : List ℕ} → Further w tape later t n cuts j u m k next → Further w tape out s count cuts i u m k next
-    further-then g =
-        record {
-          onward = omega (arith, f .onward, g .onward);
-          few = λ h. g .few (f .few h);
-          sound = λ h. g .sound (f .sound h);
-          same = g .same ∙ f .same;
-          keeps = λ s₀ at first x. g .keeps s₀ at first (f .keeps s₀ at first x);
-        }
-
-    module _ (h : j < length tape) where
-      pub further-moved : (u : State) → effectOf t (getD tape j 0) ≡ Moved u → Further w tape out s count cuts i u n (j + 1) later
-      further-moved u e =
-          record {
-            onward = omega (arith, f .onward);
-            few = λ l. omega (arith, f .few l);
-            sound = λ l. stays-sound t (f .sound l) (getD tape j 0) e;
-            same = f .same;
-            keeps = λ s₀ at first g. going-moved s₀ at tape first w later t n cuts j (f .keeps s₀ at first g) h u e;
-          }
-
-      pub further-flashed : (k : Character) → effectOf t (getD tape j 0) ≡ Flashed k → (next : List ℕ) → length next ≡ length later → next ≡ putAt w n cuts (Placed k) later
-          → Further w tape out s count cuts i t (n + 1) (j + 1) next
-      further-flashed k e next l q =
-          record {
-            onward = omega (arith, f .onward);
-            few = λ m. omega (arith, f .few m);
-            sound = f .sound;
-            same = l ∙ f .same;
-            keeps = λ s₀ at first g. going-set s₀ at tape first w later t n cuts j (f .keeps s₀ at first g) h e flashed next l q (n + 1) cuts refl refl;
-          }
-
--- over a stretch where nothing is written
-pub further-strides : (tape out : List ℕ) (s : State) (cuts : ℕ) {font : ℕ} {r q : Stretch} → Strides tape s font r q
-    → Further false tape out (placed s (r .carriage)) (r .count) cuts (r .next) (placed s (q .carriage)) (q .count) (q .next) out
-further-strides tape out s cuts {r = r} stands = further-start false tape out (placed s (r .carriage)) (r .count) cuts (r .next)
-further-strides tape out s cuts {r = r} (moves {q} {c} p h e l) =
-    further-moved false tape out (placed s (r .carriage)) (r .count) cuts (r .next) (placed s (q .carriage)) (q .count) (q .next) out (further-strides tape out s cuts p) h (placed s c) e
-further-strides tape out s cuts {r = r} (sets {q} {k} p h e f) =
-    further-flashed false tape out (placed s (r .carriage)) (r .count) cuts (r .next) (placed s (q .carriage)) (q .count) (q .next) out (further-strides tape out s cuts p) h k e out refl refl
+  pub going-further : {out later : List ℕ} {s t : State} {count cuts i n j : ℕ} → Further w tape out s count cuts i t n j later
+      → Going s₀ at tape first w out s count cuts i → Going s₀ at tape first w later t n cuts j
+  going-further further.here g = g
+  going-further (further.moved {t} {u} {n} {j} {later} f h e) g = going-moved later t n _ j (going-further f g) h u e
+  going-further (further.flashed {t} {n} {j} {later} {next} f h e q) g =
+      going-set later t n _ j (going-further f g) h e flashed next (further-length (further.flashed f h e q) ∙ sym (further-length f)) q (n + 1) _ refl refl

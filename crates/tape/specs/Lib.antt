@@ -2,6 +2,5 @@
 pub mod Tape
 pub mod RunLaws
 pub mod ResultLaws
-pub mod Quick
 pub mod Pass
 pub mod TapeLaws

@@ -1,26 +1,21 @@
 -- What the contracts of the passes cite; nothing here is part of what a call promises.
+--     Going     what a pass keeps
+--     Passed    what a pass finds of a run
 use mathlib.Core.Path.{_≡_}
 use mathlib.Core.Bool.{Bool}
 use mathlib.Core.List.{List}
-use Prim.Native.Nat.{ℕ, _+_, _*_, _≤_}
+use Prim.Native.Nat.{ℕ, _*_, _≤_}
 use lib.ListN.{length, take}
 use Rattle.octets.specs.Write.{putIf}
 use Rattle.galley_file.specs.declared.form.Form.the-variants.{New}
-use Rattle.galley_file.specs.declared.item.Item.{Item}
-use Rattle.galley_file.specs.Item.{itemField, charactersOf, cutsOf}
+use Rattle.galley_file.specs.Item.{charactersOf, cutsOf}
 use Rattle.galley_file.specs.Galley.{fields}
 use Rattle.typesetter.specs.declared.machine.State.{State}
-use Rattle.tape.specs.declared.quick.Stretch.{Stretch}
 use Rattle.tape.specs.declared.Ending.the-variants.{Reached}
 use Rattle.tape.specs.declared.Reading.{Reading}
 use Rattle.tape.specs.Tape.{maxTape, Run, run}
 use Rattle.tape.specs.RunLaws.{soFar}
 use Rattle.typesetter.specs.Sound.{Sound}
-use Rattle.typesetter.specs.StepLaws.{placed}
-
--- an item's field after n characters and k bytes of cuts
-abbrev pub putAt : Bool → ℕ → ℕ → Item → List ℕ → List ℕ
-putAt w n k i out = putIf w out (11 * n + k) (itemField New i)
 
 -- what a pass keeps: the bytes passed so far, run from the first state, reach the present one; the count of characters, the bytes of
 -- cuts and the buffer are those of the items that they set
@@ -32,18 +27,6 @@ pub record Going (s₀ : State) (at : ℕ) (tape first : List ℕ) (w : Bool) (o
   pub cut-bytes : cuts ≡ 3 * cutsOf (soFar s₀ at tape i)
   pub same : length out ≡ length first
   pub wrote : out ≡ putIf w first 0 (fields New (soFar s₀ at tape i))
-
--- from a state, counts and a place on to others: a pass keeps it, whatever it started from
-pub record Further (w : Bool) (tape out : List ℕ) (s : State) (count cuts i : ℕ) (t : State) (n j : ℕ) (later : List ℕ) : Type 0 where
-  pub onward : i ≤ j
-  pub few : count ≤ i → n ≤ j
-  pub sound : Sound s → Sound t
-  pub same : length later ≡ length out
-  pub keeps : (s₀ : State) (at : ℕ) (first : List ℕ) → Going s₀ at tape first w out s count cuts i → Going s₀ at tape first w later t n cuts j
-
--- over a stretch, where only the carriage moves
-abbrev pub Stretched : Bool → List ℕ → List ℕ → State → ℕ → ℕ → ℕ → Stretch → List ℕ → Type 0
-Stretched w tape out s count cuts i r later = Further w tape out s count cuts i (placed s (r .carriage)) (r .count) (r .next) later
 
 -- what a pass finds of a run, and the buffer after it
 pub record Passed (x : Run) (w : Bool) (before : List ℕ) (r : Reading) (later : List ℕ) : Type 0 where

@@ -10,7 +10,7 @@
 use mathlib.Core.Path.{_≡_, refl, sym, ap, subst, _∙_}
 use mathlib.Core.List.{List, [], _∷_, _++_, append-nil}
 use Prim.Native.Nat.{ℕ, suc, _+_, _≤_, _<_}
-use native.Mathlib.Nat.{add-zero}
+use native.Mathlib.Nat.{add-zero, suc-ne-zero}
 use native.Mathlib.Numerals.{add-one}
 use native.Mathlib.Omega.{arith}
 use lib.ListN.{length, getD, take, drop, take-append-drop}
@@ -25,25 +25,25 @@ use Rattle.typesetter.specs.declared.machine.Effect.{Effect}
 use Rattle.typesetter.specs.declared.machine.Effect.the-variants.{Moved, Flashed, PageEnded, Refused}
 use Rattle.tape.specs.declared.Ending.{Ending}
 use Rattle.tape.specs.declared.Ending.the-variants.{Reached, Fault}
-use Rattle.typesetter.specs.Machine.{effectOf}
+use Rattle.typesetter.specs.Machine.{byteEffect}
 use Rattle.typesetter.specs.Sound.{Sound}
 use Rattle.typesetter.specs.EffectLaws.{IsFault, fault-effect, moved-machine, page-ended-machine}
 use Rattle.typesetter.specs.SoundLaws.{stays-sound, page-ended-sound, flashed-valid}
-use Rattle.tape.specs.Tape.{Run, after, run}
+use Rattle.tape.specs.Tape.{Run, itemFirst, run}
 
 -- a run after items that were set, by how these ended
 abbrev pub goOn : List Item → Ending → (State → Run) → Run
 goOn is (Reached t) rest = record { items = is ++ rest t .items; ending = rest t .ending }
 goOn is (Fault n p) rest = record { items = is; ending = Fault n p }
 
-after-goOn : (i : Item) (is : List Item) (e : Ending) (rest : State → Run) → after i (goOn is e rest) ≡ goOn (i ∷ is) e rest
+after-goOn : (i : Item) (is : List Item) (e : Ending) (rest : State → Run) → itemFirst i (goOn is e rest) ≡ goOn (i ∷ is) e rest
 after-goOn i is (Reached t) rest = refl
 after-goOn i is (Fault n p) rest = refl
 
 pub run-append : (s : State) (at : ℕ) (xs ys : List ℕ) → run s at (xs ++ ys) ≡ goOn (run s at xs .items) (run s at xs .ending) (λ t. run t (at + length xs) ys)
 unfolding run
 run-append s at [] ys = ap (λ (p : ℕ). run s p ys) (sym (add-zero at))
-run-append s at (b ∷ xs) ys = go (λ t. run-append t (suc at) xs ys ∙ moved t) (effectOf s b) refl
+run-append s at (b ∷ xs) ys = go (λ t. run-append t (suc at) xs ys ∙ moved t) (byteEffect s b) refl
   where
     moved : (t : State) → goOn (run t (suc at) xs .items) (run t (suc at) xs .ending) (λ u. run u (suc at + length xs) ys)
         ≡ goOn (run t (suc at) xs .items) (run t (suc at) xs .ending) (λ u. run u (at + suc (length xs)) ys)
@@ -52,21 +52,21 @@ run-append s at (b ∷ xs) ys = go (λ t. run-append t (suc at) xs ys ∙ moved 
         ap (λ (p : ℕ). goOn (run t (suc at) xs .items) (run t (suc at) xs .ending) (λ u. run u p ys)) place
 
     go : ((t : State) → run t (suc at) (xs ++ ys) ≡ goOn (run t (suc at) xs .items) (run t (suc at) xs .ending) (λ u. run u (at + suc (length xs)) ys))
-        → (e : Effect) → effectOf s b ≡ e
+        → (e : Effect) → byteEffect s b ≡ e
         → run s at (b ∷ (xs ++ ys)) ≡ goOn (run s at (b ∷ xs) .items) (run s at (b ∷ xs) .ending) (λ t. run t (at + suc (length xs)) ys)
     go later (Moved t) q = rw (q, run) (later t)
     go later (Flashed c) q =
-        rw (q, run) (ap (after (Placed c)) (later s) ∙ after-goOn (Placed c) (run s (suc at) xs .items) (run s (suc at) xs .ending) (λ t. run t (at + suc (length xs)) ys))
+        rw (q, run) (ap (itemFirst (Placed c)) (later s) ∙ after-goOn (Placed c) (run s (suc at) xs .items) (run s (suc at) xs .ending) (λ t. run t (at + suc (length xs)) ys))
     go later (PageEnded t) q =
-        rw (q, run) (ap (after Cut) (later t) ∙ after-goOn Cut (run t (suc at) xs .items) (run t (suc at) xs .ending) (λ u. run u (at + suc (length xs)) ys))
+        rw (q, run) (ap (itemFirst Cut) (later t) ∙ after-goOn Cut (run t (suc at) xs .items) (run t (suc at) xs .ending) (λ u. run u (at + suc (length xs)) ys))
     go later (Refused n) q = rw (q, run)
 
 pub run-length : (s : State) (at : ℕ) (bs : List ℕ) → length (run s at bs .items) ≤ length bs
 unfolding run
 run-length s at [] = omega arith
-run-length s at (b ∷ bs) = go (λ t. run-length t (suc at) bs) (effectOf s b) refl
+run-length s at (b ∷ bs) = go (λ t. run-length t (suc at) bs) (byteEffect s b) refl
   where
-    go : ((t : State) → length (run t (suc at) bs .items) ≤ length bs) → (e : Effect) → effectOf s b ≡ e → length (run s at (b ∷ bs) .items) ≤ suc (length bs)
+    go : ((t : State) → length (run t (suc at) bs .items) ≤ length bs) → (e : Effect) → byteEffect s b ≡ e → length (run s at (b ∷ bs) .items) ≤ suc (length bs)
     go later (Moved t) q = rw (q, run) (omega (arith, later t))
     go later (Flashed c) q = rw (q, run) (omega (arith, later s))
     go later (PageEnded t) q = rw (q, run) (omega (arith, later t))
@@ -75,14 +75,14 @@ run-length s at (b ∷ bs) = go (λ t. run-length t (suc at) bs) (effectOf s b) 
 -- ---- the state reached, or the refusal
 
 pub fault-never : {n p : ℕ} {t : State} {X : Type 0} → Fault n p ≡ Reached t → X
-fault-never e = let z : _≡_ {A = ℕ} 0 1 = cc in absurd (omega arith)
+fault-never e = absurd (suc-ne-zero 0 cc)
 
 pub run-machine : (s : State) (at : ℕ) (bs : List ℕ) {t : State} → run s at bs .ending ≡ Reached t → t .machine ≡ s .machine
 unfolding run
 run-machine s at [] {t} e = let same : s ≡ t = cc in ap (λ (u : State). u .machine) (sym same)
-run-machine s at (b ∷ bs) {t} e = go (λ u. run-machine u (suc at) bs) (effectOf s b) refl
+run-machine s at (b ∷ bs) {t} e = go (λ u. run-machine u (suc at) bs) (byteEffect s b) refl
   where
-    go : ((u : State) → run u (suc at) bs .ending ≡ Reached t → t .machine ≡ u .machine) → (x : Effect) → effectOf s b ≡ x → t .machine ≡ s .machine
+    go : ((u : State) → run u (suc at) bs .ending ≡ Reached t → t .machine ≡ u .machine) → (x : Effect) → byteEffect s b ≡ x → t .machine ≡ s .machine
     go later (Moved u) q = later u (rw (q, run) at e) ∙ moved-machine s b q
     go later (Flashed c) q = later s (rw (q, run) at e)
     go later (PageEnded u) q = later u (rw (q, run) at e) ∙ page-ended-machine s b q
@@ -114,29 +114,29 @@ module _ (s₀ : State) (at : ℕ) (tape : List ℕ) (i : ℕ) where
       next : run s₀ at (take (i + 1) tape) ≡ goOn soFar (Reached s) (λ t. run t (at + i) (getD tape i 0 ∷ []))
       next = ap (λ (k : ℕ). run s₀ at (take k tape)) (add-one i) ∙ ap (run s₀ at) (take-suc tape i 0 h) ∙ follow (getD tape i 0 ∷ []) (omega arith)
 
-      pub run-moved : {t : State} → effectOf s (getD tape i 0) ≡ Moved t → run s₀ at (take (i + 1) tape) ≡ record { items = soFar; ending = Reached t }
+      pub run-moved : {t : State} → byteEffect s (getD tape i 0) ≡ Moved t → run s₀ at (take (i + 1) tape) ≡ record { items = soFar; ending = Reached t }
       unfolding run
       run-moved {t} e = next ∙ rw (e, run) (λ j. record { items = append-nil soFar j; ending = Reached t })
 
-      pub run-set : {e : Effect} {x : Item} {t : State} → effectOf s (getD tape i 0) ≡ e → Sets s e x t → run s₀ at (take (i + 1) tape) ≡ record { items = soFar ++ (x ∷ []); ending = Reached t }
+      pub run-set : {e : Effect} {x : Item} {t : State} → byteEffect s (getD tape i 0) ≡ e → Sets s e x t → run s₀ at (take (i + 1) tape) ≡ record { items = soFar ++ (x ∷ []); ending = Reached t }
       unfolding run
       run-set e flashed = next ∙ rw (e, run)
       run-set e pageEnded = next ∙ rw (e, run)
 
-      pub run-refused : {n : ℕ} → effectOf s (getD tape i 0) ≡ Refused n → run s₀ at tape ≡ record { items = soFar; ending = Fault n (at + i) }
+      pub run-refused : {n : ℕ} → byteEffect s (getD tape i 0) ≡ Refused n → run s₀ at tape ≡ record { items = soFar; ending = Fault n (at + i) }
       unfolding run
       run-refused {n} e =
           run-rest (omega arith)
           ∙ rw (drop-cons tape i 0 h, e, run) (λ j. record { items = append-nil soFar j; ending = Fault n (at + i) })
 
-      rest-set : {e : Effect} {x : Item} {t : State} → effectOf s (getD tape i 0) ≡ e → Sets s e x t
+      rest-set : {e : Effect} {x : Item} {t : State} → byteEffect s (getD tape i 0) ≡ e → Sets s e x t
           → run s (at + i) (drop i tape) .items ≡ x ∷ run t (suc (at + i)) (drop (suc i) tape) .items
       unfolding run
       rest-set e flashed = rw (drop-cons tape i 0 h, e, run)
       rest-set e pageEnded = rw (drop-cons tape i 0 h, e, run)
 
       -- an item more is one of those of the whole tape
-      pub run-room : {e : Effect} {x : Item} {t : State} → effectOf s (getD tape i 0) ≡ e → Sets s e x t
+      pub run-room : {e : Effect} {x : Item} {t : State} → byteEffect s (getD tape i 0) ≡ e → Sets s e x t
           → (more : List Item) × (run s₀ at tape .items ≡ soFar ++ (x ∷ more))
       run-room {x = x} {t = t} e q =
           (run t (suc (at + i)) (drop (suc i) tape) .items, ap (λ (r : Run). r .items) (run-rest (omega arith)) ∙ ap (λ (l : List Item). soFar ++ l) (rest-set e q))
@@ -146,9 +146,9 @@ module _ (s₀ : State) (at : ℕ) (tape : List ℕ) (i : ℕ) where
 pub run-valid : (s : State) (at : ℕ) (bs : List ℕ) → Sound s → AllValid heightEnd (run s at bs .items)
 unfolding run
 run-valid s at [] r = nil
-run-valid s at (b ∷ bs) r = go (λ t q. run-valid t (suc at) bs q) (effectOf s b) refl
+run-valid s at (b ∷ bs) r = go (λ t q. run-valid t (suc at) bs q) (byteEffect s b) refl
   where
-    go : ((t : State) → Sound t → AllValid heightEnd (run t (suc at) bs .items)) → (e : Effect) → effectOf s b ≡ e → AllValid heightEnd (run s at (b ∷ bs) .items)
+    go : ((t : State) → Sound t → AllValid heightEnd (run t (suc at) bs .items)) → (e : Effect) → byteEffect s b ≡ e → AllValid heightEnd (run s at (b ∷ bs) .items)
     go later (Moved t) q = rw (q, run) (later t (stays-sound s r b q))
     go later (Flashed c) q = rw (q, run) (more (flashed-valid s r b q) (later s r))
     go later (PageEnded t) q = rw (q, run) (more refl (later t (page-ended-sound s r b q)))
@@ -159,9 +159,9 @@ run-valid s at (b ∷ bs) r = go (λ t q. run-valid t (suc at) bs q) (effectOf s
 pub run-sound : (s : State) (at : ℕ) (bs : List ℕ) → Sound s → {t : State} → run s at bs .ending ≡ Reached t → Sound t
 unfolding run
 run-sound s at [] r {t} e = let q : s ≡ t = cc in subst Sound q r
-run-sound s at (b ∷ bs) r {t} h = go (λ u q. run-sound u (suc at) bs q {t = t}) (effectOf s b) refl h
+run-sound s at (b ∷ bs) r {t} h = go (λ u q. run-sound u (suc at) bs q {t = t}) (byteEffect s b) refl h
   where
-    go : ((u : State) → Sound u → run u (suc at) bs .ending ≡ Reached t → Sound t) → (e : Effect) → effectOf s b ≡ e → run s at (b ∷ bs) .ending ≡ Reached t → Sound t
+    go : ((u : State) → Sound u → run u (suc at) bs .ending ≡ Reached t → Sound t) → (e : Effect) → byteEffect s b ≡ e → run s at (b ∷ bs) .ending ≡ Reached t → Sound t
     go later (Moved u) q = rw (q, run) (later u (stays-sound s r b q))
     go later (Flashed c) q = rw (q, run) (later s r)
     go later (PageEnded u) q = rw (q, run) (later u (page-ended-sound s r b q))
@@ -174,9 +174,9 @@ FaultIn (Fault n place) = IsFault n
 pub run-fault : (s : State) (at : ℕ) (bs : List ℕ) → FaultIn (run s at bs .ending)
 unfolding run
 run-fault s at [] = tt
-run-fault s at (b ∷ bs) = go (λ t. run-fault t (suc at) bs) (effectOf s b) refl
+run-fault s at (b ∷ bs) = go (λ t. run-fault t (suc at) bs) (byteEffect s b) refl
   where
-    go : ((t : State) → FaultIn (run t (suc at) bs .ending)) → (e : Effect) → effectOf s b ≡ e → FaultIn (run s at (b ∷ bs) .ending)
+    go : ((t : State) → FaultIn (run t (suc at) bs .ending)) → (e : Effect) → byteEffect s b ≡ e → FaultIn (run s at (b ∷ bs) .ending)
     go later (Moved t) q = rw (q, run) (later t)
     go later (Flashed c) q = rw (q, run) (later s)
     go later (PageEnded t) q = rw (q, run) (later t)

@@ -18,11 +18,10 @@ use Rattle.galley_file.specs.Galley.{galley}
 use Rattle.typesetter.specs.declared.code.Machine.{Machine}
 use Rattle.typesetter.specs.declared.code.Machine.the-variants.{Four, Eight}
 use Rattle.typesetter.specs.declared.machine.State.{State}
-use Rattle.typesetter.specs.declared.machine.Effect.{Effect}
 use Rattle.typesetter.specs.declared.machine.Effect.the-variants.{Moved, Flashed, PageEnded, Refused}
 use Rattle.tape.specs.declared.Ending.{Ending}
 use Rattle.tape.specs.declared.Ending.the-variants.{Reached, Fault}
-use Rattle.typesetter.specs.Machine.{start, effectOf}
+use Rattle.typesetter.specs.Machine.{start, byteEffect}
 
 abbrev pub maxTape : ℕ
 maxTape = 1048576
@@ -32,16 +31,16 @@ pub record Run : Type 0 where
   pub ending : Ending
 
 -- the same run with an item before it
-abbrev pub after : Item → Run → Run
-after i r = record { items = i ∷ r .items; ending = r .ending }
+abbrev pub itemFirst : Item → Run → Run
+itemFirst i r = record { items = i ∷ r .items; ending = r .ending }
 
 unfoldable pub run : State → ℕ → List ℕ → Run
 run s at [] = record { items = []; ending = Reached s }
 run s at (b ∷ bs) =
-    elim (effectOf s b) [
+    elim (byteEffect s b) [
       | Moved t ↦ run t (suc at) bs
-      | Flashed c ↦ after (Placed c) (run s (suc at) bs)
-      | PageEnded t ↦ after Cut (run t (suc at) bs)
+      | Flashed c ↦ itemFirst (Placed c) (run s (suc at) bs)
+      | PageEnded t ↦ itemFirst Cut (run t (suc at) bs)
       | Refused n ↦ record { items = []; ending = Fault n at }
     ]
 

@@ -7,6 +7,7 @@ use mathlib.Core.Bool.{Bool, true, false, cond}
 use mathlib.Core.List.{List}
 use mathlib.Core.Option.{Option, none, some}
 use Prim.Native.Nat.{ℕ, _≤_}
+use native.Mathlib.Nat.{suc-ne-zero}
 use native.Mathlib.Omega.{arith}
 use borrow.Author.Tests.{ltb-false}
 use lib.Dec.{ltb}
@@ -56,7 +57,7 @@ pub record AcceptedTape (tape : List ℕ) (machine : ℕ) (bs : List ℕ) : Type
   pub size : length bs ≤ maxGalley New
 
 never : {n p : ℕ} {bs : List ℕ} {X : Type 0} → refusal n p ≡ written bs → X
-never e = let z : _≡_ {A = ℕ} 0 1 = cc in absurd (omega arith)
+never e = absurd (suc-ne-zero 0 cc)
 
 -- a tape that is accepted from a state gives the galley of its items
 galley-from : (s : State) (tape : List ℕ) (room : ℕ) (bs : List ℕ) → readResult s tape room ≡ written bs → bs ≡ galley New (run s 0 tape .items)
@@ -115,7 +116,7 @@ unfolding tapeResult readResult
 tape-room tape machine room n = go (ltb maxTape (length tape)) (machineOf machine)
   where
     refused : {k p : ℕ} → accepted n ≡ outcome (refusal k p) → n ≤ room
-    refused e = let z : _≡_ {A = ℕ} 0 1 = cc in absurd (omega arith)
+    refused e = absurd (suc-ne-zero 0 cc)
 
     go : (t : Bool) (k : Option Machine) → accepted n ≡ outcome (cond t (refusal tapeTooLong 0) (onMachine tape room k)) → n ≤ room
     go true k e = refused e

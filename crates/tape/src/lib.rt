@@ -1,8 +1,4 @@
 // C/A/T phototypesetter tapes (source 000, document 01), read into galleys.
-pub mod quick;
-
-use typesetter::code::Machine;
-ghost use Rattle.galley_file.specs.declared.form.Form.the-variants.{New};
 use galley_file::form;
 use galley_file::form::Form;
 use galley_file::item;
@@ -10,6 +6,7 @@ use galley_file::item::Item;
 use octets::answer;
 use octets::answer::Answer;
 use octets::field;
+use typesetter::code::Machine;
 use typesetter::machine;
 use typesetter::machine::Effect;
 use typesetter::machine::State;
@@ -18,11 +15,13 @@ ghost use mathlib.Core.Bool.{true};
 ghost use Prim.Native.Nat.{_+_, _*_, _≤_};
 ghost use lib.ListN.{length};
 ghost use Rattle.octets.specs.Answer.{outcomeOf, Gives};
+ghost use Rattle.galley_file.specs.declared.form.Form.the-variants.{New};
 ghost use Rattle.galley_file.specs.Item.{itemSize};
 ghost use Rattle.galley_file.specs.Galley.{fields};
 ghost use Rattle.typesetter.specs.Sound.{Sound};
 ghost use Rattle.tape.specs.Tape.{maxTape, run, readResult, tapeResult};
-ghost use Rattle.tape.specs.Pass.{putAt, Passed};
+ghost use Rattle.tape_stretch.specs.Further.{putAt};
+ghost use Rattle.tape.specs.Pass.{Passed};
 
 pub const MAX_TAPE: usize = 1_048_576;
 
@@ -71,13 +70,13 @@ pub fn pass(first: State, at: usize, tape: &[u8], out: &mut [u8], writing: bool)
     let mut cuts: usize = 0;
     let mut i: usize = 0;
     while i < tape.len() {
-        let r = quick::quick_run(writing, s, tape, i, count, cuts, out);
+        let r = tape_quick::quick_run(writing, s, tape, i, count, cuts, out);
         let reached = r.state;
         s = reached;
         count = r.count;
         i = r.next;
         if i < tape.len() {
-            match machine::step(s, tape[i]) {
+            match tape_step::step(s, tape[i]) {
                 Effect::Moved(next) => {
                     s = next;
                     i += 1;

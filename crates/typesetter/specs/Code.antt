@@ -1,4 +1,7 @@
 -- Document 01, "Tape codes (000)", and document 02, "The other machine" and "Software cuts": what each code means.
+--     tiltOf      a tilt code of either machine
+--     controls    the codes 40 to 4F
+--     codeOf      every code
 use Prim.Native.Nat.{ℕ, _-_, _%_}
 use mathlib.Core.Bool.{Bool, true, false, cond}
 use mathlib.Core.List.{List, [], _∷_}
@@ -6,7 +9,6 @@ use lib.ListN.{getD}
 use lib.Dec.{eqb, ltb}
 use Rattle.typesetter.specs.declared.code.Machine.{Machine}
 use Rattle.typesetter.specs.declared.code.Machine.the-variants.{Four, Eight}
-use Rattle.typesetter.specs.declared.code.Instruction.{Instruction}
 use Rattle.typesetter.specs.declared.code.Instruction.the-variants.{Flash, Rail, Mag, Half, EscapeWay, LeadWay, Tilt, Size, Stop, Cut, Lead, Escape}
 use Rattle.typesetter.specs.declared.code.Code.{Code}
 use Rattle.typesetter.specs.declared.code.Code.the-variants.{Ignored, Illegal, Initialize, Instructs}

@@ -1,4 +1,5 @@
 -- Flashes, escapes and leads are the same on either machine.
+--     code-flash, code-escape, code-lead    which codes they are, by their bytes
 -- Assumes nothing.
 use mathlib.Core.Path.{_≡_}
 use Prim.Native.Nat.{ℕ, _-_, _%_, _≤_, _<_}

@@ -31,7 +31,7 @@ use Rattle.typesetter.specs.declared.machine.State.{State}
 use Rattle.typesetter.specs.declared.machine.Effect.{Effect}
 use Rattle.typesetter.specs.declared.machine.Effect.the-variants.{Moved, Flashed, PageEnded, Refused}
 use Rattle.typesetter.specs.Code.{codeOf}
-use Rattle.typesetter.specs.Machine.{noSizeYet, origin, initializedOf, pastHalf, characterIn, leavesSwitch, withModes, withSize, withStop, withCarriage, withHeight, withCut, toCarriage, toHeight, flashOf, escapeOf, leadOf, instructionEffect, codeEffect, effectOf}
+use Rattle.typesetter.specs.Machine.{noSizeYet, origin, initializedOf, pastHalf, characterIn, leavesSwitch, withModes, withSize, withStop, offSwitchAt, withHeight, withCut, toCarriage, toHeight, flashOf, escapeOf, leadOf, instructionEffect, codeEffect, byteEffect}
 
 pub data Turning : Instruction → Type 0 where
   rails : {up : Bool} → Turning (Rail up)
@@ -54,7 +54,7 @@ pub data Causes (s : State) : Code → Effect → Type 0 where
   stops : s .stopped ≡ false → Causes s (Instructs Stop) (Moved (withStop s))
   cuts : s .stopped ≡ false → Causes s (Instructs Cut) (PageEnded (withCut s))
   leads : {n : ℕ} {h : Quanta} → s .stopped ≡ false → heightAt (s .height .0 +ℤ directedBy (s .modes .«lead_back») n) ≡ height.At h → Causes s (Instructs (Lead n)) (Moved (withHeight s h))
-  escapes : {n : ℕ} {c : Units} → InRange carriageEnd (c .0) → Causes s (Instructs (Escape n)) (Moved (withCarriage s c))
+  escapes : {n : ℕ} {c : Units} → InRange carriageEnd (c .0) → Causes s (Instructs (Escape n)) (Moved (offSwitchAt s c))
 
 pub at-origin : InRange carriageEnd (origin .0)
 at-origin = record { low = omega integers; high = omega integers }
@@ -91,8 +91,8 @@ module _ (s : State) where
       let k = Instructs (Escape n) in
       let back = s .modes .«escape_back» in
       let z = s .carriage .0 +ℤ directedBy back n in
-      either-way k (s .parked) (cond (leavesSwitch back n) (Moved (withCarriage s origin)) (Refused stillParked)) (toCarriage s (carriageAt z))
-      (λ _. either-way k (leavesSwitch back n) (Moved (withCarriage s origin)) (Refused stillParked) (λ _. escapes at-origin) (refused-if k stillParked (lit≤ tt, lit≤ tt)))
+      either-way k (s .parked) (cond (leavesSwitch back n) (Moved (offSwitchAt s origin)) (Refused stillParked)) (toCarriage s (carriageAt z))
+      (λ _. either-way k (leavesSwitch back n) (Moved (offSwitchAt s origin)) (Refused stillParked) (λ _. escapes at-origin) (refused-if k stillParked (lit≤ tt, lit≤ tt)))
       (λ _. causes-carriage n z (carriageAt z) refl)
 
   causes-instruction : (o : Instruction) → s .stopped ≡ false → Causes s (Instructs o) (instructionEffect s o)
@@ -123,8 +123,8 @@ module _ (s : State) where
       either-way k (s .stopped) (Refused afterStop) (instructionEffect s o) (refused-if k afterStop (lit≤ tt, lit≤ tt)) (causes-instruction o)))
       (refused-if k notInitialized (lit≤ tt, lit≤ tt))
 
-  pub causes : (b : ℕ) {x : Effect} → effectOf s b ≡ x → Causes s (codeOf (s .machine) b) x
-  unfolding effectOf
+  pub causes : (b : ℕ) {x : Effect} → byteEffect s b ≡ x → Causes s (codeOf (s .machine) b) x
+  unfolding byteEffect
   causes b e = subst (Causes s (codeOf (s .machine) b)) e (causes-code (codeOf (s .machine) b))
 
   abbrev pub FaultOf : Effect → Type 0
@@ -133,7 +133,7 @@ module _ (s : State) where
   FaultOf (PageEnded t) = Unit {0}
   FaultOf (Refused n) = IsFault n
 
-  pub fault-effect : (b : ℕ) {x : Effect} → effectOf s b ≡ x → FaultOf x
+  pub fault-effect : (b : ℕ) {x : Effect} → byteEffect s b ≡ x → FaultOf x
   fault-effect b e = go (causes b e)
     where
       go : {k : Code} {x : Effect} → Causes s k x → FaultOf x
@@ -167,8 +167,8 @@ module _ (s : State) where
   kept-by (leads f e) = refl
   kept-by (escapes r) = refl
 
-  pub moved-machine : (b : ℕ) {t : State} → effectOf s b ≡ Moved t → t .machine ≡ s .machine
+  pub moved-machine : (b : ℕ) {t : State} → byteEffect s b ≡ Moved t → t .machine ≡ s .machine
   moved-machine b e = kept-by (causes b e)
 
-  pub page-ended-machine : (b : ℕ) {t : State} → effectOf s b ≡ PageEnded t → t .machine ≡ s .machine
+  pub page-ended-machine : (b : ℕ) {t : State} → byteEffect s b ≡ PageEnded t → t .machine ≡ s .machine
   page-ended-machine b e = kept-by (causes b e)

@@ -1,12 +1,13 @@
 -- The machine of document 01, "Tape codes", and document 02, "The other machine" and "Software cuts": its state, and what one code does to it.
---     start           the state before the first code
---     initializedOf   a state after initialize
---     fontIn          the font in force, 1 to 4 or 1 to 8
---     characterIn     the character that a flash sets
---     flashOf         the effect of a flash, and so on: escapeOf, leadOf
---     instructionEffect         the effect of a code other than 00 and initialize, on an initialized machine before stop
---     codeEffect      the effect of a code, by its class
---     effectOf        the effect of a byte
+--     withEscape .. withTilt       the modes with one of them set
+--     withModes .. withHeight      a state with one part set
+--     offSwitchAt, withCut         a state after an escape, and after a cut
+--     start, initializedOf         the state before the first code, and a state after initialize
+--     fontIn, characterIn          the font in force, 1 to 4 or 1 to 8, and the character that a flash sets
+--     flashOf, escapeOf, leadOf    the effect of a flash, an escape and a lead
+--     instructionEffect            the effect of a code other than 00 and initialize, on an initialized machine that has neither stopped nor cut
+--     codeEffect                   the effect of a code, by its class
+--     byteEffect                     the effect of a byte
 use Prim.Native.Nat.{ℕ, _+_, _*_}
 use mathlib.Core.Bool.{Bool, true, false, cond}
 use lib.Dec.{leb, ltb, eqb}
@@ -55,7 +56,7 @@ withMag m b = record { «escape_back» = m .«escape_back»; «lead_back» = m .
 abbrev pub withTilt : Modes → Bool → Modes
 withTilt m b = record { «escape_back» = m .«escape_back»; «lead_back» = m .«lead_back»; «upper_half» = m .«upper_half»; «upper_rail» = m .«upper_rail»; «upper_mag» = m .«upper_mag»; «tilt_down» = b }
 
--- a state with other modes, size, place or height
+-- a state with other modes, size, stop, carriage or height
 abbrev pub withModes : State → Modes → State
 withModes s m = record { machine = s .machine; initialized = s .initialized; parked = s .parked; stopped = s .stopped; cut = s .cut; modes = m; size = s .size; carriage = s .carriage; height = s .height }
 
@@ -66,10 +67,14 @@ abbrev pub withStop : State → State
 withStop s = record { machine = s .machine; initialized = s .initialized; parked = s .parked; stopped = true; cut = s .cut; modes = s .modes; size = s .size; carriage = s .carriage; height = s .height }
 
 abbrev pub withCarriage : State → Units → State
-withCarriage s c = record { machine = s .machine; initialized = s .initialized; parked = false; stopped = s .stopped; cut = s .cut; modes = s .modes; size = s .size; carriage = c; height = s .height }
+withCarriage s c = record { machine = s .machine; initialized = s .initialized; parked = s .parked; stopped = s .stopped; cut = s .cut; modes = s .modes; size = s .size; carriage = c; height = s .height }
 
 abbrev pub withHeight : State → Quanta → State
 withHeight s h = record { machine = s .machine; initialized = s .initialized; parked = s .parked; stopped = s .stopped; cut = s .cut; modes = s .modes; size = s .size; carriage = s .carriage; height = h }
+
+-- an escape: the carriage at c, off the left switch
+abbrev pub offSwitchAt : State → Units → State
+offSwitchAt s c = record { machine = s .machine; initialized = s .initialized; parked = false; stopped = s .stopped; cut = s .cut; modes = s .modes; size = s .size; carriage = c; height = s .height }
 
 -- a cut: height 0, and initialize has to come
 abbrev pub withCut : State → State
@@ -155,7 +160,7 @@ leavesSwitch false n = eqb n 16
 
 -- 7 where the carriage, or the height, would leave its range
 abbrev pub toCarriage : State → Carriage → Effect
-toCarriage s (carriage.At c) = Moved (withCarriage s c)
+toCarriage s (carriage.At c) = Moved (offSwitchAt s c)
 toCarriage s carriage.Outside = Refused outOfRange
 
 abbrev pub toHeight : State → Height → Effect
@@ -166,7 +171,7 @@ toHeight s height.Outside = Refused outOfRange
 unfoldable pub escapeOf : State → ℕ → Effect
 escapeOf s n =
     cond (s .parked)
-    (cond (leavesSwitch (s .modes .«escape_back») n) (Moved (withCarriage s origin)) (Refused stillParked))
+    (cond (leavesSwitch (s .modes .«escape_back») n) (Moved (offSwitchAt s origin)) (Refused stillParked))
     (toCarriage s (carriageAt (s .carriage .0 +ℤ directedBy (s .modes .«escape_back») n)))
 
 -- a lead of n, parked or not
@@ -200,5 +205,5 @@ codeEffect s (Instructs o) =
     (cond (s .cut) (Refused afterCut) (cond (s .stopped) (Refused afterStop) (instructionEffect s o)))
     (Refused notInitialized)
 
-unfoldable pub effectOf : State → ℕ → Effect
-effectOf s b = codeEffect s (codeOf (s .machine) b)
+unfoldable pub byteEffect : State → ℕ → Effect
+byteEffect s b = codeEffect s (codeOf (s .machine) b)

@@ -1,4 +1,8 @@
 -- Every step from a sound state leaves a sound state or sets a valid character.
+--     start-sound                       the state before the first code is sound
+--     stays-sound, page-ended-sound     a sound state again
+--     flashed-valid                     a valid character
+--     font-range                        the font in force is 1 to 8
 -- Assumes nothing.
 use mathlib.Core.Path.{_≡_, refl, ap, _∙_}
 use mathlib.Core.Bool.{Bool, true, false, cond}
@@ -27,7 +31,7 @@ use Rattle.typesetter.specs.declared.machine.State.{State}
 use Rattle.typesetter.specs.declared.machine.Effect.{Effect}
 use Rattle.typesetter.specs.declared.machine.Effect.the-variants.{Moved, Flashed, PageEnded, Refused}
 use Rattle.typesetter.specs.Code.{tiltOf, codeOf, controls}
-use Rattle.typesetter.specs.Machine.{start, pairOf, fontAt, fontIn, pastHalf, codeIn, characterIn, effectOf}
+use Rattle.typesetter.specs.Machine.{start, pairOf, fontAt, fontIn, pastHalf, codeIn, characterIn, byteEffect}
 use Rattle.typesetter.specs.EffectLaws.{Causes, refuses, ignores, initializes, flashes, turns, sizes, stops, cuts, leads, escapes, causes, at-origin}
 use Rattle.typesetter.specs.Sound.{Sound}
 
@@ -159,16 +163,16 @@ module _ (s : State) (r : Sound s) where
   good-by f (leads {n} {h} p e) = record { carriage-in = r .carriage-in; height-in = height-in (s .height .0 +ℤ directedBy (s .modes .«lead_back») n) h e .1 }
   good-by f (escapes c) = record { carriage-in = c; height-in = r .height-in }
 
-  good : (b : ℕ) {x : Effect} → effectOf s b ≡ x → Good x
+  good : (b : ℕ) {x : Effect} → byteEffect s b ≡ x → Good x
   good b e = good-by (fine-code (s .machine) b) (causes s b e)
 
-  pub stays-sound : (b : ℕ) {t : State} → effectOf s b ≡ Moved t → Sound t
+  pub stays-sound : (b : ℕ) {t : State} → byteEffect s b ≡ Moved t → Sound t
   stays-sound b e = good b e
 
-  pub page-ended-sound : (b : ℕ) {t : State} → effectOf s b ≡ PageEnded t → Sound t
+  pub page-ended-sound : (b : ℕ) {t : State} → byteEffect s b ≡ PageEnded t → Sound t
   page-ended-sound b e = good b e
 
-  pub flashed-valid : (b : ℕ) {c : Character} → effectOf s b ≡ Flashed c → valid heightEnd c ≡ true
+  pub flashed-valid : (b : ℕ) {c : Character} → byteEffect s b ≡ Flashed c → valid heightEnd c ≡ true
   flashed-valid b e = good b e
 
 pub start-sound : (machine : Machine) → Sound (start machine)

@@ -1,21 +1,14 @@
-// The C/A/T: its state, and what one code does to it (document 01, "Tape codes").
-use crate::code;
-use crate::code::Code;
-use crate::code::Instruction;
+// The C/A/T (document 01, "Tape codes"): its state, the effects that a code can have, and the font and the character in force.
 use crate::code::Machine;
 use galley_file::character::Character;
 use galley_file::font;
-use measure::Carriage;
-use measure::Height;
 use measure::Quanta;
 use measure::Units;
-use octets::answer;
 ghost use mathlib.Core.Path.{_≡_};
 ghost use mathlib.Core.Bool.{false};
 ghost use Prim.Native.Nat.{_≤_, _<_};
 ghost use Rattle.galley_file.specs.Font.{fontNumber};
-ghost use Rattle.typesetter.specs.Machine.{start, firstModes, initializedOf, pairOf, fontIn, pastHalf, codeIn, flashOf, escapeOf, leadOf, withSize, withStop, withCut, instructionEffect, effectOf};
-ghost use Rattle.typesetter.specs.Sound.{Sound};
+ghost use Rattle.typesetter.specs.Machine.{start, firstModes, noSizeYet, initializedOf, pairOf, fontIn, pastHalf, codeIn};
 
 // What initialize resets.
 pub struct Modes {
@@ -50,9 +43,6 @@ pub enum Effect {
 }
 
 pub const NO_SIZE_YET: u8 = font::SIZES;
-
-// The escape that leaves the left switch.
-const FIRST_ESCAPE: u8 = 16;
 
 // The flashes of the lower and of the upper half.
 pub const LOWER_HALF: u8 = 63;
@@ -140,14 +130,14 @@ fn font_in(machine: Machine, m: Modes) -> u8
 
 // The font number in force.
 pub fn number_in(machine: Machine, m: Modes, size: u8) -> u8
-    requires { ⌜ size < 15 ⌝ }
+    requires { ⌜ size < noSizeYet ⌝ }
     ensures { λ r. ⌜ r ≡ fontNumber (fontIn machine m) size ⌝ }
 {
     font::font_number(font_in(machine, m), size)
 }
 
 // Whether a flash of v is past the end of the half.
-fn past_half(upper: bool, v: u8) -> bool
+pub fn past_half(upper: bool, v: u8) -> bool
     ensures { λ r. ⌜ r ≡ pastHalf upper v ⌝ }
 {
     if upper { UPPER_HALF < v } else { false }
@@ -159,169 +149,4 @@ pub fn code_in(upper: bool, v: u8) -> u8
     ensures { λ r. ⌜ r ≡ codeIn upper v ⌝ }
 {
     if upper { LOWER_HALF + v } else { v }
-}
-
-fn flash(s: State, v: u8) -> Effect
-    requires { ⌜ Sound s ⌝ }
-    ensures { λ r. ⌜ r ≡ flashOf s v ⌝ }
-{
-    let size = s.size;
-    let upper = s.modes.upper_half;
-    if s.parked {
-        return Effect::Refused(answer::PARKED);
-    }
-    if NO_SIZE_YET <= size {
-        return Effect::Refused(answer::NO_SIZE);
-    }
-    if past_half(upper, v) {
-        return Effect::Refused(answer::ABOVE_HALF);
-    }
-    let x = s.carriage.x(font::is_double(size));
-    let height = s.height;
-    let machine = s.machine;
-    let number = number_in(machine, s.modes, size);
-    let code = code_in(upper, v);
-    Effect::Flashed(Character {
-        x: x,
-        height: height,
-        font: number,
-        code: code,
-    })
-}
-
-fn escape(s: State, by: u8) -> Effect
-    ensures { λ r. ⌜ r ≡ escapeOf s by ⌝ }
-{
-    let mut next = s;
-    if s.parked {
-        if s.modes.escape_back {
-            return Effect::Refused(answer::PARKED);
-        }
-        if by != FIRST_ESCAPE {
-            return Effect::Refused(answer::PARKED);
-        }
-        let origin = Units(0);
-        next.parked = false;
-        next.carriage = origin;
-        return Effect::Moved(next);
-    }
-    match s.carriage.escape(by, s.modes.escape_back) {
-        Carriage::Outside => Effect::Refused(answer::OUT_OF_RANGE),
-        Carriage::At(c) => {
-            next.carriage = c;
-            Effect::Moved(next)
-        }
-    }
-}
-
-fn lead(s: State, by: u8) -> Effect
-    ensures { λ r. ⌜ r ≡ leadOf s by ⌝ }
-{
-    match s.height.lead(by, s.modes.lead_back) {
-        Height::Outside => Effect::Refused(answer::OUT_OF_RANGE),
-        Height::At(h) => {
-            let mut next = s;
-            next.height = h;
-            Effect::Moved(next)
-        }
-    }
-}
-
-fn with_size(s: State, index: u8) -> State
-    ensures { λ r. ⌜ r ≡ withSize s index ⌝ }
-{
-    let mut next = s;
-    next.size = index;
-    next
-}
-
-fn with_stop(s: State) -> State
-    ensures { λ r. ⌜ r ≡ withStop s ⌝ }
-{
-    let mut next = s;
-    next.stopped = true;
-    next
-}
-
-// A cut ends the page; the next starts at height 0, with initialize.
-fn with_cut(s: State) -> State
-    ensures { λ r. ⌜ r ≡ withCut s ⌝ }
-{
-    let mut next = s;
-    let top = Quanta(0);
-    next.cut = true;
-    next.height = top;
-    next
-}
-
-// A code other than 00 and initialize, on an initialized machine that has neither stopped nor cut.
-fn execute(s: State, o: Instruction) -> Effect
-    requires { ⌜ Sound s ⌝ }
-    ensures { λ r. ⌜ r ≡ instructionEffect s o ⌝ }
-{
-    let mut next = s;
-    match o {
-        Instruction::Flash(v) => flash(s, v),
-        Instruction::Rail(up) => {
-            next.modes.upper_rail = up;
-            Effect::Moved(next)
-        }
-        Instruction::Mag(up) => {
-            next.modes.upper_mag = up;
-            Effect::Moved(next)
-        }
-        Instruction::Half(up) => {
-            next.modes.upper_half = up;
-            Effect::Moved(next)
-        }
-        Instruction::EscapeWay(back) => {
-            next.modes.escape_back = back;
-            Effect::Moved(next)
-        }
-        Instruction::LeadWay(back) => {
-            next.modes.lead_back = back;
-            Effect::Moved(next)
-        }
-        Instruction::Tilt(down) => {
-            next.modes.tilt_down = down;
-            Effect::Moved(next)
-        }
-        Instruction::Size(index) => Effect::Moved(with_size(s, index)),
-        Instruction::Stop => Effect::Moved(with_stop(s)),
-        Instruction::Cut => Effect::PageEnded(with_cut(s)),
-        Instruction::Lead(by) => lead(s, by),
-        Instruction::Escape(by) => escape(s, by),
-    }
-}
-
-// One code.
-pub fn step(s: State, b: u8) -> Effect
-    requires { ⌜ Sound s ⌝ }
-    ensures { λ r. ⌜ r ≡ effectOf s b ⌝ }
-{
-    let machine = s.machine;
-    match code::classify(machine, b) {
-        Code::Ignored => Effect::Moved(s),
-        Code::Illegal => Effect::Refused(answer::ILLEGAL_CODE),
-        Code::Initialize => {
-            if s.stopped {
-                Effect::Refused(answer::AFTER_STOP)
-            } else {
-                Effect::Moved(initialized(s))
-            }
-        }
-        Code::Instructs(o) => {
-            if s.initialized {
-                if s.cut {
-                    Effect::Refused(answer::AFTER_CUT)
-                } else if s.stopped {
-                    Effect::Refused(answer::AFTER_STOP)
-                } else {
-                    execute(s, o)
-                }
-            } else {
-                Effect::Refused(answer::NOT_INITIALIZED)
-            }
-        }
-    }
 }

@@ -8,14 +8,14 @@ use native.Mathlib.Omega.{arith}
 use lib.IntN.{ℤ, pos, _+ℤ_}
 use Rattle.octets.specs.Octets.{fits32}
 use Rattle.sheet.specs.Sheet.{charMark}
-use Rattle.xgp.specs.declared.code.Code.the-variants.{Char}
-use Rattle.xgp.specs.declared.code.Decoded.the-variants.{Whole}
+use Rattle.xgp_code.specs.declared.Code.the-variants.{Char}
+use Rattle.xgp_code.specs.declared.Decoded.the-variants.{Whole}
 use Rattle.xgp.specs.declared.state.State.{State}
-use Rattle.xgp.specs.Measure.{inDots}
-use Rattle.xgp.specs.Code.{read, decode}
+use Rattle.xgp_code.specs.Measure.{inDots}
+use Rattle.xgp_code.specs.Code.{read, decode}
 use Rattle.xgp.specs.State.{withX, afterChar, moved, pageMarks, setMarks, yIn, widthIn, setChar, effect}
 use Rattle.xgp.specs.File.{goOn, afterEffect, afterCode, step}
-use Rattle.xgp.proofs.Codes.{decode-row, us-normal}
+use Rattle.xgp_code.proofs.Codes.{decode-row, us-normal}
 
 plain-code : (b : ℕ) (bs : List ℕ) → 14 ≤ b → b < 127 → decode b bs ≡ Whole (Char b) 0
 unfolding read

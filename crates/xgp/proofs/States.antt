@@ -7,7 +7,7 @@ use Prim.Native.Nat.{ℕ}
 use lib.IntN.{ℤ}
 use Rattle.octets.specs.Octets.{fits32}
 use Rattle.octets.specs.Answer.{outOf32Bits}
-use Rattle.xgp.specs.Measure.{inDots, inLines}
+use Rattle.xgp_code.specs.Measure.{inDots, inLines}
 use Rattle.xgp.specs.State.{fault, moved, withX, withBaseline, afterChar, setMarks, toX, toBaseline, setChar}
 use Rattle.xgp.specs.declared.state.State.{State}
 

@@ -8,7 +8,7 @@ use Rattle.sheet.specs.Sheet.{pageMark, charMark}
 use Rattle.sheet.specs.Shown.{Shown, refusedAt, shows}
 use Rattle.octets.specs.Octets.{twos, fits32}
 use Rattle.sheet.specs.Shown as F
-use Rattle.xgp.specs.Code.{columns, adjusts, increments, operations, escaped, usual, ofSevenBits, oneMore, read, decode}
+use Rattle.xgp_code.specs.Code.{columns, adjusts, increments, operations, escaped, usual, ofSevenBits, oneMore, read, decode}
 use Rattle.xgp.specs.State.{start, withX, withBaseline, withAdjust, withFont, nextPage, afterChar, pageMarks, setMarks, yIn, widthIn, toX, toBaseline, setChar, effect}
 use Rattle.xgp.specs.File.{afterEffect, afterCode, step, follow, run, readXgp}
 

@@ -8,10 +8,10 @@ use mathlib.Core.List.{List, [], _∷_}
 use lib.IntN.{ℤ}
 use Rattle.sheet.specs.Sheet.{Mark}
 use Rattle.sheet.specs.Shown.{Shown, refusedAt, shows, showsFirst}
-use Rattle.xgp.specs.Code.{decode}
+use Rattle.xgp_code.specs.Code.{decode}
 use Rattle.xgp.specs.State.{start, Effect, fault, moved, effect}
-use Rattle.xgp.specs.declared.code.Decoded.{Decoded}
-use Rattle.xgp.specs.declared.code.Decoded.the-variants.{Fault, Whole}
+use Rattle.xgp_code.specs.declared.Decoded.{Decoded}
+use Rattle.xgp_code.specs.declared.Decoded.the-variants.{Fault, Whole}
 use Rattle.xgp.specs.declared.state.State.{State}
 
 pub data Step : Type 0 where

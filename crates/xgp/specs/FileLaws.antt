@@ -17,15 +17,15 @@ use Rattle.octets.specs.Octets.{fits32}
 use Rattle.octets.specs.OctetsLaws.{by-cond}
 use Rattle.sheet.specs.Sheet.{Mark, pageMark, charMark}
 use Rattle.sheet.specs.Shown.{refusedAt, shows, showsFirst}
-use Rattle.xgp.specs.Measure.{inDots, inLines}
-use Rattle.xgp.specs.Code.{decode}
-use Rattle.xgp.specs.CodeLaws.{Held, decode-held}
+use Rattle.xgp_code.specs.Measure.{inDots, inLines}
+use Rattle.xgp_code.specs.Code.{decode}
+use Rattle.xgp_code.specs.CodeLaws.{Held, decode-held}
 use Rattle.xgp.specs.State.{withX, withBaseline, withAdjust, withFont, nextPage, afterChar, Effect, fault, moved, pageMarks, setMarks, yIn, widthIn, toX, toBaseline, setChar, effect}
 use Rattle.xgp.specs.File.{Step, refuse, goOn, afterEffect, afterCode, step, follow, run}
-use Rattle.xgp.specs.declared.code.Code.{Code}
-use Rattle.xgp.specs.declared.code.Code.the-variants.{Null, Char, LineFeed, FormFeed, Return, Font, Column, Increment, Adjust}
-use Rattle.xgp.specs.declared.code.Decoded.{Decoded}
-use Rattle.xgp.specs.declared.code.Decoded.the-variants.{Fault, Whole}
+use Rattle.xgp_code.specs.declared.Code.{Code}
+use Rattle.xgp_code.specs.declared.Code.the-variants.{Null, Char, LineFeed, FormFeed, Return, Font, Column, Increment, Adjust}
+use Rattle.xgp_code.specs.declared.Decoded.{Decoded}
+use Rattle.xgp_code.specs.declared.Decoded.the-variants.{Fault, Whole}
 use Rattle.xgp.specs.declared.state.State.{State}
 
 -- ---- what holds of every step

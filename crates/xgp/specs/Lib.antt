@@ -1,7 +1,4 @@
 -- XGP character mode (003), and the sheet that a file of it makes (document 02, "The XGP drawer").
-pub mod Measure
-pub mod Code
-pub mod CodeLaws
 pub mod State
 pub mod Effect
 pub mod File

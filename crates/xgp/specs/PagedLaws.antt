@@ -11,13 +11,13 @@ use Rattle.octets.specs.Octets.{fits32}
 use Rattle.octets.specs.OctetsLaws.{by-cond}
 use Rattle.sheet.specs.Sheet.{Mark, pageMark, charMark}
 use Rattle.sheet.specs.Shown.{shows}
-use Rattle.xgp.specs.CodeLaws.{InPart}
+use Rattle.xgp_code.specs.CodeLaws.{InPart}
 use Rattle.xgp.specs.State.{start, withX, withBaseline, withAdjust, withFont, nextPage, afterChar, pageMarks, setMarks, yIn, widthIn, toX, toBaseline, setChar, effect}
 use Rattle.xgp.specs.File.{readXgp}
 use Rattle.xgp.specs.FileLaws.{due}
 use Rattle.xgp.specs.RunLaws.{Onward, run-all}
-use Rattle.xgp.specs.declared.code.Code.{Code}
-use Rattle.xgp.specs.declared.code.Code.the-variants.{Null, Char, LineFeed, FormFeed, Return, Font, Column, Increment, Adjust}
+use Rattle.xgp_code.specs.declared.Code.{Code}
+use Rattle.xgp_code.specs.declared.Code.the-variants.{Null, Char, LineFeed, FormFeed, Return, Font, Column, Increment, Adjust}
 use Rattle.xgp.specs.declared.state.State.{State}
 
 -- ---- "A page field stands before a page's first character, its number 1 more than the FFs before it"

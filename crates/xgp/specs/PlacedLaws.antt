@@ -13,14 +13,14 @@ use Rattle.octets.specs.OctetsLaws.{by-cond}
 use Rattle.octets.specs.FieldLaws.{both}
 use Rattle.sheet.specs.Sheet.{Mark, pageMark, charMark, ruleMark}
 use Rattle.sheet.specs.Shown.{shows}
-use Rattle.xgp.specs.Measure.{inDots, inLines}
-use Rattle.xgp.specs.CodeLaws.{InPart}
+use Rattle.xgp_code.specs.Measure.{inDots, inLines}
+use Rattle.xgp_code.specs.CodeLaws.{InPart}
 use Rattle.xgp.specs.State.{start, withX, withBaseline, withAdjust, withFont, nextPage, afterChar, moved, pageMarks, setMarks, yIn, widthIn, toX, toBaseline, setChar, effect}
 use Rattle.xgp.specs.File.{readXgp}
 use Rattle.xgp.specs.RunLaws.{Onward, run-all}
-use Rattle.xgp.specs.declared.code.Code.{Code}
-use Rattle.xgp.specs.declared.code.Code.the-variants.{Null, Char, LineFeed, FormFeed, Return, Font, Column, Increment, Adjust}
-use Rattle.xgp.specs.declared.measure.Dots.{Dots}
+use Rattle.xgp_code.specs.declared.Code.{Code}
+use Rattle.xgp_code.specs.declared.Code.the-variants.{Null, Char, LineFeed, FormFeed, Return, Font, Column, Increment, Adjust}
+use Rattle.xgp_code.specs.declared.measure.Dots.{Dots}
 use Rattle.xgp.specs.declared.state.State.{State}
 
 pub record PlacedChar (x y f : ℤ) (c : ℕ) : Type 0 where

@@ -5,18 +5,18 @@
 use mathlib.Core.Path.{_≡_, refl, subst}
 use mathlib.Core.List.{List, [], _∷_, _++_}
 use Prim.Native.Nat.{ℕ, zero, suc}
-use native.Mathlib.Omega.{arith}
+use native.Mathlib.Nat.{suc-ne-zero}
 use lib.IntN.{ℤ}
 use Rattle.sheet.specs.Sheet.{Mark}
 use Rattle.sheet.specs.Shown.{Shown, refusedAt, shows, showsFirst}
 use Rattle.sheet.specs.ShownLaws.{showsFirst-nil}
-use Rattle.xgp.specs.Code.{ofSevenBits, usual, read, decode}
-use Rattle.xgp.specs.CodeLaws.{InPart, Known, decode-known}
+use Rattle.xgp_code.specs.Code.{ofSevenBits, usual, read, decode}
+use Rattle.xgp_code.specs.CodeLaws.{InPart, Known, decode-known}
 use Rattle.xgp.specs.State.{Effect, fault, moved, effect}
 use Rattle.xgp.specs.File.{Step, refuse, goOn, afterEffect, afterCode, step, follow, run}
-use Rattle.xgp.specs.declared.code.Code.{Code}
-use Rattle.xgp.specs.declared.code.Decoded.{Decoded}
-use Rattle.xgp.specs.declared.code.Decoded.the-variants.{Fault, Whole}
+use Rattle.xgp_code.specs.declared.Code.{Code}
+use Rattle.xgp_code.specs.declared.Decoded.{Decoded}
+use Rattle.xgp_code.specs.declared.Decoded.the-variants.{Fault, Whole}
 use Rattle.xgp.specs.declared.state.State.{State}
 
 -- ---- "Null - byte is ignored"
@@ -54,12 +54,12 @@ module _ (ws : List ℤ) (spacing : ℕ) (P : State → List Mark → Type 0) wh
 
     joined : (s t : State) (ns : List Mark) (r : Shown) (ms : List Mark) → ((ks : List Mark) → P t ks → P s (ns ++ ks)) → ((ks : List Mark) → r ≡ shows ks → P t ks) → showsFirst ns r ≡ shows ms → P s ms
     unfolding showsFirst
-    joined s t ns (refusedAt k at) ms f g e = let z : _≡_ {A = ℕ} 0 1 = cc in absurd (omega arith)
+    joined s t ns (refusedAt k at) ms f g e = absurd (suc-ne-zero 0 cc)
     joined s t ns (shows ks) ms f g e = let d : ns ++ ks ≡ ms = cc in subst (P s) d (f ks (g ks refl))
 
     followed : (s : State) (at : ℕ) (k : Step) (rest : State → ℕ → Shown) (ms : List Mark) → Steps s k → ((t : State) (n : ℕ) (ks : List Mark) → rest t n ≡ shows ks → P t ks) → follow at k rest ≡ shows ms → P s ms
     unfolding follow
-    followed s at (refuse r) rest ms h g e = let z : _≡_ {A = ℕ} 0 1 = cc in absurd (omega arith)
+    followed s at (refuse r) rest ms h g e = absurd (suc-ne-zero 0 cc)
     followed s at (goOn t ns n) rest ms h g e = joined s t ns (rest t n) ms h (g t n) e
 
     pub run-all : (bs : List ℕ) (at n : ℕ) (s : State) (ms : List Mark) → run ws spacing at s n bs ≡ shows ms → P s ms

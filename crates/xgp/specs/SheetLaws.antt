@@ -6,12 +6,12 @@ use mathlib.Core.Path.{_≡_, refl, ap, _∙_}
 use mathlib.Core.Bool.{Bool, true, false, cond}
 use mathlib.Core.List.{List}
 use Prim.Native.Nat.{ℕ, _*_, _≤_, _<_}
-use native.Mathlib.Omega.{arith}
+use native.Mathlib.Nat.{suc-ne-zero}
 use borrow.Author.Tests.{ltb-false, eq-eqb, ne-eqb, eqb-true}
 use lib.Dec.{ltb}
 use lib.IntN.{ℤ}
 use lib.ListN.{length}
-use Rattle.octets.specs.Answer.{refusal, written, ifRoom, dviTooLong, widthsNotWhole, noSheetRoom, negativeWidth}
+use Rattle.octets.specs.Answer.{refusal, written, ifRoom, fileTooLong, widthsNotWhole, noSheetRoom, negativeWidth}
 use Rattle.octets.specs.AnswerLaws.{room-made}
 use Rattle.sheet.specs.Sheet.{Mark, sheet}
 use Rattle.sheet.specs.Shown.{Shown, refusedAt, shows, shownResult}
@@ -25,7 +25,7 @@ use Rattle.xgp.specs.PlacedLaws.{Placed, placed}
 -- ---- the tests of the whole call
 
 module _ (file : List ℕ) (spacing : ℕ) (widths : List ℤ) (room : ℕ) where
-  pub too-long : maxFile < length file → xgpResult file spacing widths room ≡ refusal dviTooLong 0
+  pub too-long : maxFile < length file → xgpResult file spacing widths room ≡ refusal fileTooLong 0
   unfolding xgpResult
   too-long h = R.too-long file (fourFonts widths) (shownSheet file spacing widths room) h
 
@@ -62,7 +62,7 @@ pub record Listed (file : List ℕ) (spacing : ℕ) (widths : List ℤ) (bs : Li
 module _ (file : List ℕ) (spacing : ℕ) (widths : List ℤ) (room : ℕ) (bs : List ℕ) where
   by-shown : (x : Shown) → readXgp widths spacing file ≡ x → shownResult x ≡ written bs → length file ≤ maxFile → length widths ≡ 4 * fontChars → anyNegative widths ≡ false → Listed file spacing widths bs
   unfolding shownResult
-  by-shown (refusedAt n at) q e a b c = let z : _≡_ {A = ℕ} 0 1 = cc in absurd (omega arith)
+  by-shown (refusedAt n at) q e a b c = absurd (suc-ne-zero 0 cc)
   by-shown (shows ms) q e a b c =
       record {
         within = a;
@@ -80,10 +80,10 @@ module _ (file : List ℕ) (spacing : ℕ) (widths : List ℤ) (room : ℕ) (bs 
   listed = go (ltb maxFile (length file)) refl (fourFonts widths) refl (anyNegative widths) refl
     where
       go : (t : Bool) → ltb maxFile (length file) ≡ t → (u : Bool) → fourFonts widths ≡ u → (v : Bool) → anyNegative widths ≡ v
-          → cond t (refusal dviTooLong 0) (cond u (cond v (refusal negativeWidth 0) (ifRoom noSheetRoom room (shownResult (readXgp widths spacing file)))) (refusal widthsNotWhole 0)) ≡ written bs
+          → cond t (refusal fileTooLong 0) (cond u (cond v (refusal negativeWidth 0) (ifRoom noSheetRoom room (shownResult (readXgp widths spacing file)))) (refusal widthsNotWhole 0)) ≡ written bs
           → Listed file spacing widths bs
-      go true a u b v c e = let z : _≡_ {A = ℕ} 0 1 = cc in absurd (omega arith)
-      go false a false b v c e = let z : _≡_ {A = ℕ} 0 1 = cc in absurd (omega arith)
-      go false a true b true c e = let z : _≡_ {A = ℕ} 0 1 = cc in absurd (omega arith)
+      go true a u b v c e = absurd (suc-ne-zero 0 cc)
+      go false a false b v c e = absurd (suc-ne-zero 0 cc)
+      go false a true b true c e = absurd (suc-ne-zero 0 cc)
       go false a true b false c e =
           by-shown (readXgp widths spacing file) refl (room-made noSheetRoom room (shownResult (readXgp widths spacing file)) bs e) (ltb-false maxFile (length file) a) (eqb-true (length widths) (4 * fontChars) b) c

@@ -12,11 +12,11 @@ use Rattle.octets.specs.Octets.{fits32}
 use Rattle.octets.specs.Answer.{outOf32Bits}
 use Rattle.sheet.specs.Sheet.{Mark, pageMark, charMark}
 use Rattle.sheet.specs.Readable.{fontChars}
-use Rattle.xgp.specs.Measure.{inDots, inLines}
-use Rattle.xgp.specs.declared.code.Code.{Code}
-use Rattle.xgp.specs.declared.code.Code.the-variants.{Null, Char, LineFeed, FormFeed, Return, Font, Column, Increment, Adjust}
-use Rattle.xgp.specs.declared.measure.Dots.{Dots}
-use Rattle.xgp.specs.declared.measure.Lines.{Lines}
+use Rattle.xgp_code.specs.Measure.{inDots, inLines}
+use Rattle.xgp_code.specs.declared.Code.{Code}
+use Rattle.xgp_code.specs.declared.Code.the-variants.{Null, Char, LineFeed, FormFeed, Return, Font, Column, Increment, Adjust}
+use Rattle.xgp_code.specs.declared.measure.Dots.{Dots}
+use Rattle.xgp_code.specs.declared.measure.Lines.{Lines}
 use Rattle.xgp.specs.declared.state.State.{State}
 
 -- ---- the state

@@ -1,4 +1,2 @@
-// XGP character mode (003): its codes, and what each does (document 02, "The XGP drawer").
-pub mod code;
-pub mod measure;
+// XGP character mode (003): where the printer stands, and what each code does (document 02, "The XGP drawer").
 pub mod state;

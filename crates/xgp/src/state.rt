@@ -1,9 +1,9 @@
 // Where the printer stands, and what each code does (document 02, "The XGP drawer").
-use crate::code::Code;
-use crate::measure::Dots;
-use crate::measure::Lines;
 use octets::reach;
 use octets::reach::Reach;
+use xgp_code::Code;
+use xgp_code::measure::Dots;
+use xgp_code::measure::Lines;
 ghost use mathlib.Core.Path.{_≡_};
 ghost use mathlib.Core.List.{[]};
 ghost use Prim.Native.Nat.{_+_, _*_, _≤_};

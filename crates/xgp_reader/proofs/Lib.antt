@@ -1,4 +1,2 @@
-mod Puts
 mod Passes
 mod Widths
-mod Stretches

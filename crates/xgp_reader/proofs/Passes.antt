@@ -10,10 +10,12 @@ use lib.ListN.{length, getD, drop, length-drop}
 use Rattle.sheet.specs.Sheet.{Mark}
 use Rattle.sheet.specs.Shown.{refusedAt, shows, showsFirst}
 use Rattle.sheet.specs.ShownLaws.{showsFirst-nil, showsFirst-append}
-use Rattle.xgp.specs.State.{start}
+use Rattle.xgp_code.specs.Measure.{inDots}
+use Rattle.xgp.specs.State.{start, withX}
 use Rattle.xgp.specs.File.{refuse, goOn, run, readXgp}
 use Rattle.xgp.specs.FileLaws.{due, Few, Sound, step-sound, stepHere, run-next, run-refuse, run-end}
 use Rattle.xgp.specs.declared.state.State.{State}
+use Rattle.xgp_step.specs.Stretch.{Ran}
 
 pub record Standing (ws : List ℤ) (spacing : ℕ) (file : List ℕ) (s : State) (at : ℕ) (ms : List Mark) : Type 0 where
   pub so-far : readXgp ws spacing file ≡ showsFirst ms (run ws spacing at s 0 (drop at file))
@@ -58,3 +60,14 @@ module _ {ws : List ℤ} {spacing : ℕ} {file : List ℕ} {s : State} {at : ℕ
   pub standing-ended : length file ≤ at → readXgp ws spacing file ≡ shows ms
   unfolding showsFirst
   standing-ended h = b .so-far ∙ ap (showsFirst ms) (run-end ws spacing file at s h) ∙ ap shows (append-nil ms)
+
+-- a file read as far as `from`, and the stretch of ordinary characters from there
+module _ (ws : List ℤ) (spacing : ℕ) (file : List ℕ) (s : State) (from : ℕ) where
+  pub standing-stretch : {at : ℕ} {x : ℤ} {ms ns : List Mark} → Standing ws spacing file s from ms → Ran ws spacing file s from at x ns → Standing ws spacing file (withX s (inDots x)) at (ms ++ ns)
+  unfolding withX
+  standing-stretch {at} {x} {ms} {ns} b r =
+      record {
+        so-far = b .so-far ∙ ap (showsFirst ms) (r .so-far) ∙ showsFirst-append ms ns (run ws spacing at (withX s (inDots x)) 0 (drop at file));
+        within = r .within;
+        pages = omega (arith, b .pages, r .long);
+      }

@@ -1,14 +1,13 @@
 // XGP character mode (003), read into sheets with a lent table of widths (document 02, "The XGP drawer").
-mod fields;
-mod step;
-mod stretch;
-
 use octets::answer;
 use octets::answer::Answer;
 use octets::field;
+use octets::pass;
 use octets::pass::Reading;
-use step::Stepped;
 use xgp::state;
+use xgp_step::Stepped;
+use xgp_step::fields;
+use xgp_step::stretch;
 ghost use mathlib.Core.Path.{_≡_};
 ghost use mathlib.Core.Bool.{true};
 ghost use Prim.Native.Nat.{_≤_};
@@ -56,7 +55,7 @@ fn pass(file: &[u8], spacing: u16, widths: &[i32], out: &mut [u8], writing: bool
         s.x = x;
         at = q.next;
         if at < file.len() {
-            let r = step::step(file, spacing, widths, at, s);
+            let r = xgp_step::step(file, spacing, widths, at, s);
             match r {
                 Stepped::Refuse(k) => {
                     return Reading::Fault(k, at);
@@ -84,24 +83,18 @@ fn pass(file: &[u8], spacing: u16, widths: &[i32], out: &mut [u8], writing: bool
 pub fn read_xgp(file: &[u8], spacing: u16, widths: &[i32], sheet: &mut [u8]) -> Answer
     ensures { λ r. ⌜ Gives (outcomeOf r) (xgpResult (now (file .entry)) spacing (now (widths .entry))) (now (sheet .entry)) (now (sheet .exit)) ⌝ }
 {
-    if sheet::MAX_FILE < file.len() {
-        return Answer::Refused(answer::DVI_TOO_LONG, 0);
-    }
-    if widths.len() != FOUR_FONTS {
-        return Answer::Refused(answer::WIDTHS_NOT_WHOLE, 0);
+    let number = sheet::call_refusal(file.len(), widths.len() == FOUR_FONTS);
+    if number != 0 {
+        return Answer::Refused(number, 0);
     }
     if has_negative(widths) {
         return Answer::Refused(answer::NEGATIVE_WIDTH, 0);
     }
     let found = pass(file, spacing, widths, sheet, false);
-    match found {
-        Reading::Needs(needed) => {
-            if sheet.len() < needed {
-                return Answer::Refused(answer::NO_SHEET_ROOM, needed);
-            }
-            pass(file, spacing, widths, sheet, true);
-            Answer::Accepted(needed)
-        }
-        Reading::Fault(n, place) => Answer::Refused(n, place),
-    }
+    let given = pass::answered(found, sheet.len(), answer::NO_SHEET_ROOM);
+    let Answer::Accepted(_) = given else {
+        return given;
+    };
+    pass(file, spacing, widths, sheet, true);
+    given
 }

@@ -21,7 +21,7 @@ impl Refusal {
         let rest = &galley[self.place().min(galley.len())..];
         let expected = match self {
             Refusal::GalleyMalformed { place } => expected_field(form, galley, place),
-            Refusal::TooHigh { .. } => expected_height(rest),
+            Refusal::HeightTooGreat { .. } => expected_height(rest),
             _ => return Explained::new(self),
         };
         let found = format!("{} of the galley: {}", offset(self.place()), bytes_in_words(rest, 11));

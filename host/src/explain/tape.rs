@@ -119,12 +119,12 @@ fn escape_size(code: u8) -> i32 {
 fn expected_code(codes: Stretch, code: u8, machine: Machine, refusal: Refusal) -> String {
     let words = match refusal {
         Refusal::IllegalCode { .. } => expected_legal_code(machine, code),
-        Refusal::BeforeInitialize { .. } => "initialize (40), after nothing but 00",
+        Refusal::NotInitialized { .. } => "initialize (40), after nothing but 00",
         Refusal::AfterStop { .. } => "nothing but 00, since stop was read",
         Refusal::Parked { .. } => "an escape of 16 (EF), forward, since the carriage is parked",
         Refusal::NoSize { .. } => "a size (50 to 5E) before the first flash",
         Refusal::OutOfRange { place } => return expected_motion(codes, code, place),
-        Refusal::UpperHalf { .. } => "a flash of at most 45 (2D), or lower half (45) before it",
+        Refusal::AboveHalf { .. } => "a flash of at most 45 (2D), or lower half (45) before it",
         Refusal::NoStop { .. } => "stop (49)",
         Refusal::AfterCut { .. } => "initialize (40), after nothing but 00, since a cut was read",
         _ => "nothing else",

@@ -20,7 +20,7 @@ impl Refusal {
     /// ```
     pub fn in_xgp(self, file: &[u8], spacing: u16, widths: &[i32]) -> Explained {
         let (found, expected) = match self {
-            Refusal::Widths => (
+            Refusal::WidthsNotWhole => (
                 format!("it has {}", counted(widths.len(), "number")),
                 "512, of which 128 for each of the fonts 0 to 3".into(),
             ),
@@ -31,7 +31,7 @@ impl Refusal {
             Refusal::OutsidePart { place }
             | Refusal::ReservedCode { place }
             | Refusal::CodeCutShort { place }
-            | Refusal::Overflow { place } => {
+            | Refusal::OutOf32Bits { place } => {
                 let rest = &file[place.min(file.len())..];
                 let code = &rest[..length(rest).min(rest.len())];
                 let (bytes, name) = (bytes_in_words(code, 5), name(code));
@@ -112,7 +112,7 @@ fn expected(file: &[u8], spacing: u16, widths: &[i32], code: &[u8], refusal: Ref
             "bytes to 127 (177 octal)".into()
         }
         Refusal::CodeCutShort { .. } => "the rest of the code".into(),
-        Refusal::Overflow { place } => {
+        Refusal::OutOf32Bits { place } => {
             let standing = standing(&file[..place.min(file.len())], spacing, widths);
             let place =
                 standing.map_or(String::new(), |(x, y)| format!("; it stands at x {x}, baseline {y}"));

@@ -63,16 +63,16 @@ static void refuse_tape(const char *what, const uint8_t *bytes, size_t length, s
 static void tapes(void)
 {
     refuse_tape("illegal code", BYTES(0x40, 0xFF), SP_ILLEGAL_CODE, 1);
-    refuse_tape("before initialize", BYTES(0xEF), SP_BEFORE_INITIALIZE, 0);
+    refuse_tape("before initialize", BYTES(0xEF), SP_NOT_INITIALIZED, 0);
     refuse_tape("after stop", BYTES(0x40, 0x49, 0x01), SP_AFTER_STOP, 2);
     refuse_tape("parked", BYTES(0x40, 0xF0), SP_PARKED, 1);
     refuse_tape("no size", BYTES(0x40, 0xEF, 0x01), SP_NO_SIZE, 2);
     refuse_tape("out of range", BYTES(0x40, 0xEF, 0x48, 0xFE), SP_OUT_OF_RANGE, 3);
-    refuse_tape("upper half", BYTES(0x40, 0xEF, 0x46, 0x52, 0x2E), SP_UPPER_HALF, 4);
+    refuse_tape("upper half", BYTES(0x40, 0xEF, 0x46, 0x52, 0x2E), SP_ABOVE_HALF, 4);
     refuse_tape("no stop", BYTES(0x40), SP_NO_STOP, 1);
     refuse_tape("after a cut", BYTES(0x40, 0x4B, 0xEF), SP_AFTER_CUT, 2);
     sp_read_tape(tape, sizeof tape, 8, room, sizeof galley - 1, answer);
-    expect("room for a galley", SP_GALLEY_ROOM, sizeof galley, 0);
+    expect("room for a galley", SP_NO_GALLEY_ROOM, sizeof galley, 0);
     sp_read_tape(tape, sizeof tape, 5, room, sizeof room, answer);
     expect("no machine", SP_NO_MACHINE, 0, 0);
     sp_read_tape(tape, sizeof tape, 4, room, sizeof room, answer);
@@ -98,7 +98,7 @@ static void cut_tape(size_t cut)
     expect_true("second piece", answer[0] == SP_ACCEPTED);
     at += answer[2];
     sp_close(words + 1, joined + at, 6, answer);
-    expect("room for End", SP_GALLEY_ROOM, 7, 0);
+    expect("room for End", SP_NO_GALLEY_ROOM, 7, 0);
     sp_close(words + 1, joined + at, 7, answer);
     expect("close", SP_ACCEPTED, 0, 7);
     sp_extents(words + 1, reach, fonts);
@@ -157,13 +157,13 @@ static void galleys(void)
     expect("read back", SP_ACCEPTED, 0, 0);
     expect_true("the second character", character[0] == 3 && character[1] == 0 && character[2] == 2 && character[3] == 2);
     sp_read_back(galley, sizeof galley, 2, answer, character);
-    expect("no such character", SP_NO_SUCH_CHARACTER, 0, 0);
+    expect("no such character", SP_NO_CHARACTER, 0, 0);
     expect_true("no character", character[0] == 0 && character[1] == 0 && character[2] == 0 && character[3] == 0);
     sp_check_galley(galley, sizeof galley - 1, answer);
     expect("malformed", SP_GALLEY_MALFORMED, 22, 0);
     one_by_one();
     sp_write_dvi(galley, sizeof galley, room, sizeof dvi - 1, answer);
-    expect("room for a DVI file", SP_DVI_ROOM, sizeof dvi, 0);
+    expect("room for a DVI file", SP_NO_DVI_ROOM, sizeof dvi, 0);
 }
 
 static void conversions(void)
@@ -173,12 +173,12 @@ static void conversions(void)
     expect("to new", SP_ACCEPTED, 0, sizeof new_galley);
     expect_true("the new galley", memcmp(made, new_galley, sizeof new_galley) == 0);
     sp_galley_to_new(old_galley, sizeof old_galley, made, sizeof new_galley - 1, answer);
-    expect("room for a new galley", SP_CONVERTED_ROOM, sizeof new_galley, 0);
+    expect("room for a new galley", SP_NO_CONVERTED_ROOM, sizeof new_galley, 0);
     sp_galley_to_old(new_galley, sizeof new_galley, made, sizeof made, answer);
     expect("to old", SP_ACCEPTED, 0, sizeof old_galley);
     expect_true("the old galley", memcmp(made, old_galley, sizeof old_galley) == 0);
     sp_galley_to_old(new_galley, sizeof new_galley, made, sizeof old_galley - 1, answer);
-    expect("room for an old galley", SP_CONVERTED_ROOM, sizeof old_galley, 0);
+    expect("room for an old galley", SP_NO_CONVERTED_ROOM, sizeof old_galley, 0);
 }
 
 static void punches(void)
@@ -189,7 +189,7 @@ static void punches(void)
     expect("punch", SP_ACCEPTED, 0, sizeof punched);
     expect_true("the punched tape", memcmp(made, punched, sizeof punched) == 0);
     sp_punch_tape(galley, sizeof galley, made, sizeof made - 1, answer);
-    expect("room for a tape", SP_TAPE_ROOM, sizeof punched, 0);
+    expect("room for a tape", SP_NO_TAPE_ROOM, sizeof punched, 0);
 }
 
 static void reprints(void)
@@ -200,10 +200,10 @@ static void reprints(void)
     expect_true("the length of its DVI file", answer[3] == sizeof dvi);
     expect_true("the reprint", memcmp(again, dvi, sizeof dvi) == 0 && memcmp(shown, sheet, sizeof sheet) == 0);
     sp_reprint(galley, sizeof galley, no_width, 127, again, sizeof again, shown, sizeof shown, answer);
-    expect("reprint with widths", SP_WIDTHS, 0, 0);
+    expect("reprint with widths", SP_WIDTHS_NOT_WHOLE, 0, 0);
     expect_true("no length of a DVI file", answer[3] == 0);
     sp_reprint(galley, sizeof galley, no_width, 0, again, sizeof again, shown, sizeof shown - 1, answer);
-    expect("reprint without room", SP_SHEET_ROOM, sizeof sheet, 0);
+    expect("reprint without room", SP_NO_SHEET_ROOM, sizeof sheet, 0);
 }
 
 #define BOP 0x81, 0, 0, 0, 1, 0xFF, 0xFF, 0xFF, 0xFF
@@ -215,11 +215,11 @@ static void plain(void)
     expect("DVI to sheet, the plain way", SP_ACCEPTED, 0, sizeof sheet);
     expect_true("the sheet again", memcmp(again, sheet, sizeof sheet) == 0);
     sp_read_dvi_plain(dvi, sizeof dvi, no_width, 0, again, sizeof again - 1, answer);
-    expect("room for a sheet, the plain way", SP_SHEET_ROOM, sizeof sheet, 0);
+    expect("room for a sheet, the plain way", SP_NO_SHEET_ROOM, sizeof sheet, 0);
     sp_read_dvi_plain(BYTES(BOP, 0x84, 0x82), no_width, 0, room, sizeof room, answer);
-    expect("end of page in a group", SP_EOP, 10, 0);
+    expect("end of page in a group", SP_ENTRIES_LEFT, 10, 0);
     sp_read_dvi_plain(NULL, 0, NULL, 0, NULL, 0, answer);
-    expect("null DVI file, the plain way", SP_DVI_ENDS, 0, 0);
+    expect("null DVI file, the plain way", SP_DVI_ENDS_EARLY, 0, 0);
 }
 
 static void refuse_xgp(const char *what, const uint8_t *bytes, size_t length, size_t number, size_t place)
@@ -238,15 +238,15 @@ static void xgp_files(void)
     widths[65] = 7;
     widths[66] = INT32_MAX;
     sp_read_xgp(BYTES(65, 66), 40, widths, SP_XGP_WIDTHS, room, sizeof room, answer);
-    expect("x leaves 32 bits", SP_OVERFLOW, 1, 0);
+    expect("x leaves 32 bits", SP_OUT_OF_32_BITS, 1, 0);
     widths[66] = 9;
     sp_read_xgp(BYTES(65, 66), 40, widths, SP_XGP_WIDTHS, made, sizeof made, answer);
     expect("XGP to sheet", SP_ACCEPTED, 0, sizeof shown);
     expect_true("the sheet of an XGP file", memcmp(made, shown, sizeof shown) == 0);
     sp_read_xgp(BYTES(65, 66), 40, widths, SP_XGP_WIDTHS, made, sizeof made - 1, answer);
-    expect("room for the sheet of an XGP file", SP_SHEET_ROOM, sizeof shown, 0);
+    expect("room for the sheet of an XGP file", SP_NO_SHEET_ROOM, sizeof shown, 0);
     sp_read_xgp(BYTES(65, 66), 40, widths, SP_XGP_WIDTHS - 1, made, sizeof made, answer);
-    expect("three fonts and a part", SP_WIDTHS, 0, 0);
+    expect("three fonts and a part", SP_WIDTHS_NOT_WHOLE, 0, 0);
     widths[511] = -1;
     sp_read_xgp(BYTES(65, 66), 40, widths, SP_XGP_WIDTHS, made, sizeof made, answer);
     expect("a negative width", SP_NEGATIVE_WIDTH, 0, 0);
@@ -262,25 +262,25 @@ static void back(void)
     expect("DVI to galley", SP_ACCEPTED, 0, sizeof galley);
     expect_true("the galley again", memcmp(again, galley, sizeof galley) == 0);
     sp_dvi_to_galley(dvi, sizeof dvi, no_width, 0, again, sizeof again - 1, answer);
-    expect("room for a galley again", SP_GALLEY_ROOM, sizeof galley, 0);
+    expect("room for a galley again", SP_NO_GALLEY_ROOM, sizeof galley, 0);
     memcpy(other, dvi, sizeof dvi);
     other[14]++;
     sp_dvi_to_galley(other, sizeof other, no_width, 0, room, sizeof room, answer);
     expect("beside a target", SP_NO_GALLEY, 16, 0);
     sp_dvi_to_galley(other, sizeof other - 1, no_width, 0, room, sizeof room, answer);
-    expect("beside a target, and a short postamble", SP_POSTAMBLE, 19, 0);
+    expect("beside a target, and a short postamble", SP_BAD_POSTAMBLE, 19, 0);
 }
 
 static void second_edition(void)
 {
     uint8_t again[sizeof galley], other[sizeof dvi2];
     sp_write_dvi2(galley, sizeof galley, room, sizeof dvi2 - 1, answer);
-    expect("room for DVI of the second edition", SP_DVI_ROOM, sizeof dvi2, 0);
+    expect("room for DVI of the second edition", SP_NO_DVI_ROOM, sizeof dvi2, 0);
     sp_read_dvi2(dvi2, sizeof dvi2, again, sizeof again, answer);
     expect("DVI of the second edition to galley", SP_ACCEPTED, 0, sizeof galley);
     expect_true("the galley of the second edition", memcmp(again, galley, sizeof galley) == 0);
     sp_read_dvi2(dvi2, sizeof dvi2, again, sizeof again - 1, answer);
-    expect("room for a galley of the second edition", SP_GALLEY_ROOM, sizeof galley, 0);
+    expect("room for a galley of the second edition", SP_NO_GALLEY_ROOM, sizeof galley, 0);
     sp_read_dvi2(dvi2, sizeof dvi2 - 1, room, sizeof room, answer);
     expect("a 223 too few", SP_NOT_OURS, sizeof dvi2 - 1, 0);
     memcpy(other, dvi2, sizeof dvi2);
@@ -290,11 +290,11 @@ static void second_edition(void)
     sp_write_dvi2(NULL, 0, NULL, 0, answer);
     expect("null galley for the second edition", SP_GALLEY_MALFORMED, 0, 0);
     sp_write_dvi2(galley, sizeof galley, NULL, 0, answer);
-    expect("null buffer for the second edition", SP_DVI_ROOM, sizeof dvi2, 0);
+    expect("null buffer for the second edition", SP_NO_DVI_ROOM, sizeof dvi2, 0);
     sp_read_dvi2(NULL, 0, NULL, 0, answer);
     expect("null DVI file of the second edition", SP_NOT_OURS, 0, 0);
     sp_read_dvi2(dvi2, sizeof dvi2, NULL, 0, answer);
-    expect("null buffer for its galley", SP_GALLEY_ROOM, sizeof galley, 0);
+    expect("null buffer for its galley", SP_NO_GALLEY_ROOM, sizeof galley, 0);
 }
 
 static void refuse_dvi(const char *what, const uint8_t *bytes, size_t length, size_t number, size_t place)
@@ -307,20 +307,20 @@ static void dvi_files(void)
 {
     uint8_t pushes[9 + 201] = {BOP};
     memset(pushes + 9, 0x84, 201);
-    refuse_dvi("command", BYTES(0x83), SP_COMMAND, 0);
-    refuse_dvi("the file ends", BYTES(BOP), SP_DVI_ENDS, 9);
-    refuse_dvi("pointer", BYTES(0x81, 0, 0, 0, 1, 0, 0, 0, 0), SP_BOP_OFFSET, 0);
-    refuse_dvi("200 pushes", pushes, sizeof pushes - 1, SP_DVI_ENDS, 209);
-    refuse_dvi("201 pushes", pushes, sizeof pushes, SP_PUSH, 209);
-    refuse_dvi("pop", BYTES(BOP, 0x85), SP_POP, 9);
-    refuse_dvi("end of page", BYTES(BOP, 0x84, 0x82), SP_EOP, 10);
-    refuse_dvi("character", BYTES(BOP, 0x88, 1), SP_CHARACTER, 9);
-    refuse_dvi("overflow", BYTES(BOP, 0x8E, 0x7F, 0xFF, 0xFF, 0xFF, 0x91), SP_OVERFLOW, 14);
-    refuse_dvi("postamble", BYTES(BOP, 0x82, 0x83), SP_POSTAMBLE, 10);
+    refuse_dvi("command", BYTES(0x83), SP_BAD_COMMAND, 0);
+    refuse_dvi("the file ends", BYTES(BOP), SP_DVI_ENDS_EARLY, 9);
+    refuse_dvi("pointer", BYTES(0x81, 0, 0, 0, 1, 0, 0, 0, 0), SP_WRONG_OFFSET, 0);
+    refuse_dvi("200 pushes", pushes, sizeof pushes - 1, SP_DVI_ENDS_EARLY, 209);
+    refuse_dvi("201 pushes", pushes, sizeof pushes, SP_STACK_FULL, 209);
+    refuse_dvi("pop", BYTES(BOP, 0x85), SP_STACK_EMPTY, 9);
+    refuse_dvi("end of page", BYTES(BOP, 0x84, 0x82), SP_ENTRIES_LEFT, 10);
+    refuse_dvi("character", BYTES(BOP, 0x88, 1), SP_CANNOT_SET, 9);
+    refuse_dvi("overflow", BYTES(BOP, 0x8E, 0x7F, 0xFF, 0xFF, 0xFF, 0x91), SP_OUT_OF_32_BITS, 14);
+    refuse_dvi("postamble", BYTES(BOP, 0x82, 0x83), SP_BAD_POSTAMBLE, 10);
     sp_read_dvi(dvi, sizeof dvi, no_width, 127, room, sizeof room, answer);
-    expect("widths", SP_WIDTHS, 0, 0);
+    expect("widths", SP_WIDTHS_NOT_WHOLE, 0, 0);
     sp_read_dvi(dvi, sizeof dvi, no_width, 0, room, sizeof sheet - 1, answer);
-    expect("room for a sheet", SP_SHEET_ROOM, sizeof sheet, 0);
+    expect("room for a sheet", SP_NO_SHEET_ROOM, sizeof sheet, 0);
 }
 
 static void lengths(void)
@@ -339,7 +339,7 @@ static void lengths(void)
     expect("the longest piece", SP_ACCEPTED, 0, 0);
     sp_feed(words, zeros, 1, room, sizeof room, answer);
     expect("a piece more", SP_TAPE_TOO_LONG, 0, 0);
-    refuse_xgp("a longer XGP file", zeros, SP_XGP_LIMIT + 1, SP_DVI_TOO_LONG, 0);
+    refuse_xgp("a longer XGP file", zeros, SP_XGP_LIMIT + 1, SP_FILE_TOO_LONG, 0);
     zeros[SP_XGP_LIMIT - 1] = 8;
     refuse_xgp("the longest XGP file", zeros, SP_XGP_LIMIT, SP_OUTSIDE_PART, SP_XGP_LIMIT - 1);
     zeros[SP_XGP_LIMIT - 1] = 0;
@@ -352,13 +352,13 @@ static void lengths(void)
     sp_galley_to_new(zeros, SP_OLD_GALLEY_LIMIT + 1, room, sizeof room, answer);
     expect("a longer old galley", SP_GALLEY_TOO_LONG, 0, 0);
     sp_read_dvi(zeros, SP_DVI_LIMIT, no_width, 0, room, sizeof room, answer);
-    expect("the longest DVI file", SP_COMMAND, 0, 0);
+    expect("the longest DVI file", SP_BAD_COMMAND, 0, 0);
     sp_read_dvi(zeros, SP_DVI_LIMIT + 1, no_width, 0, room, sizeof room, answer);
-    expect("a longer DVI file", SP_DVI_TOO_LONG, 0, 0);
+    expect("a longer DVI file", SP_FILE_TOO_LONG, 0, 0);
     sp_read_dvi2(zeros, SP_DVI2_LIMIT, room, sizeof room, answer);
     expect("the longest DVI file of the second edition", SP_NOT_OURS, 0, 0);
     sp_read_dvi2(zeros, SP_DVI2_LIMIT + 1, room, sizeof room, answer);
-    expect("a longer DVI file of the second edition", SP_DVI_TOO_LONG, 0, 0);
+    expect("a longer DVI file of the second edition", SP_FILE_TOO_LONG, 0, 0);
     free(zeros);
 }
 
@@ -378,7 +378,7 @@ static void items(void)
     /* A cut has three bytes on a tape, and what comes before the first and after the last has three. */
     i = SP_TAPE_LIMIT / 3;
     sp_punch_tape(cuts + 3 * (SP_ITEM_LIMIT + 1 - (i - 1)), 3 * (i - 1) + sizeof end, room, sizeof room, answer);
-    expect("the longest tape of cuts", SP_TAPE_ROOM, 3 * i, 0);
+    expect("the longest tape of cuts", SP_NO_TAPE_ROOM, 3 * i, 0);
     sp_punch_tape(cuts + 3 * (SP_ITEM_LIMIT + 1 - i), 3 * i + sizeof end, room, sizeof room, answer);
     expect("a longer tape of cuts", SP_PUNCHED_TOO_LONG, 0, 0);
     free(cuts);
@@ -402,8 +402,8 @@ static void height(uint32_t height, size_t checked, size_t written, size_t made_
 static void heights(void)
 {
     height(SP_DVI_HEIGHT_LIMIT, SP_ACCEPTED, SP_ACCEPTED, SP_ACCEPTED);
-    height(SP_DVI_HEIGHT_LIMIT + 1, SP_ACCEPTED, SP_TOO_HIGH, SP_TOO_HIGH);
-    height(SP_HEIGHT_LIMIT, SP_ACCEPTED, SP_TOO_HIGH, SP_TOO_HIGH);
+    height(SP_DVI_HEIGHT_LIMIT + 1, SP_ACCEPTED, SP_HEIGHT_TOO_GREAT, SP_HEIGHT_TOO_GREAT);
+    height(SP_HEIGHT_LIMIT, SP_ACCEPTED, SP_HEIGHT_TOO_GREAT, SP_HEIGHT_TOO_GREAT);
     height(SP_HEIGHT_LIMIT + 1, SP_GALLEY_MALFORMED, SP_GALLEY_MALFORMED, SP_GALLEY_MALFORMED);
 }
 
@@ -453,13 +453,13 @@ static void nulls(void)
     sp_feed(words, NULL, 0, NULL, 0, answer);
     expect("null piece", SP_ACCEPTED, 0, 0);
     sp_feed(words, tape, sizeof tape, NULL, 0, answer);
-    expect("null buffer for a piece", SP_GALLEY_ROOM, 22, 0);
+    expect("null buffer for a piece", SP_NO_GALLEY_ROOM, 22, 0);
     sp_close(words, NULL, 0, answer);
     expect("null buffer for End", SP_NO_STOP, 0, 0);
     sp_read_tape(NULL, 0, 8, NULL, 0, answer);
     expect("null tape", SP_NO_STOP, 0, 0);
     sp_read_tape(tape, sizeof tape, 8, NULL, 0, answer);
-    expect("null buffer for a galley", SP_GALLEY_ROOM, sizeof galley, 0);
+    expect("null buffer for a galley", SP_NO_GALLEY_ROOM, sizeof galley, 0);
     sp_check_galley(NULL, 0, answer);
     expect("null galley", SP_GALLEY_MALFORMED, 0, 0);
     sp_read_back(NULL, 0, 0, answer, character);
@@ -469,37 +469,37 @@ static void nulls(void)
     sp_write_dvi(NULL, 0, NULL, 0, answer);
     expect("null galley written", SP_GALLEY_MALFORMED, 0, 0);
     sp_write_dvi(galley, sizeof galley, NULL, 0, answer);
-    expect("null buffer for a DVI file", SP_DVI_ROOM, sizeof dvi, 0);
+    expect("null buffer for a DVI file", SP_NO_DVI_ROOM, sizeof dvi, 0);
     sp_read_dvi(NULL, 0, NULL, 0, NULL, 0, answer);
-    expect("null DVI file", SP_DVI_ENDS, 0, 0);
+    expect("null DVI file", SP_DVI_ENDS_EARLY, 0, 0);
     sp_read_dvi(dvi, sizeof dvi, NULL, 0, room, sizeof room, answer);
     expect("null widths", SP_ACCEPTED, 0, sizeof sheet);
     sp_read_dvi(dvi, sizeof dvi, NULL, 0, NULL, 0, answer);
-    expect("null buffer for a sheet", SP_SHEET_ROOM, sizeof sheet, 0);
+    expect("null buffer for a sheet", SP_NO_SHEET_ROOM, sizeof sheet, 0);
     sp_dvi_to_galley(NULL, 0, NULL, 0, NULL, 0, answer);
-    expect("null DVI file to a galley", SP_DVI_ENDS, 0, 0);
+    expect("null DVI file to a galley", SP_DVI_ENDS_EARLY, 0, 0);
     sp_dvi_to_galley(dvi, sizeof dvi, NULL, 0, NULL, 0, answer);
-    expect("null buffer for a galley again", SP_GALLEY_ROOM, sizeof galley, 0);
+    expect("null buffer for a galley again", SP_NO_GALLEY_ROOM, sizeof galley, 0);
     sp_read_xgp(NULL, 0, 0, NULL, 0, NULL, 0, answer);
-    expect("null XGP file and widths", SP_WIDTHS, 0, 0);
+    expect("null XGP file and widths", SP_WIDTHS_NOT_WHOLE, 0, 0);
     sp_reprint(NULL, 0, NULL, 0, NULL, 0, NULL, 0, answer);
     expect("null galley reprinted", SP_GALLEY_MALFORMED, 0, 0);
     sp_reprint(galley, sizeof galley, NULL, 0, NULL, 0, NULL, 0, answer);
-    expect("null buffers for a reprint", SP_DVI_ROOM, sizeof dvi, 0);
+    expect("null buffers for a reprint", SP_NO_DVI_ROOM, sizeof dvi, 0);
     sp_reprint(galley, sizeof galley, NULL, 0, room, sizeof dvi, NULL, 0, answer);
-    expect("null buffer for a reprint's sheet", SP_SHEET_ROOM, sizeof sheet, 0);
+    expect("null buffer for a reprint's sheet", SP_NO_SHEET_ROOM, sizeof sheet, 0);
     sp_punch_tape(NULL, 0, NULL, 0, answer);
     expect("null galley punched", SP_GALLEY_MALFORMED, 0, 0);
     sp_punch_tape(galley, sizeof galley, NULL, 0, answer);
-    expect("null buffer for a tape", SP_TAPE_ROOM, 8, 0);
+    expect("null buffer for a tape", SP_NO_TAPE_ROOM, 8, 0);
     sp_galley_to_new(NULL, 0, NULL, 0, answer);
     expect("null old galley", SP_GALLEY_MALFORMED, 0, 0);
     sp_galley_to_new(old_galley, sizeof old_galley, NULL, 0, answer);
-    expect("null buffer for a new galley", SP_CONVERTED_ROOM, sizeof new_galley, 0);
+    expect("null buffer for a new galley", SP_NO_CONVERTED_ROOM, sizeof new_galley, 0);
     sp_galley_to_old(NULL, 0, NULL, 0, answer);
     expect("null new galley", SP_GALLEY_MALFORMED, 0, 0);
     sp_galley_to_old(new_galley, sizeof new_galley, NULL, 0, answer);
-    expect("null buffer for an old galley", SP_CONVERTED_ROOM, sizeof old_galley, 0);
+    expect("null buffer for an old galley", SP_NO_CONVERTED_ROOM, sizeof old_galley, 0);
 }
 
 int main(void)

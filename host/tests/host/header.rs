@@ -121,6 +121,20 @@ fn the_header_has_the_package_s_numbers() {
     assert_eq!(run_c(&printing(&names)), Ok(expected));
 }
 
+/// A refusal has one name and one number, in the proved code, in the header and in this package.
+#[test]
+fn a_refusal_has_one_name() {
+    let source = fs::read_to_string(host().join("../crates/octets/src/answer.rt")).unwrap();
+    let proved: BTreeMap<&str, usize> = source
+        .lines()
+        .filter_map(|line| line.strip_prefix("pub const ")?.strip_suffix(';')?.split_once(": u8 = "))
+        .map(|(name, number)| (name, number.parse().unwrap()))
+        .collect();
+    let told: BTreeMap<&str, usize> =
+        Refusal::TABLE.iter().map(|(name, number, _)| (*name, *number)).collect();
+    assert_eq!(told, proved);
+}
+
 /// A program in C that prints names with their values.
 fn printing(names: &[&String]) -> PathBuf {
     let prints: String =

@@ -199,36 +199,12 @@ pub const LIBRARY: Implementation = Implementation {
         assert_eq!([before, after], [0x5A5A_5A5A; 2], "written beside the item");
         (answer, [kind, x, height, font_number, code])
     },
-    write_dvi: |galley, dvi| {
-        answered(|answer| unsafe {
-            ffi::sp_write_dvi(galley.as_ptr(), galley.len(), dvi.as_mut_ptr(), dvi.len(), answer)
-        })
-    },
+    write_dvi: |galley, dvi| answered(|answer| ffi::over_bytes(ffi::sp_write_dvi, galley, dvi, answer)),
     read_dvi: |dvi, widths, sheet| {
-        answered(|answer| unsafe {
-            ffi::sp_read_dvi(
-                dvi.as_ptr(),
-                dvi.len(),
-                widths.as_ptr(),
-                widths.len(),
-                sheet.as_mut_ptr(),
-                sheet.len(),
-                answer,
-            )
-        })
+        answered(|answer| ffi::with_widths(ffi::sp_read_dvi, dvi, widths, sheet, answer))
     },
     dvi_to_galley: |dvi, widths, galley| {
-        answered(|answer| unsafe {
-            ffi::sp_dvi_to_galley(
-                dvi.as_ptr(),
-                dvi.len(),
-                widths.as_ptr(),
-                widths.len(),
-                galley.as_mut_ptr(),
-                galley.len(),
-                answer,
-            )
-        })
+        answered(|answer| ffi::with_widths(ffi::sp_dvi_to_galley, dvi, widths, galley, answer))
     },
     read_xgp: |file, spacing, widths, sheet| {
         answered(|answer| unsafe {
@@ -261,31 +237,11 @@ pub const LIBRARY: Implementation = Implementation {
         }
         answer
     },
-    write_dvi2: |galley, dvi| {
-        answered(|answer| unsafe {
-            ffi::sp_write_dvi2(galley.as_ptr(), galley.len(), dvi.as_mut_ptr(), dvi.len(), answer)
-        })
-    },
-    read_dvi2: |dvi, galley| {
-        answered(|answer| unsafe {
-            ffi::sp_read_dvi2(dvi.as_ptr(), dvi.len(), galley.as_mut_ptr(), galley.len(), answer)
-        })
-    },
-    punch_tape: |galley, tape| {
-        answered(|answer| unsafe {
-            ffi::sp_punch_tape(galley.as_ptr(), galley.len(), tape.as_mut_ptr(), tape.len(), answer)
-        })
-    },
-    to_new: |old, new| {
-        answered(|answer| unsafe {
-            ffi::sp_galley_to_new(old.as_ptr(), old.len(), new.as_mut_ptr(), new.len(), answer)
-        })
-    },
-    to_old: |new, old| {
-        answered(|answer| unsafe {
-            ffi::sp_galley_to_old(new.as_ptr(), new.len(), old.as_mut_ptr(), old.len(), answer)
-        })
-    },
+    write_dvi2: |galley, dvi| answered(|answer| ffi::over_bytes(ffi::sp_write_dvi2, galley, dvi, answer)),
+    read_dvi2: |dvi, galley| answered(|answer| ffi::over_bytes(ffi::sp_read_dvi2, dvi, galley, answer)),
+    punch_tape: |galley, tape| answered(|answer| ffi::over_bytes(ffi::sp_punch_tape, galley, tape, answer)),
+    to_new: |old, new| answered(|answer| ffi::over_bytes(ffi::sp_galley_to_new, old, new, answer)),
+    to_old: |new, old| answered(|answer| ffi::over_bytes(ffi::sp_galley_to_old, new, old, answer)),
     count_tape: |tape, machine, report| {
         let mut lent = [0x5A5A_5A5A_5A5A_5A5A_u64; 137];
         lent[1..136].copy_from_slice(report);
@@ -309,17 +265,7 @@ pub const LIBRARY: Implementation = Implementation {
 pub const BRACKETS: Implementation = Implementation {
     name: "library's plain reader",
     read_dvi: |dvi, widths, sheet| {
-        answered(|answer| unsafe {
-            ffi::sp_read_dvi_plain(
-                dvi.as_ptr(),
-                dvi.len(),
-                widths.as_ptr(),
-                widths.len(),
-                sheet.as_mut_ptr(),
-                sheet.len(),
-                answer,
-            )
-        })
+        answered(|answer| ffi::with_widths(ffi::sp_read_dvi_plain, dvi, widths, sheet, answer))
     },
     ..LIBRARY
 };
@@ -338,7 +284,7 @@ impl Words {
         assert_eq!([self.0[0], self.0[ffi::TAPE_WORDS + 1]], [GUARD; 2], "written beside the running tape");
     }
 
-    fn call(&mut self, call: impl FnOnce(*mut [u64; ffi::TAPE_WORDS], *mut Answer)) -> Answer {
+    fn call(&mut self, call: impl FnOnce(*mut [u64; ffi::TAPE_WORDS], &mut Answer)) -> Answer {
         let tape = self.lent();
         let answer = answered(|answer| call(tape, answer));
         self.is_guarded();
@@ -371,9 +317,9 @@ impl RunningTape for Words {
     }
 }
 
-fn answered(call: impl FnOnce(*mut Answer)) -> Answer {
+fn answered(call: impl FnOnce(&mut Answer)) -> Answer {
     let mut lent = [usize::MAX - 1; 5];
-    call(lent[1..4].as_mut_ptr().cast());
+    call((&mut lent[1..4]).try_into().expect("three numbers"));
     let [before, number, place, length, after] = lent;
     assert_eq!([before, after], [usize::MAX - 1; 2], "written beside the answer");
     [number, place, length]

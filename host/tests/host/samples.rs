@@ -66,7 +66,7 @@ fn the_chart_is_made_by_the_generator() {
     assert_eq!((galley.len(), spatecanter::check_galley(&galley)), (2_504, Ok(227)));
     assert_eq!(galley.characters().last().unwrap().height, 70_000);
     let first = galley.characters().position(|it| it.height > 65_535).unwrap();
-    let refused = Refusal::TooHigh { place: 11 * first };
+    let refused = Refusal::HeightTooGreat { place: 11 * first };
     assert_eq!(spatecanter::write_dvi(&galley), Err(refused));
     assert_eq!(spatecanter::reprint(&galley, &[]), Err(refused));
 }
@@ -108,7 +108,7 @@ fn the_stations_are_made_by_the_generator() {
     assert_eq!(starts, [Field::Page(1), Field::Page(2)]);
     for short in [&widths[..511], &[]] {
         let refused = spatecanter::read_xgp(&file, STATIONS_SPACING, short);
-        assert_eq!(refused, Err(Refusal::Widths));
+        assert_eq!(refused, Err(Refusal::WidthsNotWhole));
     }
 }
 

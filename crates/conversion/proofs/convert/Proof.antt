@@ -1,11 +1,10 @@
 -- `conversion::convert` meets its contract: the galley's length gives that of the other form, and the room decides.
 -- Assumes nothing.
 use mathlib.Core.Path.{_≡_, refl, ap}
-use Prim.Native.Nat.{ℕ, _+_, _-_, _*_, _≤_}
+use Prim.Native.Nat.{ℕ, _+_, _-_, _*_}
 use native.Mathlib.Omega.{arith}
 use borrow.Author.Needs.{needs}
 use lib.ListN.{length}
-use Rattle.octets.specs.Octets.{bytes}
 use Rattle.octets.specs.AnswerLaws.{gives}
 use Rattle.octets.specs.Write.{length-wrote}
 use Rattle.galley_file.specs.Form.{characterSize}
@@ -14,9 +13,6 @@ use Rattle.galley_file.specs.Galley.{galley, itemsOf}
 use Rattle.conversion.proofs.Forms.{length-is, few, needed-is, fields-fit, all-written, no-room, with-room}
 use Rattle.conversion.proofs.convert.Statement.{statement}
 use Rattle.conversion.proofs.convert.Tie as tie
-
-character-size-requires : tie.Need-character-size-requires
-character-size-requires c κs = search needs
 
 -- the bytes of the characters, in each form
 from-is : (c : tie.After-character-size) → c .character-size .result * c .before .before .before .args .count ≡ characterSize (c .before .before .before .args .from) * c .before .before .before .args .count
@@ -30,9 +26,6 @@ mul-rest c = let s = c .before .before .before in omega (arith, from-is c, size-
 
 sub-rest : tie.Need-sub-rest
 sub-rest c = let s = c .before .before .before in omega (arith, from-is c, length-is _ (s .args .to) _ _ (s .pre))
-
-character-size-requires-2 : tie.Need-character-size-requires-2
-character-size-requires-2 c κs = search needs
 
 mul-needed : tie.Need-mul-needed
 mul-needed c = let s = c .before .before .before .before in omega (arith, to-is c, size-times (s .args .to) (s .args .count), few _ (s .args .to) _ _ (s .pre))
@@ -66,9 +59,6 @@ put-end-requires c κs =
     let w = c .before .before .before .put-items .ensures in
     omega (arith, fields-fit _ (s .args .to) _ _ (s .pre), needed (c .before .before .before .before .before .before), c .before .before .before .before .before .if1 .left, w .next-is, length-wrote w)
 
-same-length : tie.Need-same-length
-same-length c = search needs
-
 returns-2 : tie.Need-returns-2
 returns-2 c =
     let s = c .before .before .before .before .before .before .before .before .before .before .before .before .before in
@@ -77,5 +67,5 @@ returns-2 c =
 pub convert-spec : {M : Type 1} → statement M
 convert-spec =
     tie.close
-    (tie.spec character-size-requires mul-rest sub-rest character-size-requires-2 mul-needed add-needed returns put-items-requires
-    cast-put-end put-end-requires same-length returns-2)
+    (tie.spec (λ c κs. search needs) mul-rest sub-rest (λ c κs. search needs) mul-needed add-needed returns put-items-requires
+    cast-put-end put-end-requires (λ c. search needs) returns-2)

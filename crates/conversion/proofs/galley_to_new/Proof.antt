@@ -15,15 +15,6 @@ use Rattle.conversion.proofs.galley_to_new.Tie as tie
 counted : (c : tie.After-checked2) → accepted (c .checked2 .given .0 .0) ≡ checkOutcome Old (c .before .before .before .before .before .args .old .now)
 counted c = sym (ap outcomeOf (c .checked2 .given .1)) ∙ c .before .before .check-form .ensures
 
-check-form-requires : tie.Need-check-form-requires
-check-form-requires c κs = search needs
-
-enum-known-checked : tie.Need-enum-known-checked
-enum-known-checked c = search needs
-
-enum-known-checked-2 : tie.Need-enum-known-checked-2
-enum-known-checked-2 c = search needs
-
 convert-requires : tie.Need-convert-requires
 convert-requires c κs = counted (c .before .before)
 
@@ -32,9 +23,6 @@ returns c =
     let a = c .before .before .before .before .before .before .args in
     let q = new-refused (a .old .now) (length (a .new .now)) _ _ (sym (ap outcomeOf (c .before .checked .given .1)) ∙ c .before .before .before .check-form .ensures) in
     gives q refl refl
-
-same-length : tie.Need-same-length
-same-length c = search needs
 
 returns-2 : tie.Need-returns-2
 returns-2 c =
@@ -45,11 +33,4 @@ returns-2 c =
 pub galley-to-new-spec : {M : Type 1} → statement M
 galley-to-new-spec =
     tie.close
-    (tie.spec
-    check-form-requires
-    enum-known-checked
-    enum-known-checked-2
-    convert-requires
-    returns
-    same-length
-    returns-2)
+    (tie.spec (λ c κs. search needs) (λ c. search needs) (λ c. search needs) convert-requires returns (λ c. search needs) returns-2)

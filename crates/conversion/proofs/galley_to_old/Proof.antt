@@ -15,15 +15,6 @@ use Rattle.conversion.proofs.galley_to_old.Tie as tie
 counted : (c : tie.After-checked2) → accepted (c .checked2 .given .0 .0) ≡ lowOutcome (c .before .before .before .before .before .args .new .now)
 counted c = sym (ap outcomeOf (c .checked2 .given .1)) ∙ c .before .before .check-low .ensures
 
-check-low-requires : tie.Need-check-low-requires
-check-low-requires c κs = search needs
-
-enum-known-checked : tie.Need-enum-known-checked
-enum-known-checked c = search needs
-
-enum-known-checked-2 : tie.Need-enum-known-checked-2
-enum-known-checked-2 c = search needs
-
 convert-requires : tie.Need-convert-requires
 convert-requires c κs = low-checked _ _ (counted (c .before .before)) .checked
 
@@ -32,9 +23,6 @@ returns c =
     let a = c .before .before .before .before .before .before .args in
     let q = old-refused (a .new .now) (length (a .old .now)) _ _ (sym (ap outcomeOf (c .before .checked .given .1)) ∙ c .before .before .before .check-low .ensures) in
     gives q refl refl
-
-same-length : tie.Need-same-length
-same-length c = search needs
 
 returns-2 : tie.Need-returns-2
 returns-2 c =
@@ -45,11 +33,4 @@ returns-2 c =
 pub galley-to-old-spec : {M : Type 1} → statement M
 galley-to-old-spec =
     tie.close
-    (tie.spec
-    check-low-requires
-    enum-known-checked
-    enum-known-checked-2
-    convert-requires
-    returns
-    same-length
-    returns-2)
+    (tie.spec (λ c κs. search needs) (λ c. search needs) (λ c. search needs) convert-requires returns (λ c. search needs) returns-2)

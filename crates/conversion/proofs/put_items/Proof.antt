@@ -1,7 +1,6 @@
 -- `conversion::put_items` meets its contract: the items behind are written, and what is left of the galley falls.
 -- Assumes nothing.
-use mathlib.Core.Path.{_≡_, ap, sym, _∙_}
-use Prim.Native.Nat.{ℕ, _+_, _-_, _≤_}
+use Prim.Native.Nat.{_+_, _-_, _≤_}
 use native.Mathlib.Omega.{arith}
 use borrow.Author.Needs.{needs}
 use lib.ListN.{length}
@@ -38,9 +37,6 @@ put-item-requires c κs =
     omega
     (arith, converted-room _ _ _ _ _ _ _ (c .before .before .before .loop .inv) (omega (arith, c .before .before .loop-test .taken)) _ (c .before .item-at .ensures) (c .before .before .before .before .before .before .pre .1))
 
-item-size-requires : tie.Need-item-size-requires Inv-loop μ-loop
-item-size-requires c κs = search needs
-
 -- the next place is in the galley
 inside : (c : tie.After-item-size Inv-loop μ-loop) → c .before .before .before .before .before .before .before .loop .at + c .item-size .result + 7 ≤ length (c .before .before .before .before .before .before .before .before .before .before .args .g .now)
 inside c =
@@ -66,5 +62,5 @@ returns c = converted-end _ _ _ _ _ _ _ (c .before .loop .inv) (c .loop-test .le
 pub put-items-spec : {M : Type 1} → statement M
 put-items-spec =
     tie.close
-    (tie.spec Inv-loop μ-loop loop-holds add-loop item-at-requires put-item-requires item-size-requires add-at loop-less loop-again
+    (tie.spec Inv-loop μ-loop loop-holds add-loop item-at-requires put-item-requires (λ c κs. search needs) add-at loop-less loop-again
     same-length returns)

@@ -2,18 +2,12 @@
 -- Assumes nothing.
 use mathlib.Core.Path.{ap, _∙_}
 use borrow.Author.Needs.{needs}
-use Rattle.integers.specs.Parts.{plain}
+use Rattle.integers.specs.Bits.{plain}
 use Rattle.octets.specs.PutIfRoomLaws.{putIfRoom-whole}
 use Rattle.dvi2.specs.Writer.{bopBytes}
 use Rattle.dvi2.specs.WriterLaws.{length-bop}
 use Rattle.dvi2_frame.proofs.bop.Statement.{statement}
 use Rattle.dvi2_frame.proofs.bop.Tie as tie
-
-slice-aggregate-put-bop : tie.Need-slice-aggregate-put-bop
-slice-aggregate-put-bop c = search needs
-
-put-bop-requires : tie.Need-put-bop-requires
-put-bop-requires c κs = search needs
 
 returns : tie.Need-returns
 returns c =
@@ -21,4 +15,4 @@ returns c =
     putIfRoom-whole (c .before .put-bop .ensures) (length-bop _ _) ∙ ap (bopBytes (st .args .page)) (plain (st .fits .previous))
 
 pub bop-spec : {M : Type 1} → statement M
-bop-spec = tie.close (tie.spec slice-aggregate-put-bop put-bop-requires returns)
+bop-spec = tie.close (tie.spec (λ c. search needs) (λ c κs. search needs) returns)

@@ -6,14 +6,8 @@ use Rattle.dvi2_frame.specs.FrameLaws.{length-postPost}
 use Rattle.dvi2_frame.proofs.post_post.Statement.{statement}
 use Rattle.dvi2_frame.proofs.post_post.Tie as tie
 
-slice-aggregate-put-post-post : tie.Need-slice-aggregate-put-post-post
-slice-aggregate-put-post-post c = search needs
-
-put-post-post-requires : tie.Need-put-post-post-requires
-put-post-post-requires c κs = search needs
-
 returns : tie.Need-returns
 returns c = putIfRoom-whole (c .before .put-post-post .ensures) (length-postPost _)
 
 pub post-post-spec : {M : Type 1} → statement M
-post-post-spec = tie.close (tie.spec slice-aggregate-put-post-post put-post-post-requires returns)
+post-post-spec = tie.close (tie.spec (λ c. search needs) (λ c κs. search needs) returns)

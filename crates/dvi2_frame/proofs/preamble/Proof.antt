@@ -6,14 +6,8 @@ use Rattle.dvi2_frame.specs.FrameLaws.{length-preamble}
 use Rattle.dvi2_frame.proofs.preamble.Statement.{statement}
 use Rattle.dvi2_frame.proofs.preamble.Tie as tie
 
-slice-aggregate-put-preamble : tie.Need-slice-aggregate-put-preamble
-slice-aggregate-put-preamble c = search needs
-
-put-preamble-requires : tie.Need-put-preamble-requires
-put-preamble-requires c κs = search needs
-
 returns : tie.Need-returns
 returns c = putIfRoom-whole (c .before .put-preamble .ensures) length-preamble
 
 pub preamble-spec : {M : Type 1} → statement M
-preamble-spec = tie.close (tie.spec slice-aggregate-put-preamble put-preamble-requires returns)
+preamble-spec = tie.close (tie.spec (λ c. search needs) (λ c κs. search needs) returns)

@@ -2,7 +2,7 @@
 -- Assumes nothing.
 use mathlib.Core.Path.{refl, ap}
 use borrow.Author.Needs.{needs}
-use Rattle.integers.specs.Parts.{plain}
+use Rattle.integers.specs.Bits.{plain}
 use Rattle.octets.specs.Octets.{bytes, signedBytes}
 use Rattle.octets.specs.Write.{then, named, room-after}
 use Rattle.dvi2.specs.Writer.{bopBytes}
@@ -11,27 +11,12 @@ use Rattle.octets.specs.PutIfRoomLaws.{putIfRoom-written, putIfRoom-counted}
 use Rattle.dvi2_frame.proofs.put_bop.Statement.{statement}
 use Rattle.dvi2_frame.proofs.put_bop.Tie as tie
 
-add-if1 : tie.Need-add-if1
-add-if1 c = search needs
-
-add-result : tie.Need-add-result
-add-result c = search needs
-
 returns : tie.Need-returns
 returns c = putIfRoom-counted _ _ _ 45 (length-bop _ _) (c .if1 .taken)
-
-put-byte-requires : tie.Need-put-byte-requires
-put-byte-requires c κs = search needs
-
-put-counts-requires : tie.Need-put-counts-requires
-put-counts-requires c κs = search needs
 
 put-signed4-requires : tie.Need-put-signed4-requires
 unfolding bytes
 put-signed4-requires c κs = room-after (then (c .before .before .before .before .before .before .before .put-byte .ensures) (c .before .before .before .put-counts .ensures)) 41 4 refl (c .before .before .before .before .before .before .before .before .before .if1 .left)
-
-same-length : tie.Need-same-length
-same-length c = search needs
 
 returns-2 : tie.Need-returns-2
 unfolding bopBytes bytes
@@ -43,4 +28,5 @@ returns-2 c =
 pub put-bop-spec : {M : Type 1} → statement M
 put-bop-spec =
     tie.close
-    (tie.spec add-if1 add-result returns put-byte-requires put-counts-requires put-signed4-requires same-length returns-2)
+    (tie.spec (λ c. search needs) (λ c. search needs) returns (λ c κs. search needs) (λ c κs. search needs) put-signed4-requires (λ c. search needs)
+    returns-2)

@@ -8,9 +8,6 @@ use Rattle.octets.specs.Write.{then, room-after}
 use Rattle.dvi2_frame.proofs.put_counts.Statement.{statement}
 use Rattle.dvi2_frame.proofs.put_counts.Tie as tie
 
-put-nat4-requires : tie.Need-put-nat4-requires
-put-nat4-requires c κs = search needs
-
 put-zeros-requires : tie.Need-put-zeros-requires
 unfolding bytes
 put-zeros-requires c κs = omega (arith, room-after (c .before .before .before .put-nat4 .ensures) 4 36 refl (c .before .before .before .before .before .before .pre))
@@ -24,13 +21,12 @@ unfolding bytes
 put-zeros-requires-3 c κs =
     room-after (then (c .before .before .before .before .before .before .before .before .before .before .before .put-nat4 .ensures) (then (c .before .before .before .before .before .before .before .put-zeros .ensures) (c .before .before .before .put-zeros2 .ensures))) 28 12 refl (c .before .before .before .before .before .before .before .before .before .before .before .before .before .before .pre)
 
-same-length : tie.Need-same-length
-same-length c = search needs
-
 returns : tie.Need-returns
 unfolding bytes
 returns c =
     then (c .before .before .before .before .before .before .before .before .before .before .before .before .before .before .put-nat4 .ensures) (then (c .before .before .before .before .before .before .before .before .before .before .put-zeros .ensures) (then (c .before .before .before .before .before .before .put-zeros2 .ensures) (c .before .before .put-zeros3 .ensures)))
 
 pub put-counts-spec : {M : Type 1} → statement M
-put-counts-spec = tie.close (tie.spec put-nat4-requires put-zeros-requires put-zeros-requires-2 put-zeros-requires-3 same-length returns)
+put-counts-spec =
+    tie.close
+    (tie.spec (λ c κs. search needs) put-zeros-requires put-zeros-requires-2 put-zeros-requires-3 (λ c. search needs) returns)

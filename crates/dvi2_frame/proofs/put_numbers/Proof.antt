@@ -5,7 +5,7 @@ use mathlib.Core.List.{_++_}
 use Prim.Native.Nat.{_%_}
 use native.Mathlib.Omega.{arith}
 use borrow.Author.Needs.{needs}
-use Rattle.integers.specs.Parts.{plain}
+use Rattle.integers.specs.Bits.{plain}
 use Rattle.octets.specs.Octets.{bytes, signedBytes}
 use Rattle.octets.specs.Write.{then, named, room-after}
 use Rattle.dvi2.specs.Writer.{unitBytes}
@@ -15,20 +15,8 @@ use Rattle.dvi2_frame.specs.FrameLaws.{length-post}
 use Rattle.dvi2_frame.proofs.put_numbers.Statement.{statement}
 use Rattle.dvi2_frame.proofs.put_numbers.Tie as tie
 
-add-if1 : tie.Need-add-if1
-add-if1 c = search needs
-
-add-result : tie.Need-add-result
-add-result c = search needs
-
 returns : tie.Need-returns
 returns c = putIfRoom-counted _ _ _ 29 (length-post _ _ _ _) (c .if1 .taken)
-
-put-byte-requires : tie.Need-put-byte-requires
-put-byte-requires c κs = search needs
-
-put-nat4-requires : tie.Need-put-nat4-requires
-put-nat4-requires c κs = search needs
 
 put-unit-requires : tie.Need-put-unit-requires
 unfolding bytes
@@ -38,9 +26,6 @@ put-extents-requires : tie.Need-put-extents-requires
 unfolding bytes unitBytes
 put-extents-requires c κs =
     omega (arith, room-after (then (c .before .before .before .before .before .before .before .before .before .before .before .put-byte .ensures) (then (c .before .before .before .before .before .before .before .put-nat4 .ensures) (c .before .before .before .put-unit .ensures))) 17 12 refl (c .before .before .before .before .before .before .before .before .before .before .before .before .before .if1 .left))
-
-same-length : tie.Need-same-length
-same-length c = search needs
 
 returns-2 : tie.Need-returns-2
 unfolding postWith
@@ -57,4 +42,5 @@ returns-2 c =
 pub put-numbers-spec : {M : Type 1} → statement M
 put-numbers-spec =
     tie.close
-    (tie.spec add-if1 add-result returns put-byte-requires put-nat4-requires put-unit-requires put-extents-requires same-length returns-2)
+    (tie.spec (λ c. search needs) (λ c. search needs) returns (λ c κs. search needs) (λ c κs. search needs) put-unit-requires put-extents-requires
+    (λ c. search needs) returns-2)

@@ -4,7 +4,8 @@ use borrow.Author.Needs.{needs}
 use lib.IntN.{pos, _*ℤ_}
 use mir.Syntax.{w32}
 use mir.Val.{SFits}
-use Rattle.integers.specs.Parts.{integers, plain, scale-parts}
+use Rattle.integers.specs.Parts.{integers, scale-parts}
+use Rattle.integers.specs.Bits.{plain}
 use Rattle.extents.specs.declared.Extents.{Extents}
 use Rattle.dvi2_frame.specs.Frame.{Ranged}
 use Rattle.dvi2_frame.proofs.put_post.Statement.{statement}
@@ -25,9 +26,6 @@ mul-height c = let s = c .before .before .before in rw (plain (height-fits (s .a
 put-numbers-requires : tie.Need-put-numbers-requires
 put-numbers-requires c κs = c .before .before .before .before .before .pre .0
 
-same-length : tie.Need-same-length
-same-length c = search needs
-
 returns : tie.Need-returns
 returns c =
     let s = c .before .before .before .before .before .before .before .before in
@@ -36,4 +34,4 @@ returns c =
     rw (plain (height-fits e r), plain (times-fits e r), plain (x-fits e r)) at (c .before .before .put-numbers .ensures)
 
 pub put-post-spec : {M : Type 1} → statement M
-put-post-spec = tie.close (tie.spec mul-height put-numbers-requires same-length returns)
+put-post-spec = tie.close (tie.spec mul-height put-numbers-requires (λ c. search needs) returns)

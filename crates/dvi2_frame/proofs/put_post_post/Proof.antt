@@ -11,27 +11,12 @@ use Rattle.dvi2_frame.specs.FrameLaws.{length-postPost}
 use Rattle.dvi2_frame.proofs.put_post_post.Statement.{statement}
 use Rattle.dvi2_frame.proofs.put_post_post.Tie as tie
 
-add-if1 : tie.Need-add-if1
-add-if1 c = search needs
-
-add-result : tie.Need-add-result
-add-result c = search needs
-
 returns : tie.Need-returns
 returns c = putIfRoom-counted _ _ _ 6 (length-postPost _) (c .if1 .taken)
-
-put-byte-requires : tie.Need-put-byte-requires
-put-byte-requires c κs = search needs
-
-put-nat4-requires : tie.Need-put-nat4-requires
-put-nat4-requires c κs = search needs
 
 put-byte-requires-2 : tie.Need-put-byte-requires-2
 unfolding bytes
 put-byte-requires-2 c κs = omega (arith, room-after (then (c .before .before .before .before .before .before .before .put-byte .ensures) (c .before .before .before .put-nat4 .ensures)) 5 1 refl (c .before .before .before .before .before .before .before .before .before .if1 .left))
-
-same-length : tie.Need-same-length
-same-length c = search needs
 
 returns-2 : tie.Need-returns-2
 unfolding postPostOf
@@ -40,4 +25,5 @@ returns-2 c = putIfRoom-written (then (c .before .before .before .before .before
 pub put-post-post-spec : {M : Type 1} → statement M
 put-post-post-spec =
     tie.close
-    (tie.spec add-if1 add-result returns put-byte-requires put-nat4-requires put-byte-requires-2 same-length returns-2)
+    (tie.spec (λ c. search needs) (λ c. search needs) returns (λ c κs. search needs) (λ c κs. search needs) put-byte-requires-2 (λ c. search needs)
+    returns-2)

@@ -13,22 +13,10 @@ returns : tie.Need-returns
 unfolding preambleBytes unitBytes bytes
 returns c = putIfRoom-counted _ 0 _ 15 refl (c .if1 .taken)
 
-put-byte-requires : tie.Need-put-byte-requires
-put-byte-requires c κs = search needs
-
-put-byte-requires-2 : tie.Need-put-byte-requires-2
-put-byte-requires-2 c κs = search needs
-
-put-unit-requires : tie.Need-put-unit-requires
-put-unit-requires c κs = search needs
-
 put-byte-requires-3 : tie.Need-put-byte-requires-3
 unfolding unitBytes bytes
 put-byte-requires-3 c κs =
     room-after (then (c .before .before .before .before .before .before .before .before .before .before .before .put-byte .ensures) (then (c .before .before .before .before .before .before .before .put-byte2 .ensures) (c .before .before .before .put-unit .ensures))) 14 1 refl (c .before .before .before .before .before .before .before .before .before .before .before .before .before .if1 .left)
-
-same-length : tie.Need-same-length
-same-length c = search needs
 
 returns-2 : tie.Need-returns-2
 unfolding preambleBytes
@@ -39,4 +27,4 @@ returns-2 c =
 pub put-preamble-spec : {M : Type 1} → statement M
 put-preamble-spec =
     tie.close
-    (tie.spec returns put-byte-requires put-byte-requires-2 put-unit-requires put-byte-requires-3 same-length returns-2)
+    (tie.spec returns (λ c κs. search needs) (λ c κs. search needs) (λ c κs. search needs) put-byte-requires-3 (λ c. search needs) returns-2)

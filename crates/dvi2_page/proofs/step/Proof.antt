@@ -1,17 +1,11 @@
 -- `dvi2_page::step` meets its contract: eop by itself, nothing else after the last item, and then by the kind of command.
 -- Assumes nothing.
-use mathlib.Core.Path.{_≡_, sym, _∙_}
+use mathlib.Core.Path.{sym, _∙_}
 use native.Mathlib.Omega.{arith}
 use borrow.Author.Needs.{needs}
 use Rattle.dvi2_page.proofs.Steps.{s-end, s-early, s-full}
 use Rattle.dvi2_page.proofs.step.Statement.{statement}
 use Rattle.dvi2_page.proofs.step.Tie as tie
-
-shared-slice-read-op : tie.Need-shared-slice-read-op
-shared-slice-read-op c = search needs
-
-is-ready-requires : tie.Need-is-ready-requires
-is-ready-requires c κs = search needs
 
 returns : tie.Need-returns
 returns c =
@@ -31,14 +25,8 @@ returns-3 c =
     let a = st .args in
     λ is l k. s-full (a .s .now) (a .at) (a .h) is (c .before .if1 .left) (omega (arith, c .if3 .taken, l))
 
-move-step-requires : tie.Need-move-step-requires
-move-step-requires c κs = search needs
-
 returns-4 : tie.Need-returns-4
 returns-4 c = λ is l k. c .move-step .ensures is (omega (arith, c .before .before .if3 .left, l))
-
-font-step-requires : tie.Need-font-step-requires
-font-step-requires c κs = search needs
 
 returns-5 : tie.Need-returns-5
 returns-5 c = λ is l k. c .font-step .ensures is (omega (arith, c .before .before .if3 .left, l)) k
@@ -46,13 +34,5 @@ returns-5 c = λ is l k. c .font-step .ensures is (omega (arith, c .before .befo
 pub step-spec : {M : Type 1} → statement M
 step-spec =
     tie.close
-    (tie.spec
-    shared-slice-read-op
-    is-ready-requires
-    returns
-    returns-2
-    returns-3
-    move-step-requires
-    returns-4
-    font-step-requires
+    (tie.spec (λ c. search needs) (λ c κs. search needs) returns returns-2 returns-3 (λ c κs. search needs) returns-4 (λ c κs. search needs)
     returns-5)

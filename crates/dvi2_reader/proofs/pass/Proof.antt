@@ -6,7 +6,7 @@ use native.Mathlib.Omega.{arith}
 use borrow.Author.Needs.{needs}
 use lib.ListN.{length}
 use Rattle.dvi2_turn.specs.Turn.{Turned}
-use Rattle.dvi2_reader.proofs.Passes.{Going, going-start, going-small, going-room, going-turning, going-on, going-valid, going-least, going-set, going-whole, going-end}
+use Rattle.dvi2_reader.proofs.Passes.{Going, going-start, going-ranged, going-room, going-turning, going-on, going-valid, going-least, going-set, going-whole, going-end}
 use Rattle.dvi2_reader.proofs.pass.Statement.{statement}
 use Rattle.dvi2_reader.proofs.pass.Tie as tie
 
@@ -45,7 +45,7 @@ enum-told c = search needs
 put-end-requires : tie.Need-put-end-requires Inv-loop μ-loop
 put-end-requires c κs =
     let g = c .before .before .before .before .before .loop .inv in
-    let t = going-small _ _ _ _ _ _ _ g in
+    let t = going-ranged _ _ _ _ _ _ _ g in
     (going-room _ _ _ _ _ _ _ g, omega (arith, t .few, t .few-cuts))
 
 same-length-2 : tie.Need-same-length-2 Inv-loop μ-loop
@@ -80,7 +80,7 @@ put-item-requires c κs = omega (arith, going-room _ _ _ _ _ _ _ (c .before .bef
 with-item-requires : tie.Need-with-item-requires Inv-loop μ-loop
 with-item-requires c κs =
     let g = c .before .before .before .before .before .before .before .before .before .loop .inv in
-    let t = going-small _ _ _ _ _ _ _ g in
+    let t = going-ranged _ _ _ _ _ _ _ g in
     let v = c .before .before .before .before .before .r3 .given .0 in
     let y = subst (Turned _ _ _) (c .before .before .before .before .before .r3 .given .1) (c .before .before .before .before .before .before .before .take-turn .ensures (g .items) (g .tally) (g .standing)) in
     ((omega (arith, t .few), omega (arith, t .few-cuts)), (going-least _ _ _ _ _ _ _ g (v .0) (v .1 .0) (v .1 .1 .0) (y .1 .1) (y .1 .0), going-valid _ _ _ _ _ _ _ g (v .0) (v .1 .0) (v .1 .1 .0) (y .1 .1)))

@@ -9,9 +9,6 @@ use Rattle.galley_file.specs.ItemLaws.{length-itemField, size-most}
 use Rattle.dvi2_reader.proofs.put_item.Statement.{statement}
 use Rattle.dvi2_reader.proofs.put_item.Tie as tie
 
-item-size-requires : tie.Need-item-size-requires
-item-size-requires c κs = search needs
-
 add-if1 : tie.Need-add-if1
 add-if1 c = omega (arith, c .before .before .pre, c .item-size .ensures, size-most New (c .before .before .args .i))
 
@@ -24,20 +21,8 @@ returns c = putIfRoom-counted _ _ _ _ (length-itemField New (c .before .before .
 put-item-requires : tie.Need-put-item-requires
 put-item-requires c κs = omega (arith, c .before .if1 .left, c .before .before .item-size .ensures)
 
-same-length : tie.Need-same-length
-same-length c = search needs
-
 returns-2 : tie.Need-returns-2
 returns-2 c = putIfRoom-written (c .before .before .put-item .ensures)
 
 pub put-item-spec : {M : Type 1} → statement M
-put-item-spec =
-    tie.close
-    (tie.spec
-    item-size-requires
-    add-if1
-    add-result
-    returns
-    put-item-requires
-    same-length
-    returns-2)
+put-item-spec = tie.close (tie.spec (λ c κs. search needs) add-if1 add-result returns put-item-requires (λ c. search needs) returns-2)

@@ -6,9 +6,6 @@ use Rattle.dvi2_writer.proofs.Results.{sized, to-small, file-is}
 use Rattle.dvi2_writer.proofs.put_file.Statement.{statement}
 use Rattle.dvi2_writer.proofs.put_file.Tie as tie
 
-put-pages-requires : tie.Need-put-pages-requires
-put-pages-requires c κs = search needs
-
 put-postamble-requires : tie.Need-put-postamble-requires
 put-postamble-requires c κs = let w = c .before .before .before .put-pages .ensures in let p = c .before .before .before .before .before .before .before .pre in sized _ (few _ _ p) _ _ _ (w .0) (all-valid _ _ p) (w .1)
 
@@ -18,9 +15,6 @@ put-fillers-requires c κs =
     let p = c .before .before .before .before .before .before .before .before .before .before .before .pre in
     to-small _ (few _ _ p) _ _ _ (w .0) (all-valid _ _ p) (w .1) _ _ (c .before .before .before .put-postamble .ensures)
 
-same-length : tie.Need-same-length
-same-length c = search needs
-
 returns : tie.Need-returns
 returns c =
     let w = c .before .before .before .before .before .before .before .before .before .before .put-pages .ensures in
@@ -28,4 +22,4 @@ returns c =
     file-is _ (few _ _ p) _ _ _ (w .0) (all-valid _ _ p) (w .1) _ _ (c .before .before .before .before .before .before .put-postamble .ensures) _ _ (c .before .before .put-fillers .ensures)
 
 pub put-file-spec : {M : Type 1} → statement M
-put-file-spec = tie.close (tie.spec put-pages-requires put-postamble-requires put-fillers-requires same-length returns)
+put-file-spec = tie.close (tie.spec (λ c κs. search needs) put-postamble-requires put-fillers-requires (λ c. search needs) returns)

@@ -8,9 +8,6 @@ use Rattle.dvi2_writer.proofs.Results.{no-room, with-room}
 use Rattle.dvi2_writer.proofs.write_checked.Statement.{statement}
 use Rattle.dvi2_writer.proofs.write_checked.Tie as tie
 
-slice-aggregate-put-file : tie.Need-slice-aggregate-put-file
-slice-aggregate-put-file c = search needs
-
 put-file-requires : tie.Need-put-file-requires
 put-file-requires c κs = c .before .before .before .pre
 
@@ -24,13 +21,10 @@ returns c =
 put-file-requires-2 : tie.Need-put-file-requires-2
 put-file-requires-2 c κs = c .before .before .before .before .before .before .before .pre
 
-same-length : tie.Need-same-length
-same-length c = search needs
-
 returns-2 : tie.Need-returns-2
 returns-2 c =
     let s = c .before .before .before .before .before .before .before .before .before .before in
     with-room (s .args .g .now) (s .args .out .now) _ (s .pre) _ (c .before .before .before .before .before .before .put-file .ensures .next-is ∙ zero-add _) (c .before .before .before .before .if1 .left) _ _ (c .before .before .put-file2 .ensures)
 
 pub write-checked-spec : {M : Type 1} → statement M
-write-checked-spec = tie.close (tie.spec slice-aggregate-put-file put-file-requires returns put-file-requires-2 same-length returns-2)
+write-checked-spec = tie.close (tie.spec (λ c. search needs) put-file-requires returns put-file-requires-2 (λ c. search needs) returns-2)

@@ -15,15 +15,6 @@ use Rattle.dvi2_writer.proofs.write_dvi2.Tie as tie
 counted : (c : tie.After-checked2) → accepted (c .checked2 .given .0 .0) ≡ checkOutcome New (c .before .before .before .before .before .args .galley .now)
 counted c = sym (ap outcomeOf (c .checked2 .given .1)) ∙ c .before .before .check-galley .ensures
 
-check-galley-requires : tie.Need-check-galley-requires
-check-galley-requires c κs = search needs
-
-enum-known-checked : tie.Need-enum-known-checked
-enum-known-checked c = search needs
-
-enum-known-checked-2 : tie.Need-enum-known-checked-2
-enum-known-checked-2 c = search needs
-
 write-checked-requires : tie.Need-write-checked-requires
 write-checked-requires c κs = counted (c .before .before)
 
@@ -33,13 +24,10 @@ returns c =
     let q = check-refused (a .galley .now) (length (a .dvi .now)) _ _ (sym (ap outcomeOf (c .before .checked .given .1)) ∙ c .before .before .before .check-galley .ensures) in
     gives q refl refl
 
-same-length : tie.Need-same-length
-same-length c = search needs
-
 returns-2 : tie.Need-returns-2
 returns-2 c = c .before .before .write-checked .ensures
 
 pub write-dvi2-spec : {M : Type 1} → statement M
 write-dvi2-spec =
     tie.close
-    (tie.spec check-galley-requires enum-known-checked enum-known-checked-2 write-checked-requires returns same-length returns-2)
+    (tie.spec (λ c κs. search needs) (λ c. search needs) (λ c. search needs) write-checked-requires returns (λ c. search needs) returns-2)

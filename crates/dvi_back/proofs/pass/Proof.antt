@@ -10,7 +10,7 @@ use borrow.Author.Needs.{needs}
 use lib.IntN.{ℤ}
 use lib.ListN.{length}
 use mir.Syntax.{w64}
-use Rattle.integers.specs.Parts.{plain}
+use Rattle.integers.specs.Bits.{plain}
 use Rattle.sheet.specs.Sheet.{Mark}
 use Rattle.dvi.specs.File.{goOn, PlacedMark, placedAt}
 use Rattle.dvi.specs.FileLaws.{stepHere}
@@ -37,50 +37,48 @@ abbrev μ-loop : tie.MeasureT-loop
 
 -- what one step says of the file
 module _ (c : tie.After-step Inv-loop μ-loop) where
+  abbrev loop : tie.At-loop Inv-loop μ-loop
+  loop = c .before .before .before
+
   abbrev start : tie.Start Inv-loop μ-loop
-  start = c .before .before .before .before .before .before .before
+  start = loop .before .before .before .before
 
   abbrev place : ℕ
-  place = c .before .before .before .loop .at
+  place = loop .loop .at
 
   abbrev marks : List PlacedMark
-  marks = c .before .before .before .loop .inv .0
+  marks = loop .loop .inv .0
 
   abbrev counts : Tally
-  counts = c .before .before .before .loop .g
+  counts = loop .loop .g
 
-  abbrev standing : Standing placedAt (start .args .widths .now) (start .args .dvi .now) (c .before .before .before .loop .stack) (c .before .before .before .loop .q) place marks
-  standing = c .before .before .before .loop .inv .1 .0
+  abbrev standing : Standing placedAt (start .args .widths .now) (start .args .dvi .now) (loop .loop .stack) (loop .loop .q) place marks
+  standing = loop .loop .inv .1 .0
 
-  abbrev tallied : Tallied (start .args .writing) (start .args .out .now) (c .before .before .before .loop .out) (makes nothing marks) counts
-  tallied = c .before .before .before .loop .inv .1 .1
+  abbrev tallied : Tallied (start .args .writing) (start .args .out .now) (loop .loop .out) (makes nothing marks) counts
+  tallied = loop .loop .inv .1 .1
 
   abbrev entries : List ℤ
   entries = c .step .last .1 .1 .0
 
-  stepped : {r : Stepped} → c .step .result ≡ r
-      → stepHere (start .args .widths .now) (start .args .dvi .now) place (stateOf (c .before .before .before .loop .q) (c .before .before .before .loop .stack)) ≡ stepOf r entries
+  stepped : {r : Stepped} → c .step .result ≡ r → stepHere (start .args .widths .now) (start .args .dvi .now) place (stateOf (loop .loop .q) (loop .loop .stack)) ≡ stepOf r entries
   stepped e = sym (c .step .ensures) ∙ ap (λ (r : Stepped). stepOf r entries) e
 
+  -- where a command leads that goes on
   abbrev Further : State → List Mark → ℕ → Type 0
   Further t ms n = Standing placedAt (start .args .widths .now) (start .args .dvi .now) entries t (place + 1 + n) (marks ++ placedAt place ms)
 
-  further : (t : State) (ms : List Mark) (n : ℕ)
-      → stepHere (start .args .widths .now) (start .args .dvi .now) place (stateOf (c .before .before .before .loop .q) (c .before .before .before .loop .stack)) ≡ goOn (stateOf t entries) ms n
-      → Further t ms n
-  further t ms n e = standing-next standing (c .before .before .loop-test .taken) entries t ms n (c .step .kept .1 .1 .0 ∙ standing .whole) e
+  further : (t : State) (ms : List Mark) (n : ℕ) {r : Stepped} → c .step .result ≡ r → stepOf r entries ≡ goOn (stateOf t entries) ms n → Further t ms n
+  further t ms n e f = standing-next standing (c .before .before .loop-test .taken) entries t ms n (c .step .kept .1 .1 .0 ∙ standing .whole) (stepped e ∙ f)
 
-goes : (c : tie.After-known-told2 Inv-loop μ-loop) → Further (c .before .before .before .before) (c .before .r2 .given .0 .0) [] (c .before .r2 .given .0 .1 .0)
-goes c =
-    let k = c .before .before .before .before in
-    let g = c .before .r2 .given in
-    further k (g .0 .0) [] (g .0 .1 .0) (stepped k (g .1))
+goes : (c : tie.After-known-told2 Inv-loop μ-loop) → let g = c .before .r2 .given .0 in Further (c .before .before .before .before) (g .0) [] (g .1 .0)
+goes c = let g = c .before .r2 .given in further (c .before .before .before .before) (g .0 .0) [] (g .0 .1 .0) (g .1) refl
 
-showing : (c : tie.After-known-told3 Inv-loop μ-loop) → Further (c .before .before .before .before) (c .before .r3 .given .0 .0) (markOf (c .before .r3 .given .0 .1 .0) ∷ []) (c .before .r3 .given .0 .1 .1 .0)
+showing : (c : tie.After-known-told3 Inv-loop μ-loop)
+    → let g = c .before .r3 .given .0 in Further (c .before .before .before .before) (g .0) (markOf (g .1 .0) ∷ []) (g .1 .1 .0)
 showing c =
-    let k = c .before .before .before .before in
     let g = c .before .r3 .given in
-    further k (g .0 .0) (markOf (g .0 .1 .0) ∷ []) (g .0 .1 .1 .0) (stepped k (g .1))
+    further (c .before .before .before .before) (g .0 .0) (markOf (g .0 .1 .0) ∷ []) (g .0 .1 .1 .0) (g .1) refl
 
 -- the item that the mark shows
 module _ (c : tie.After-item-of Inv-loop μ-loop) where
@@ -129,8 +127,8 @@ returns : tie.Need-returns Inv-loop μ-loop
 unfolding shownGalley
 returns c =
     let k = c .before .before .before .before in
-    let g = c .before .r .given in
-    passed-refused (ap shownGalley (standing-refused (standing k) (k .before .before .loop-test .taken) (g .0 .0) (stepped k (g .1)))) (start k .pre .1) (tallied-unwritten (tallied k))
+    let e = standing-refused (standing k) (k .before .before .loop-test .taken) _ (stepped k (c .before .r .given .1)) in
+    passed-refused (ap shownGalley e) (start k .pre .1) (tallied-unwritten (tallied k))
 
 enum-known-r-2 : tie.Need-enum-known-r-2 Inv-loop μ-loop
 enum-known-r-2 c = search needs
@@ -145,7 +143,7 @@ loop-less : tie.Need-loop-less Inv-loop μ-loop
 loop-less c = omega (arith, goes c .within, c .before .before .before .before .before .before .loop-test .taken)
 
 loop-again : tie.Need-loop-again Inv-loop μ-loop
-loop-again c = (_, (goes c, tallied-still (marks (c .before .before .before .before)) (place (c .before .before .before .before)) (tallied (c .before .before .before .before))))
+loop-again c = let k = c .before .before .before .before in (_, (goes c, tallied-still (marks k) (place k) (tallied k)))
 
 enum-known-r-3 : tie.Need-enum-known-r-3 Inv-loop μ-loop
 enum-known-r-3 c = search needs
@@ -165,35 +163,26 @@ show-item-requires c κs w =
 with-item-requires : tie.Need-with-item-requires Inv-loop μ-loop
 with-item-requires c κs = search needs
 
--- the commands so far, one further
-module _ (c : tie.After-with-item Inv-loop μ-loop) where
-  abbrev item : tie.After-item-of Inv-loop μ-loop
-  item = c .before .before .before .before .before
-
-  abbrev next : Further (here item) (told item .before .r3 .given .0 .0) (markOf (told item .before .r3 .given .0 .1 .0) ∷ []) (told item .before .r3 .given .0 .1 .1 .0)
-  next = showing (told item)
+abbrev item : tie.After-with-item Inv-loop μ-loop → tie.After-item-of Inv-loop μ-loop
+item c = c .before .before .before .before .before
 
 add-at-3 : tie.Need-add-at-3 Inv-loop μ-loop
-add-at-3 c = record { fits = omega (arith, next c .within, start (here (item c)) .pre .0) }
+add-at-3 c = record { fits = omega (arith, showing (told (item c)) .within, start (here (item c)) .pre .0) }
 
 add-at-4 : tie.Need-add-at-4 Inv-loop μ-loop
-add-at-4 c = record { fits = omega (arith, next c .within, start (here (item c)) .pre .0) }
+add-at-4 c = record { fits = omega (arith, showing (told (item c)) .within, start (here (item c)) .pre .0) }
 
 loop-less-2 : tie.Need-loop-less-2 Inv-loop μ-loop
-loop-less-2 c = omega (arith, next c .within, here (item c) .before .before .loop-test .taken)
+loop-less-2 c = omega (arith, showing (told (item c)) .within, here (item c) .before .before .loop-test .taken)
 
 loop-again-2 : tie.Need-loop-again-2 Inv-loop μ-loop
 loop-again-2 c =
     let i = item c in
     let k = here i in
-    let s = c .before .before .before .show-item in (
-      _,
-      (
-        next c,
-        tallied-named (sym (made-is i))
-            (tallied-more (tallied k) (length (start k .args .out .now)) (place k) (i .item-of .result) (s .ensures) (s .kept .0) (next-fits i) (c .with-item .ensures (makes nothing (marks k)) (tallied k .counted))),
-      ),
-    )
+    let s = c .before .before .before .show-item in
+    let counted = c .with-item .ensures (makes nothing (marks k)) (tallied k .counted) in
+    let t = tallied-more (tallied k) (length (start k .args .out .now)) (place k) (i .item-of .result) (s .ensures) (s .kept .0) (next-fits i) counted in
+    (_, (showing (told i), tallied-named (sym (made-is i)) t))
 
 enum-told : tie.Need-enum-told Inv-loop μ-loop
 enum-told c = search needs

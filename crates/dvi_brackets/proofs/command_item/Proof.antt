@@ -10,7 +10,7 @@ use Rattle.dvi_command.specs.Command.{decodedOf}
 use Rattle.dvi_page.specs.Page.{pageOf, effectOf}
 use Rattle.dvi_command.specs.declared.Decoded.{Decoded}
 use Rattle.dvi_brackets.specs.Brackets.{Item, effectItem, commandItem}
-use Rattle.dvi_brackets.specs.Agreement.{InnerDecoded, inner-decoded}
+use Rattle.dvi_brackets.specs.Inner.{InnerDecoded, inner-decoded}
 use Rattle.dvi_brackets.specs.Reading.{RoomyItem, ItemDone}
 use Rattle.dvi_brackets.proofs.Going.{item-bad}
 use Rattle.dvi_brackets.proofs.command_item.Statement.{statement}
@@ -29,21 +29,6 @@ module _ (c : tie.After-decode) where
 
   decoded : {k : Decoded} → c .decode .result ≡ k → whole ≡ decodedOf k
   decoded e = sym (c .decode .ensures) ∙ ap decodedOf e
-
-shared-slice-read-op : tie.Need-shared-slice-read-op
-shared-slice-read-op c = search needs
-
-decode-requires : tie.Need-decode-requires
-decode-requires c κs = search needs
-
-enum-told : tie.Need-enum-told
-enum-told c = search needs
-
-enum-told-2 : tie.Need-enum-told-2
-enum-told-2 c = search needs
-
-enum-known-d : tie.Need-enum-known-d
-enum-known-d c = search needs
 
 plain-effect-requires : tie.Need-plain-effect-requires
 plain-effect-requires c κs =
@@ -78,9 +63,6 @@ returns-2 c =
     let k = c .before .before in
     item-bad (ap (here k) (decoded k (c .enum-told2 .given .1))) (λ w. start k .pre .1 .1 w .accepted) (λ _. refl)
 
-same-length : tie.Need-same-length
-same-length c = search needs
-
 returns-3 : tie.Need-returns-3
 returns-3 c =
     let e = c .before .before .before .before in
@@ -91,15 +73,5 @@ returns-3 c =
 pub command-item-spec : {M : Type 1} → statement M
 command-item-spec =
     tie.close
-    (tie.spec
-    shared-slice-read-op
-    decode-requires
-    enum-told
-    enum-told-2
-    enum-known-d
-    plain-effect-requires
-    effect-item-requires
-    returns
-    returns-2
-    same-length
-    returns-3)
+    (tie.spec (λ c. search needs) (λ c κs. search needs) (λ c. search needs) (λ c. search needs) (λ c. search needs) plain-effect-requires
+    effect-item-requires returns returns-2 (λ c. search needs) returns-3)

@@ -26,15 +26,6 @@ module _ (s : tie.Start) where
   room : {k : Effect} → s .args .e ≡ k → s .args .writing ≡ true → RoomyItem (effectItem (s .args .at) (s .args .n) (effectOf k [])) (s .args .to) (length (s .args .out .now))
   room e w = subst (λ (i : Item). RoomyItem i (s .args .to) (length (s .args .out .now))) (found e) (s .pre .1 w)
 
-enum-known-e : tie.Need-enum-known-e
-enum-known-e c = search needs
-
-enum-known-e-2 : tie.Need-enum-known-e-2
-enum-known-e-2 c = search needs
-
-enum-known-e-3 : tie.Need-enum-known-e-3
-enum-known-e-3 c = search needs
-
 show-mark-requires : tie.Need-show-mark-requires
 unfolding effectItem
 show-mark-requires c κs =
@@ -44,12 +35,6 @@ show-mark-requires c κs =
       omega (arith, s .pre .0 .near, s .pre .0 .low),
       λ w. omega (arith, room s (g .1) w .enough, ap length (one-field m), length-markField m),
     )
-
-add-t16 : tie.Need-add-t16
-add-t16 c = search needs
-
-enum-told : tie.Need-enum-told
-enum-told c = search needs
 
 returns : tie.Need-returns
 unfolding effectItem
@@ -62,9 +47,6 @@ unfolding effectItem markFields
 returns-2 c =
     let s = c .before .before .before .before in
     item-past (found s (c .before .e2 .given .1)) (put-none (s .args .writing) (s .args .out .now) (s .args .to)) (omega arith)
-
-same-length : tie.Need-same-length
-same-length c = search needs
 
 returns-3 : tie.Need-returns-3
 unfolding effectItem
@@ -80,15 +62,5 @@ returns-4 c = let s = c .before .before .before in item-end (found s (c .enum-to
 pub effect-item-spec : {M : Type 1} → statement M
 effect-item-spec =
     tie.close
-    (tie.spec
-    enum-known-e
-    enum-known-e-2
-    enum-known-e-3
-    show-mark-requires
-    add-t16
-    enum-told
-    returns
-    returns-2
-    same-length
-    returns-3
-    returns-4)
+    (tie.spec (λ c. search needs) (λ c. search needs) (λ c. search needs) show-mark-requires (λ c. search needs) (λ c. search needs) returns
+    returns-2 (λ c. search needs) returns-3 returns-4)

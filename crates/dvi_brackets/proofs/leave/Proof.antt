@@ -21,20 +21,8 @@ module _ (s : tie.Start) where
   left : {k : Run} (i : Item) → s .args .r ≡ k → LeftBy (s .args .at) (s .args .p) k i → LeftBy (s .args .at) (s .args .p) (s .args .r) i
   left {k} i e h = subst (λ (j : Run). LeftBy (s .args .at) (s .args .p) j i) (sym e) h
 
-enum-known-r : tie.Need-enum-known-r
-enum-known-r c = search needs
-
-enum-known-r-2 : tie.Need-enum-known-r-2
-enum-known-r-2 c = search needs
-
-with-numbers-requires : tie.Need-with-numbers-requires
-with-numbers-requires c κs = search needs
-
 add-t16 : tie.Need-add-t16
 add-t16 c = omega (arith, near (c .before .before .before .before .before) (c .before .before .before .r2 .given .1))
-
-enum-known-r-3 : tie.Need-enum-known-r-3
-enum-known-r-3 c = search needs
 
 add-t17 : tie.Need-add-t17
 add-t17 c = omega (arith, near (c .before .before .before) (c .before .r3 .given .1))
@@ -59,14 +47,4 @@ returns-3 c =
 pub leave-spec : {M : Type 1} → statement M
 leave-spec =
     tie.close
-    (tie.spec
-    enum-known-r
-    enum-known-r-2
-    with-numbers-requires
-    add-t16
-    enum-known-r-3
-    add-t17
-    add-t18
-    returns
-    returns-2
-    returns-3)
+    (tie.spec (λ c. search needs) (λ c. search needs) (λ c κs. search needs) add-t16 (λ c. search needs) add-t17 add-t18 returns returns-2 returns-3)

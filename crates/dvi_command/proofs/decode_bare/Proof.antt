@@ -4,24 +4,24 @@ use mathlib.Core.Path.{sym, ap}
 use Prim.Native.Nat.{ℕ}
 use native.Mathlib.Omega.{arith}
 use Rattle.dvi_command.proofs.Commands.{decode-barred}
-use Rattle.dvi.specs.Command.{decode, formOf, forms, withParameters}
+use Rattle.dvi.specs.Command.{decode, layoutOf, layouts, withParameters}
 use Rattle.dvi_command.proofs.decode_bare.Statement.{statement}
 use Rattle.dvi_command.proofs.decode_bare.Tie as tie
 
 returns : tie.Need-returns
-unfolding decode formOf forms withParameters
+unfolding decode layoutOf layouts withParameters
 returns c ps = ap (λ (o : ℕ). decode o ps) (sym (c .match .keys1))
 
 returns-2 : tie.Need-returns-2
-unfolding decode formOf forms withParameters
+unfolding decode layoutOf layouts withParameters
 returns-2 c ps = ap (λ (o : ℕ). decode o ps) (sym (c .match .keys2))
 
 returns-3 : tie.Need-returns-3
-unfolding decode formOf forms withParameters
+unfolding decode layoutOf layouts withParameters
 returns-3 c ps = ap (λ (o : ℕ). decode o ps) (sym (c .match .keys3))
 
 returns-4 : tie.Need-returns-4
-unfolding decode formOf forms withParameters
+unfolding decode layoutOf layouts withParameters
 returns-4 c ps = ap (λ (o : ℕ). decode o ps) (sym (c .match .keys4))
 
 returns-5 : tie.Need-returns-5

@@ -9,18 +9,6 @@ use borrow.Author.Needs.{needs}
 use Rattle.dvi_command.proofs.decode_move.Statement.{statement}
 use Rattle.dvi_command.proofs.decode_move.Tie as tie
 
-parameter-at-requires : tie.Need-parameter-at-requires
-parameter-at-requires c κs = search needs
-
-enum-known-p : tie.Need-enum-known-p
-enum-known-p c = search needs
-
-moving-requires : tie.Need-moving-requires
-moving-requires c κs = search needs
-
-enum-told : tie.Need-enum-told
-enum-told c = search needs
-
 returns : tie.Need-returns
 returns c =
     let a = c .before .before .before .before .before .before .args in
@@ -35,5 +23,4 @@ returns-2 c =
     sym (with-none (a .n) (movingOf (a .amount)) (drop (a .at) (a .s .now)) (sym (c .before .before .parameter-at .ensures) ∙ c .enum-told .given .1))
 
 pub decode-move-spec : {M : Type 1} → statement M
-decode-move-spec =
-    tie.close (tie.spec parameter-at-requires enum-known-p moving-requires enum-told returns returns-2)
+decode-move-spec = tie.close (tie.spec (λ c κs. search needs) (λ c. search needs) (λ c κs. search needs) (λ c. search needs) returns returns-2)

@@ -15,16 +15,10 @@ use Rattle.dvi_command.proofs.decode_other.Tie as tie
 returns : tie.Need-returns
 returns c ps = decode-undefined (c .before .args .op) ps (c .if1 .taken)
 
-sub-t3 : tie.Need-sub-t3
-sub-t3 c = search needs
-
-cast-t4 : tie.Need-cast-t4
-cast-t4 c = search needs
-
 returns-2 : tie.Need-returns-2
 returns-2 c ps =
     let op = c .before .args .op in
     ap (λ (z : ℤ). command (setFont z) 0) (toZ-pos w32 (op - 154) (omega arith)) ∙ decode-fontnum op ps (c .before .pre) (c .if1 .left)
 
 pub decode-other-spec : {M : Type 1} → statement M
-decode-other-spec = tie.close (tie.spec returns sub-t3 cast-t4 returns-2)
+decode-other-spec = tie.close (tie.spec returns (λ c. search needs) (λ c. search needs) returns-2)

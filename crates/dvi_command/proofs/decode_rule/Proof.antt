@@ -4,7 +4,7 @@ use mathlib.Core.Path.{sym, ap, _∙_}
 use mathlib.Core.List.{List}
 use Prim.Native.Nat.{ℕ}
 use mir.Syntax.{w32}
-use Rattle.integers.specs.Parts.{returned}
+use Rattle.integers.specs.Bits.{returned}
 use native.Mathlib.Omega.{arith}
 use lib.ListN.{take, drop, length-drop}
 use lib.Seq.{drop-drop}
@@ -14,23 +14,11 @@ use borrow.Author.Needs.{needs}
 use Rattle.dvi_command.proofs.decode_rule.Statement.{statement}
 use Rattle.dvi_command.proofs.decode_rule.Tie as tie
 
-sub-if1 : tie.Need-sub-if1
-sub-if1 c = search needs
-
 returns : tie.Need-returns
 returns c =
     let a = c .before .before .args in
     let l = length-drop (a .at) (a .s .now) in
     decode-rule-cut (a .op) (drop (a .at) (a .s .now)) (omega arith) (omega arith) (omega arith)
-
-signed4-at-requires : tie.Need-signed4-at-requires
-signed4-at-requires c κs = search needs
-
-add-signed4-at : tie.Need-add-signed4-at
-add-signed4-at c = search needs
-
-signed4-at-requires-2 : tie.Need-signed4-at-requires-2
-signed4-at-requires-2 c κs = search needs
 
 returns-2 : tie.Need-returns-2
 returns-2 c =
@@ -53,4 +41,5 @@ returns-3 c =
 pub decode-rule-spec : {M : Type 1} → statement M
 decode-rule-spec =
     tie.close
-    (tie.spec sub-if1 returns signed4-at-requires add-signed4-at signed4-at-requires-2 returns-2 returns-3)
+    (tie.spec
+    (λ c. search needs) returns (λ c κs. search needs) (λ c. search needs) (λ c κs. search needs) returns-2 returns-3)

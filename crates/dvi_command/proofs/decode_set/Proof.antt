@@ -9,24 +9,6 @@ use borrow.Author.Needs.{needs}
 use Rattle.dvi_command.proofs.decode_set.Statement.{statement}
 use Rattle.dvi_command.proofs.decode_set.Tie as tie
 
-parameter-at-requires : tie.Need-parameter-at-requires
-parameter-at-requires c κs = search needs
-
-enum-known-p : tie.Need-enum-known-p
-enum-known-p c = search needs
-
-enum-told : tie.Need-enum-told
-enum-told c = search needs
-
-parameter-at-requires-2 : tie.Need-parameter-at-requires-2
-parameter-at-requires-2 c κs = search needs
-
-enum-known-p-2 : tie.Need-enum-known-p-2
-enum-known-p-2 c = search needs
-
-enum-told-2 : tie.Need-enum-told-2
-enum-told-2 c = search needs
-
 returns : tie.Need-returns
 returns c =
     let a = c .before .before .before .before .before .before .args in
@@ -57,13 +39,5 @@ pub decode-set-spec : {M : Type 1} → statement M
 decode-set-spec =
     tie.close
     (tie.spec
-    parameter-at-requires
-    enum-known-p
-    enum-told
-    parameter-at-requires-2
-    enum-known-p-2
-    enum-told-2
-    returns
-    returns-2
-    returns-3
-    returns-4)
+    (λ c κs. search needs) (λ c. search needs) (λ c. search needs) (λ c κs. search needs) (λ c. search needs) (λ c. search needs)
+    returns returns-2 returns-3 returns-4)

@@ -4,32 +4,17 @@ use mathlib.Core.Path.{_≡_}
 use native.Mathlib.Omega.{arith}
 use lib.ListN.{drop, length-drop}
 use mir.Syntax.{w32}
-use Rattle.integers.specs.Parts.{returned}
+use Rattle.integers.specs.Bits.{returned}
 use Rattle.dvi_command.proofs.Commands.{parameter-value, parameter-short, is-four, has-room}
 use borrow.Author.Needs.{needs}
 use Rattle.dvi_command.proofs.parameter_at.Statement.{statement}
 use Rattle.dvi_command.proofs.parameter_at.Tie as tie
-
-sub-if1 : tie.Need-sub-if1
-sub-if1 c = search needs
 
 returns : tie.Need-returns
 returns c =
     let a = c .before .before .args in
     let l = length-drop (a .at) (a .s .now) in
     parameter-short (a .n) (drop (a .at) (a .s .now)) (omega arith)
-
-signed1-at-requires : tie.Need-signed1-at-requires
-signed1-at-requires c κs = search needs
-
-signed2-at-requires : tie.Need-signed2-at-requires
-signed2-at-requires c κs = search needs
-
-signed3-at-requires : tie.Need-signed3-at-requires
-signed3-at-requires c κs = search needs
-
-signed4-at-requires : tie.Need-signed4-at-requires
-signed4-at-requires c κs = search needs
 
 returns-2 : tie.Need-returns-2
 returns-2 c =
@@ -60,13 +45,5 @@ pub parameter-at-spec : {M : Type 1} → statement M
 parameter-at-spec =
     tie.close
     (tie.spec
-    sub-if1
-    returns
-    signed1-at-requires
-    signed2-at-requires
-    signed3-at-requires
-    signed4-at-requires
-    returns-2
-    returns-3
-    returns-4
-    returns-5)
+    (λ c. search needs) returns (λ c κs. search needs) (λ c κs. search needs) (λ c κs. search needs) (λ c κs. search needs)
+    returns-2 returns-3 returns-4 returns-5)

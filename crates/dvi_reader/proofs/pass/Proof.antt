@@ -32,47 +32,45 @@ abbrev μ-loop : tie.MeasureT-loop
 
 -- what one step says of the file
 module _ (c : tie.After-step Inv-loop μ-loop) where
+  abbrev loop : tie.At-loop Inv-loop μ-loop
+  loop = c .before .before .before
+
   abbrev start : tie.Start Inv-loop μ-loop
-  start = c .before .before .before .before .before .before
+  start = loop .before .before .before
 
   abbrev place : ℕ
-  place = c .before .before .before .loop .at
+  place = loop .loop .at
 
   abbrev marks : List Mark
-  marks = c .before .before .before .loop .inv .0
+  marks = loop .loop .inv .0
 
-  abbrev standing : Standing marksAlone (start .args .widths .now) (start .args .dvi .now) (c .before .before .before .loop .stack) (c .before .before .before .loop .q) place marks
-  standing = c .before .before .before .loop .inv .1 .0
+  abbrev standing : Standing marksAlone (start .args .widths .now) (start .args .dvi .now) (loop .loop .stack) (loop .loop .q) place marks
+  standing = loop .loop .inv .1 .0
 
-  abbrev filled : Filled (start .args .writing) (start .args .out .now) (c .before .before .before .loop .out) marks place (c .before .before .before .loop .to) (c .before .before .before .loop .count)
-  filled = c .before .before .before .loop .inv .1 .1
+  abbrev filled : Filled (start .args .writing) (start .args .out .now) (loop .loop .out) marks place (loop .loop .to) (loop .loop .count)
+  filled = loop .loop .inv .1 .1
 
   abbrev entries : List ℤ
   entries = c .step .last .1 .1 .0
 
-  stepped : {r : Stepped} → c .step .result ≡ r
-      → stepHere (start .args .widths .now) (start .args .dvi .now) place (stateOf (c .before .before .before .loop .q) (c .before .before .before .loop .stack)) ≡ stepOf r entries
+  stepped : {r : Stepped} → c .step .result ≡ r → stepHere (start .args .widths .now) (start .args .dvi .now) place (stateOf (loop .loop .q) (loop .loop .stack)) ≡ stepOf r entries
   stepped e = sym (c .step .ensures) ∙ ap (λ (r : Stepped). stepOf r entries) e
 
+  -- where a command leads that goes on
   abbrev Further : State → List Mark → ℕ → Type 0
   Further t ms n = Standing marksAlone (start .args .widths .now) (start .args .dvi .now) entries t (place + 1 + n) (marks ++ ms)
 
-  further : (t : State) (ms : List Mark) (n : ℕ)
-      → stepHere (start .args .widths .now) (start .args .dvi .now) place (stateOf (c .before .before .before .loop .q) (c .before .before .before .loop .stack)) ≡ goOn (stateOf t entries) ms n
-      → Further t ms n
-  further t ms n e = standing-next standing (c .before .before .loop-test .taken) entries t ms n (c .step .kept .1 .1 .0 ∙ standing .whole) e
+  further : (t : State) (ms : List Mark) (n : ℕ) {r : Stepped} → c .step .result ≡ r → stepOf r entries ≡ goOn (stateOf t entries) ms n → Further t ms n
+  further t ms n e f = standing-next standing (c .before .before .loop-test .taken) entries t ms n (c .step .kept .1 .1 .0 ∙ standing .whole) (stepped e ∙ f)
 
-goes : (c : tie.After-known-told2 Inv-loop μ-loop) → Further (c .before .before .before .before) (c .before .r2 .given .0 .0) [] (c .before .r2 .given .0 .1 .0)
-goes c =
-    let k = c .before .before .before .before in
-    let g = c .before .r2 .given in
-    further k (g .0 .0) [] (g .0 .1 .0) (stepped k (g .1))
+goes : (c : tie.After-known-told2 Inv-loop μ-loop) → let g = c .before .r2 .given .0 in Further (c .before .before .before .before) (g .0) [] (g .1 .0)
+goes c = let g = c .before .r2 .given in further (c .before .before .before .before) (g .0 .0) [] (g .0 .1 .0) (g .1) refl
 
-showing : (c : tie.After-known-told3 Inv-loop μ-loop) → Further (c .before .before .before .before) (c .before .r3 .given .0 .0) (markOf (c .before .r3 .given .0 .1 .0) ∷ []) (c .before .r3 .given .0 .1 .1 .0)
+showing : (c : tie.After-known-told3 Inv-loop μ-loop)
+    → let g = c .before .r3 .given .0 in Further (c .before .before .before .before) (g .0) (markOf (g .1 .0) ∷ []) (g .1 .1 .0)
 showing c =
-    let k = c .before .before .before .before in
     let g = c .before .r3 .given in
-    further k (g .0 .0) (markOf (g .0 .1 .0) ∷ []) (g .0 .1 .1 .0) (stepped k (g .1))
+    further (c .before .before .before .before) (g .0 .0) (markOf (g .0 .1 .0) ∷ []) (g .0 .1 .1 .0) (g .1) refl
 
 -- the field of the mark that is shown has room, if writing
 room : (c : tie.After-known-told3 Inv-loop μ-loop) → start (c .before .before .before .before) .args .writing ≡ true

@@ -4,25 +4,13 @@ use mathlib.Core.Path.{sym, ap, _∙_}
 use mathlib.Core.List.{[], _∷_}
 use borrow.Author.Needs.{needs}
 use lib.IntN.{ℤ}
-use Rattle.integers.specs.Parts.{plain}
+use Rattle.integers.specs.Bits.{plain}
 use Rattle.dvi.specs.File.{between, inside, goOn, afterEffect}
 use Rattle.dvi.specs.Mark.{markOf}
 use Rattle.dvi_page.specs.Page.{pageOf, effectOf}
 use Rattle.dvi_page.specs.declared.page.Effect.{Effect}
 use Rattle.dvi_step.proofs.after_effect.Statement.{statement}
 use Rattle.dvi_step.proofs.after_effect.Tie as tie
-
-enum-known-e : tie.Need-enum-known-e
-enum-known-e c = search needs
-
-enum-known-e-2 : tie.Need-enum-known-e-2
-enum-known-e-2 c = search needs
-
-enum-known-e-3 : tie.Need-enum-known-e-3
-enum-known-e-3 c = search needs
-
-enum-told : tie.Need-enum-told
-enum-told c = search needs
 
 returns : tie.Need-returns
 unfolding afterEffect
@@ -60,11 +48,4 @@ pub after-effect-spec : {M : Type 1} → statement M
 after-effect-spec =
     tie.close
     (tie.spec
-    enum-known-e
-    enum-known-e-2
-    enum-known-e-3
-    enum-told
-    returns
-    returns-2
-    returns-3
-    returns-4)
+    (λ c. search needs) (λ c. search needs) (λ c. search needs) (λ c. search needs) returns returns-2 returns-3 returns-4)

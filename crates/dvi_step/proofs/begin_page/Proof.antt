@@ -9,7 +9,7 @@ use lib.ListN.{take, drop, length-drop}
 use mir.Syntax.{w32}
 use mir.Val.{ofZ}
 use mir.ValLaws.{toZ-pos}
-use Rattle.integers.specs.Parts.{returned, same-bits}
+use Rattle.integers.specs.Bits.{returned, same-bits}
 use Rattle.octets.specs.Octets.{signed, signedAt}
 use Rattle.sheet.specs.Sheet.{pageMark}
 use Rattle.dvi.specs.File.{inside, goOn}
@@ -22,26 +22,11 @@ use Rattle.dvi_step.proofs.begin_page.Tie as tie
 second : (s : List ℕ) (at : ℕ) → signedAt 4 (at + 5) s ≡ signedAt 4 4 (drop (at + 1) s)
 second s at = ap (λ (l : List ℕ). signed (take 4 l)) (sym (drop-to s 4 (at + 1) (at + 5) (omega arith)))
 
-sub-if1 : tie.Need-sub-if1
-sub-if1 c = search needs
-
 returns : tie.Need-returns
 returns c l =
     let a = c .before .before .args in
     let k = length-drop (a .at + 1) (a .dvi .now) in
     begin-short (a .last) (a .at) (drop (a .at + 1) (a .dvi .now)) (omega arith)
-
-add-signed4-at : tie.Need-add-signed4-at
-add-signed4-at c = search needs
-
-signed4-at-requires : tie.Need-signed4-at-requires
-signed4-at-requires c κs = search needs
-
-add-signed4-at-2 : tie.Need-add-signed4-at-2
-add-signed4-at-2 c = search needs
-
-signed4-at-requires-2 : tie.Need-signed4-at-requires-2
-signed4-at-requires-2 c κs = search needs
 
 returns-2 : tie.Need-returns-2
 returns-2 c l =
@@ -49,12 +34,6 @@ returns-2 c l =
     let s = a .dvi .now in
     let k = length-drop (a .at + 1) s in
     begin-off (a .last) (a .at) (drop (a .at + 1) s) (omega arith) (λ e. c .if2 .taken (ap (ofZ w32) (c .before .signed4-at2 .ensures ∙ second s (a .at) ∙ e)))
-
-new-page-requires : tie.Need-new-page-requires
-new-page-requires c κs = search needs
-
-cast-t10 : tie.Need-cast-t10
-cast-t10 c = search needs
 
 returns-3 : tie.Need-returns-3
 returns-3 c l =
@@ -72,13 +51,5 @@ pub begin-page-spec : {M : Type 1} → statement M
 begin-page-spec =
     tie.close
     (tie.spec
-    sub-if1
-    returns
-    add-signed4-at
-    signed4-at-requires
-    add-signed4-at-2
-    signed4-at-requires-2
-    returns-2
-    new-page-requires
-    cast-t10
-    returns-3)
+    (λ c. search needs) returns (λ c. search needs) (λ c κs. search needs) (λ c. search needs) (λ c κs. search needs) returns-2
+    (λ c κs. search needs) (λ c. search needs) returns-3)

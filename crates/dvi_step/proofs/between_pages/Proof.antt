@@ -5,18 +5,12 @@ use Prim.Native.Nat.{ℕ, _+_}
 use borrow.Author.Needs.{needs}
 use lib.IntN.{ℤ}
 use lib.ListN.{getD, drop}
-use Rattle.integers.specs.Parts.{plain}
+use Rattle.integers.specs.Bits.{plain}
 use Rattle.dvi.specs.Command.{PST}
 use Rattle.dvi.specs.File.{between, beginPage, step}
 use Rattle.dvi_step.proofs.Steps.{neither}
 use Rattle.dvi_step.proofs.between_pages.Statement.{statement}
 use Rattle.dvi_step.proofs.between_pages.Tie as tie
-
-shared-slice-read-op : tie.Need-shared-slice-read-op
-shared-slice-read-op c = search needs
-
-begin-page-requires : tie.Need-begin-page-requires
-begin-page-requires c κs = search needs
 
 returns : tie.Need-returns
 unfolding step
@@ -27,9 +21,6 @@ returns c ws l =
     c .begin-page .ensures l
     ∙ ap (λ (z : ℤ). beginPage z (a .at) ps) (plain (s .fits .last))
     ∙ ap (λ (o : ℕ). step ws (a .at) (between (a .last)) o ps) (sym (c .before .if1 .taken))
-
-end-file-requires : tie.Need-end-file-requires
-end-file-requires c κs = search needs
 
 returns-2 : tie.Need-returns-2
 returns-2 c ws l =
@@ -46,6 +37,4 @@ returns-3 c ws l =
     neither ws (a .last) (a .at) (drop (a .at + 1) (a .dvi .now)) (getD (a .dvi .now) (a .at) 0) (c .before .if1 .left) (c .if2 .left)
 
 pub between-pages-spec : {M : Type 1} → statement M
-between-pages-spec =
-    tie.close
-    (tie.spec shared-slice-read-op begin-page-requires returns end-file-requires returns-2 returns-3)
+between-pages-spec = tie.close (tie.spec (λ c. search needs) (λ c κs. search needs) returns (λ c κs. search needs) returns-2 returns-3)

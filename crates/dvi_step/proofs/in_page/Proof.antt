@@ -3,36 +3,12 @@
 use mathlib.Core.Path.{sym, ap, _∙_}
 use borrow.Author.Needs.{needs}
 use lib.IntN.{ℤ}
-use Rattle.integers.specs.Parts.{plain}
+use Rattle.integers.specs.Bits.{plain}
 use Rattle.dvi.specs.File.{afterEffect, inPage, step}
 use Rattle.dvi_command.specs.Command.{decodedOf}
 use Rattle.dvi_page.specs.Page.{pageOf, effectOf}
 use Rattle.dvi_step.proofs.in_page.Statement.{statement}
 use Rattle.dvi_step.proofs.in_page.Tie as tie
-
-shared-slice-read-op : tie.Need-shared-slice-read-op
-shared-slice-read-op c = search needs
-
-add-decode : tie.Need-add-decode
-add-decode c = search needs
-
-decode-requires : tie.Need-decode-requires
-decode-requires c κs = search needs
-
-enum-told : tie.Need-enum-told
-enum-told c = search needs
-
-enum-told-2 : tie.Need-enum-told-2
-enum-told-2 c = search needs
-
-enum-known-d : tie.Need-enum-known-d
-enum-known-d c = search needs
-
-effect-of-requires : tie.Need-effect-of-requires
-effect-of-requires c κs = search needs
-
-after-effect-requires : tie.Need-after-effect-requires
-after-effect-requires c κs = search needs
 
 returns : tie.Need-returns
 unfolding step inPage
@@ -45,9 +21,6 @@ unfolding step inPage
 returns-2 c =
     let a = c .before .before .before .before .before .args in
     ap (inPage (a .widths .now) (a .last) (pageOf (a .p) (a .entries .now))) (ap decodedOf (sym (c .enum-told2 .given .1)) ∙ c .before .before .decode .ensures)
-
-same-length : tie.Need-same-length
-same-length c = search needs
 
 returns-3 : tie.Need-returns-3
 unfolding step inPage
@@ -67,15 +40,5 @@ pub in-page-spec : {M : Type 1} → statement M
 in-page-spec =
     tie.close
     (tie.spec
-    shared-slice-read-op
-    add-decode
-    decode-requires
-    enum-told
-    enum-told-2
-    enum-known-d
-    effect-of-requires
-    after-effect-requires
-    returns
-    returns-2
-    same-length
-    returns-3)
+    (λ c. search needs) (λ c. search needs) (λ c κs. search needs) (λ c. search needs) (λ c. search needs) (λ c. search needs)
+    (λ c κs. search needs) (λ c κs. search needs) returns returns-2 (λ c. search needs) returns-3)

@@ -6,7 +6,7 @@ use borrow.Author.Needs.{needs}
 use lib.IntN.{ℤ}
 use lib.ListN.{getD, drop}
 use mir.Syntax.{w32}
-use Rattle.integers.specs.Parts.{plain}
+use Rattle.integers.specs.Bits.{plain}
 use Rattle.dvi.specs.Page.{maxStack}
 use Rattle.dvi.specs.File.{between, inside, step}
 use Rattle.dvi_page.specs.Page.{pageOf}
@@ -14,15 +14,6 @@ use Rattle.dvi_step.specs.Step.{stateOf, depthOf}
 use Rattle.dvi_step.specs.declared.State.{State}
 use Rattle.dvi_step.proofs.step.Statement.{statement}
 use Rattle.dvi_step.proofs.step.Tie as tie
-
-enum-known-q : tie.Need-enum-known-q
-enum-known-q c = search needs
-
-between-pages-requires : tie.Need-between-pages-requires
-between-pages-requires c κs = search needs
-
-enum-known-q-2 : tie.Need-enum-known-q-2
-enum-known-q-2 c = search needs
 
 in-page-requires : tie.Need-in-page-requires
 in-page-requires c κs =
@@ -41,9 +32,6 @@ returns c =
     ∙ ap (λ (z : ℤ). step ws (a .at) (between z) op ps) (plain {w = w32} {z = g .0 .0} (search needs))
     ∙ ap (λ (k : State). step ws (a .at) (stateOf k l) op ps) (sym (g .1))
 
-same-length : tie.Need-same-length
-same-length c = search needs
-
 returns-2 : tie.Need-returns-2
 returns-2 c =
     let a = c .before .before .before .before .before .before .before .args in
@@ -57,13 +45,4 @@ returns-2 c =
     ∙ ap (λ (k : State). step ws (a .at) (stateOf k l) op ps) (sym (g .1))
 
 pub step-spec : {M : Type 1} → statement M
-step-spec =
-    tie.close
-    (tie.spec
-    enum-known-q
-    between-pages-requires
-    enum-known-q-2
-    in-page-requires
-    returns
-    same-length
-    returns-2)
+step-spec = tie.close (tie.spec (λ c. search needs) (λ c κs. search needs) (λ c. search needs) in-page-requires returns (λ c. search needs) returns-2)

@@ -31,9 +31,6 @@ put-postamble-requires c κs =
       ),
     )
 
-same-length : tie.Need-same-length
-same-length c = search needs
-
 returns : tie.Need-returns
 returns c =
     let s = c .before .before .before .before .before .before .before .before .before .before in
@@ -41,4 +38,4 @@ returns c =
     file-is _ _ (all-low _ _ (s .pre .0)) (s .pre .1 .0) _ _ _ _ (p .0) (p .1) _ _ (c .before .before .put-postamble .ensures)
 
 pub put-file-spec : {M : Type 1} → statement M
-put-file-spec = tie.close (tie.spec put-pages-requires put-postamble-requires same-length returns)
+put-file-spec = tie.close (tie.spec put-pages-requires put-postamble-requires (λ c. search needs) returns)

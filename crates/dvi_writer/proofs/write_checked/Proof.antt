@@ -20,20 +20,14 @@ small c =
     let s = c .before .before .before in
     omega (arith, c .plan-of .ensures .length-is, itemsBytes-most firstWriting (itemsOf New (s .args .g .now)), few _ _ (s .pre))
 
-needed-is : (c : tie.After-count) → 36 + c .before .before .plan-of .result .length + 14 * c .count .result ≡ length (dviFile (itemsOf New (c .before .before .before .before .before .args .g .now)))
-needed-is c = omega (arith, c .count .ensures .0, file-length _ _ (c .before .before .plan-of .ensures) (all-low _ _ (c .before .before .before .before .before .pre)))
-
-plan-of-requires : tie.Need-plan-of-requires
-plan-of-requires c κs = search needs
+needed-is : (c : tie.After-count) → let p = c .before .before in
+    36 + p .plan-of .result .length + 14 * c .count .result ≡ length (dviFile (itemsOf New (p .before .before .before .args .g .now)))
+needed-is c =
+    let p = c .before .before in
+    omega (arith, c .count .ensures .0, file-length _ _ (p .plan-of .ensures) (all-low _ _ (p .before .before .before .pre)))
 
 add-needed : tie.Need-add-needed
 add-needed c = omega (arith, small (c .before))
-
-count-requires : tie.Need-count-requires
-count-requires c κs = search needs
-
-mul-needed : tie.Need-mul-needed
-mul-needed c = search needs
 
 add-needed-2 : tie.Need-add-needed-2
 add-needed-2 c = omega (arith, small (c .before .before), c .count .ensures .1)
@@ -46,24 +40,19 @@ returns c =
     gives q refl refl
 
 put-file-requires : tie.Need-put-file-requires
-put-file-requires c κs = (c .before .before .before .before .before .before .before .pre, (c .before .before .before .before .plan-of .ensures .extents-are, omega (arith, needed-is (c .before .before), c .before .if1 .left)))
-
-same-length : tie.Need-same-length
-same-length c = search needs
+put-file-requires c κs =
+    let n = c .before .before in
+    let p = n .before .before in
+    (p .before .before .before .pre, (p .plan-of .ensures .extents-are, omega (arith, needed-is n, c .before .if1 .left)))
 
 returns-2 : tie.Need-returns-2
-returns-2 c = with-room _ _ _ (c .before .before .before .before .before .before .before .before .before .before .pre) _ (needed-is (c .before .before .before .before .before)) (c .before .before .before .before .if1 .left) _ (c .before .before .put-file .ensures)
+returns-2 c =
+    let e = c .before .before .before .before in
+    with-room _ _ _ (e .before .before .before .before .before .before .pre) _ (needed-is (e .before)) (e .if1 .left) _ (c .before .before .put-file .ensures)
 
 pub write-checked-spec : {M : Type 1} → statement M
 write-checked-spec =
     tie.close
     (tie.spec
-    plan-of-requires
-    add-needed
-    count-requires
-    mul-needed
-    add-needed-2
-    returns
-    put-file-requires
-    same-length
-    returns-2)
+    (λ c κs. search needs) add-needed (λ c κs. search needs) (λ c. search needs) add-needed-2 returns put-file-requires
+    (λ c. search needs) returns-2)

@@ -14,15 +14,6 @@ use Rattle.dvi_writer.proofs.write_dvi.Tie as tie
 counted : (c : tie.After-checked2) → accepted (c .checked2 .given .0 .0) ≡ lowOutcome (c .before .before .before .before .before .args .galley .now)
 counted c = sym (ap outcomeOf (c .checked2 .given .1)) ∙ c .before .before .check-low .ensures
 
-check-low-requires : tie.Need-check-low-requires
-check-low-requires c κs = search needs
-
-enum-known-checked : tie.Need-enum-known-checked
-enum-known-checked c = search needs
-
-enum-known-checked-2 : tie.Need-enum-known-checked-2
-enum-known-checked-2 c = search needs
-
 write-checked-requires : tie.Need-write-checked-requires
 write-checked-requires c κs = counted (c .before .before)
 
@@ -32,9 +23,6 @@ returns c =
     let q = check-refused (a .galley .now) (length (a .dvi .now)) _ _ (sym (ap outcomeOf (c .before .checked .given .1)) ∙ c .before .before .before .check-low .ensures) in
     gives q refl refl
 
-same-length : tie.Need-same-length
-same-length c = search needs
-
 returns-2 : tie.Need-returns-2
 returns-2 c = c .before .before .write-checked .ensures
 
@@ -42,10 +30,4 @@ pub write-dvi-spec : {M : Type 1} → statement M
 write-dvi-spec =
     tie.close
     (tie.spec
-    check-low-requires
-    enum-known-checked
-    enum-known-checked-2
-    write-checked-requires
-    returns
-    same-length
-    returns-2)
+    (λ c κs. search needs) (λ c. search needs) (λ c. search needs) write-checked-requires returns (λ c. search needs) returns-2)

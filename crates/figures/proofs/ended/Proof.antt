@@ -5,23 +5,14 @@ use borrow.Author.Needs.{needs}
 use Rattle.figures.proofs.ended.Statement.{statement}
 use Rattle.figures.proofs.ended.Tie as tie
 
-found-requires : tie.Need-found-requires
-found-requires c κs = search needs
-
 returns : tie.Need-returns
 returns c = c .found .ensures ∙ rw (c .before .if1 .taken)
 
-found-requires-2 : tie.Need-found-requires-2
-found-requires-2 c κs = search needs
-
 returns-2 : tie.Need-returns-2
 returns-2 c = c .found2 .ensures ∙ rw (c .before .before .if1 .left, c .before .if2 .taken)
-
-found-requires-3 : tie.Need-found-requires-3
-found-requires-3 c κs = search needs
 
 returns-3 : tie.Need-returns-3
 returns-3 c = c .found3 .ensures ∙ rw (c .before .before .if1 .left, c .before .if2 .left)
 
 pub ended-spec : {M : Type 1} → statement M
-ended-spec = tie.close (tie.spec found-requires returns found-requires-2 returns-2 found-requires-3 returns-3)
+ended-spec = tie.close (tie.spec (λ c κs. search needs) returns (λ c κs. search needs) returns-2 (λ c κs. search needs) returns-3)

@@ -1,6 +1,6 @@
 -- `figures::quick_tally` meets its contract: what a count keeps is kept by each stretch, each turn and each lead.
 -- Assumes nothing.
-use mathlib.Core.Path.{_≡_, sym, subst}
+use mathlib.Core.Path.{_≡_, sym, ap, subst, _∙_}
 use mathlib.Core.List.{List}
 use Prim.Native.Nat.{ℕ, _+_, _-_, _<_}
 use native.Mathlib.Omega.{arith}
@@ -9,13 +9,15 @@ use lib.ListN.{length, getD}
 use mir.Syntax.{w64}
 use mir.Val.{Fits}
 use Rattle.typesetter.specs.declared.machine.State.{State}
-use Rattle.typesetter.specs.StepLaws.{placed}
-use Rattle.tape.specs.Quick.{DerivedFrom, Leads}
-use Rattle.tape.proofs.Turns.{turn-taken}
-use Rattle.tape.proofs.Quicks.{still-derived}
+use Rattle.typesetter.specs.Machine.{withCarriage}
+use Rattle.tape_stretch.specs.Stretch.{DerivedFrom}
+use Rattle.tape_quick.specs.Turn.{Leads}
+use Rattle.tape_quick.proofs.Turns.{turn-low, turn-taken}
+use Rattle.tape_stretch.proofs.Stretches.{still-derived}
 use Rattle.figures.specs.declared.RunEnd.{RunEnd}
-use Rattle.figures.specs.Counting.{Onward}
-use Rattle.figures.proofs.Countings.{onward-start, onward-strides, onward-turned, onward-led, strides-onward}
+use Rattle.figures.specs.Figures.{sum64}
+use Rattle.figures.specs.Counting.{Onward, here, stretched, turned, leads}
+use Rattle.figures.proofs.Onwards.{strides-onward, onward-sound, onward-length}
 use Rattle.figures.proofs.quick_tally.Statement.{statement}
 use Rattle.figures.proofs.quick_tally.Tie as tie
 
@@ -31,7 +33,7 @@ module _ (c : tie.After-slice-known2 Inv-loop μ-loop) where
   start = c .before .before .before .before .before .before .before .before .before .before .before .before
 
   abbrev now : State
-  now = placed (c .before .before .before .before .before .before .before .before .loop .s) (c .before .before .before .before .before .before .count-stretch .result .carriage)
+  now = withCarriage (c .before .before .before .before .before .before .before .before .loop .s) (c .before .before .before .before .before .before .count-stretch .result .carriage)
 
   abbrev i : ℕ
   i = c .before .before .before .before .before .before .count-stretch .result .next
@@ -41,10 +43,8 @@ module _ (c : tie.After-slice-known2 Inv-loop μ-loop) where
 
   onward : let a = start .args in let l = c .before .before .before .before .before .before .before .before .loop in Onward (a .tape .now) (a .fonts .now) (a .first) (a .ahead) (a .back) (a .from) fonts now (l .forward) (l .backward) i
   onward =
-      let a = start .args in
       let l = c .before .before .before .before .before .before .before .before .loop in
-      onward-strides (a .tape .now) (a .fonts .now) (a .first) (a .ahead) (a .back) (a .from) (l .fonts) (l .s) (l .forward) (l .backward) (l .i) (l .inv .0) (c .before .before .before .before .before .before .count-stretch .ensures)
-      (omega (arith, l .inv .1 .numbered, l .inv .0 .same, start .pre .1)) fonts (c .before .before .add-at .ensures)
+      stretched (l .inv .0) (c .before .before .before .before .before .before .count-stretch .ensures) (omega (arith, l .inv .1 .numbered, onward-length (l .inv .0), start .pre .1)) (c .before .before .add-at .ensures)
 
   derived : DerivedFrom now (c .before .before .before .before .before .before .before .before .loop .d)
   derived = let l = c .before .before .before .before .before .before .before .before .loop in still-derived (l .s) (c .before .before .before .before .before .before .count-stretch .result .carriage) (l .s .height) (l .inv .1)
@@ -68,16 +68,16 @@ derived-of-requires : tie.Need-derived-of-requires Inv-loop μ-loop
 derived-of-requires c κs = search needs
 
 loop-holds : tie.Need-loop-holds Inv-loop μ-loop
-loop-holds c = let a = c .before .before .before .args in (onward-start (a .tape .now) (a .fonts .now) (a .first) (a .ahead) (a .back) (a .from), c .derived-of .ensures)
+loop-holds c = (here, c .derived-of .ensures)
 
 count-stretch-requires : tie.Need-count-stretch-requires Inv-loop μ-loop
-count-stretch-requires c κs = let l = c .before .loop in ((l .inv .0 .sound (c .before .before .before .before .before .pre .0), l .inv .1), omega arith)
+count-stretch-requires c κs = let l = c .before .loop in ((onward-sound (l .inv .0) (c .before .before .before .before .before .pre .0), l .inv .1), omega arith)
 
 cast-add-at : tie.Need-cast-add-at Inv-loop μ-loop
 cast-add-at c = search needs
 
 add-at-requires : tie.Need-add-at-requires Inv-loop μ-loop
-add-at-requires c κs = let l = c .before .before .before .before .before .loop in omega (arith, l .inv .1 .numbered, l .inv .0 .same, c .before .before .before .before .before .before .before .before .before .pre .1)
+add-at-requires c κs = let l = c .before .before .before .before .before .loop in omega (arith, l .inv .1 .numbered, onward-length (l .inv .0), c .before .before .before .before .before .before .before .before .before .pre .1)
 
 shared-slice-read-b : tie.Need-shared-slice-read-b Inv-loop μ-loop
 shared-slice-read-b c = search needs
@@ -101,15 +101,13 @@ loop-less : tie.Need-loop-less Inv-loop μ-loop
 loop-less c = less (c .before .before .before .before .before .before .before) (c .before .before .before .before .before .before .if1 .taken)
 
 loop-again : tie.Need-loop-again Inv-loop μ-loop
-loop-again c = let t = c .before .before .before .before .before .before .before in
-    let a = start t .args in
-    let l = c .before .before .before .before .before .before .before .before .before .before .before .before .before .before .before .loop in
+loop-again c =
+    let t = c .before .before .before .before .before .before .before in
+    let b = getD (start t .args .tape .now) (i t) 0 in
     let turn = c .before .before .before .before .takes-turn .ensures (c .before .before .before .if2 .taken) in
     let m = c .before .before .modes-after in
-    let z = c .before .size-after in
-    let high = turn .1 .high in (
-      onward-turned (a .tape .now) (a .fonts .now) (a .first) (a .ahead) (a .back) (a .from) (fonts t) (now t) (l .forward) (l .backward) (i t) (onward t) (c .before .before .before .before .before .before .if1 .taken) _
-          (turn-taken (now t) (turn .0) (getD (a .tape .now) (i t) 0) (turn .1) (m .result) (m .ensures) (z .result) (z .ensures)) (λ h. absurd (omega (arith, high))),
+    let z = c .before .size-after in (
+      turned (onward t) (c .before .before .before .before .before .before .if1 .taken) (turn-taken (now t) (turn .0) b (turn .1) (m .result) (m .ensures) (z .result) (z .ensures)) (λ h. absurd (omega (arith, turn-low (now t .machine) b (turn .1)))),
       c .derived-of2 .ensures,
     )
 
@@ -138,16 +136,13 @@ loop-less-2 : tie.Need-loop-less-2 Inv-loop μ-loop
 loop-less-2 c = less (c .before .before .before .before .before .before .before .before .before .before .before .before) (c .before .before .before .before .before .before .before .before .before .before .before .if1 .taken)
 
 loop-again-2 : tie.Need-loop-again-2 Inv-loop μ-loop
-loop-again-2 c = let t = c .before .before .before .before .before .before .before .before .before .before .before .before in
-    let a = start t .args in
-    let l = c .before .before .before .before .before .before .before .before .before .before .before .before .before .before .before .before .before .before .before .before .loop in
+loop-again-2 c =
+    let t = c .before .before .before .before .before .before .before .before .before .before .before .before in
     let k = c .before .before .before .before .before .h .given in
-    let f = c .before .before .before .forward-by in
-    let b = c .before .backward-by in (
-      onward-led (a .tape .now) (a .fonts .now) (a .first) (a .ahead) (a .back) (a .from) (fonts t) (now t) (l .forward) (l .backward) (i t) (onward t) (c .before .before .before .before .before .before .before .before .before .before .before .if1 .taken) _
-          (subst (Leads (now t) (getD (a .tape .now) (i t) 0)) (k .1) (c .before .before .before .before .before .before .before .height-after .ensures)) (f .result) (b .result) (f .ensures .0) (b .ensures .0) (f .ensures .1) (b .ensures .1) _ _ (c .before .before .wrapping-add-u64 .ensures) (c .wrapping-add-u642 .ensures),
-      still-derived (now t) (now t .carriage) (k .0 .0) (derived t),
-    )
+    let e = subst (Leads (now t) (getD (start t .args .tape .now) (i t) 0)) (k .1) (c .before .before .before .before .before .before .before .height-after .ensures) in
+    let f = c .before .before .wrapping-add-u64 .ensures ∙ ap (sum64 _) (c .before .before .before .forward-by .ensures) in
+    let b = c .wrapping-add-u642 .ensures ∙ ap (sum64 _) (c .before .backward-by .ensures) in
+    (leads (onward t) (c .before .before .before .before .before .before .before .before .before .before .before .if1 .taken) e f b, still-derived (now t) (now t .carriage) (k .0 .0) (derived t))
 
 enum-told : tie.Need-enum-told Inv-loop μ-loop
 enum-told c = search needs
@@ -156,7 +151,7 @@ run-end-requires : tie.Need-run-end-requires Inv-loop μ-loop
 run-end-requires c κs = search needs
 
 same-length : tie.Need-same-length Inv-loop μ-loop
-same-length c = onward (c .before .before .before .before .before .before .before .before) .same
+same-length c = onward-length (onward (c .before .before .before .before .before .before .before .before))
 
 returns : tie.Need-returns Inv-loop μ-loop
 returns c = run-ends (start (c .before .before .before .before .before .before .before .before)) (c .run-end .ensures) (onward (c .before .before .before .before .before .before .before .before))
@@ -171,7 +166,7 @@ run-end-requires-2 : tie.Need-run-end-requires-2 Inv-loop μ-loop
 run-end-requires-2 c κs = search needs
 
 same-length-2 : tie.Need-same-length-2 Inv-loop μ-loop
-same-length-2 c = c .before .before .loop .inv .0 .same
+same-length-2 c = onward-length (c .before .before .loop .inv .0)
 
 returns-2 : tie.Need-returns-2 Inv-loop μ-loop
 returns-2 c = run-ends (c .before .before .before .before .before .before) (c .run-end2 .ensures) (c .before .before .loop .inv .0)

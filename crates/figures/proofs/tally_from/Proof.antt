@@ -13,11 +13,15 @@ use Rattle.galley_file.specs.CharacterLaws.{valid-parts}
 use Rattle.typesetter.specs.declared.machine.State.{State}
 use Rattle.typesetter.specs.declared.machine.Effect.{Effect}
 use Rattle.typesetter.specs.declared.machine.Effect.the-variants.{Flashed}
-use Rattle.typesetter.specs.Machine.{effectOf}
+use Rattle.typesetter.specs.Machine.{byteEffect}
 use Rattle.typesetter.specs.SoundLaws.{flashed-valid}
+use Rattle.tape.specs.Tape.{maxTape}
 use Rattle.figures.specs.declared.Tally.{Tally}
+use Rattle.figures.specs.Figures.{sum64}
 use Rattle.figures.specs.Counting.{Counting, countIn, Tallied, figuresFrom}
-use Rattle.figures.proofs.Countings.{no-characters, counting-start, counting-led, counting-flashed, counting-page-ended, counting-refused, done}
+use Rattle.figures.proofs.Arrays.{no-characters}
+use Rattle.figures.proofs.Onwards.{onward-place, onward-length, counting-onward}
+use Rattle.figures.proofs.Countings.{counting-start, counting-lead, counting-flashed, counting-page-ended, counting-refused, done}
 use Rattle.figures.proofs.tally_from.Statement.{statement}
 use Rattle.figures.proofs.tally_from.Tie as tie
 
@@ -50,16 +54,16 @@ module _ (c : tie.After-reached Inv-loop μ-loop) where
   abbrev code : ℕ
   code = getD (start .args .tape .now) i 0
 
-  short : length (start .args .tape .now) ≤ 1048576
+  short : length (start .args .tape .now) ≤ maxTape
   short = start .pre .0 .1
 
   counting : Counting (start .args .first) (start .args .tape .now) now (countIn fonts) forward backward i
-  counting = c .before .before .before .quick-tally .ensures .keeps (start .args .first) short (c .before .before .before .before .before .before .loop .inv .0)
+  counting = counting-onward (start .args .first) short (c .before .before .before .quick-tally .ensures) (c .before .before .before .before .before .before .loop .inv .0)
 
   size : length fonts ≡ 120
-  size = c .before .before .before .quick-tally .ensures .same ∙ c .before .before .before .before .before .before .loop .inv .1
+  size = onward-length (c .before .before .before .quick-tally .ensures) ∙ c .before .before .before .before .before .before .loop .inv .1
 
-  font-in : {k : Character} → effectOf now code ≡ Flashed k → k .font < length fonts
+  font-in : {k : Character} → byteEffect now code ≡ Flashed k → k .font < length fonts
   font-in {k} e = omega (arith, valid-parts (flashed-valid now (counting .sound) code e) .font, size)
 
   module _ (h : i < length (start .args .tape .now)) where
@@ -67,10 +71,10 @@ module _ (c : tie.After-reached Inv-loop μ-loop) where
     next-i = omega (arith, h, start .good)
 
     less : length (start .args .tape .now) - (i + 1) < length (start .args .tape .now) - c .before .before .before .before .before .before .loop .i
-    less = omega (arith, h, c .before .before .before .quick-tally .ensures .onward)
+    less = omega (arith, h, onward-place (c .before .before .before .quick-tally .ensures))
 
 -- what a step gives, by its answer
-stepped : {e : Effect} (s : State) (b : ℕ) {r : Effect} → r ≡ effectOf s b → r ≡ e → effectOf s b ≡ e
+stepped : {e : Effect} (s : State) (b : ℕ) {r : Effect} → r ≡ byteEffect s b → r ≡ e → byteEffect s b ≡ e
 stepped s b p q = sym p ∙ q
 
 loop-holds : tie.Need-loop-holds Inv-loop μ-loop
@@ -111,13 +115,14 @@ loop-less : tie.Need-loop-less Inv-loop μ-loop
 loop-less c = less (c .before .before .before .before .before .before .before .before .before .before) (c .before .before .before .before .before .before .before .before .before .if1 .taken)
 
 loop-again : tie.Need-loop-again Inv-loop μ-loop
-loop-again c = let t = c .before .before .before .before .before .before .before .before .before .before in
+loop-again c =
+    let t = c .before .before .before .before .before .before .before .before .before .before in
     let a = start t .args in
     let k = c .before .before .before .before .before .next .given in
-    let f = c .before .before .before .forward-by in
-    let b = c .before .backward-by in (
-      counting-led (a .first) (a .tape .now) (now t) (countIn (fonts t)) (forward t) (backward t) (i t) (counting t) (c .before .before .before .before .before .before .before .before .before .if1 .taken) (short t) (k .0 .0)
-          (stepped (now t) (code t) (c .before .before .before .before .before .before .before .step .ensures) (k .1)) (f .result) (b .result) (f .ensures .0) (b .ensures .0) (f .ensures .1) (b .ensures .1) _ _ (c .before .before .wrapping-add-u64 .ensures) (c .wrapping-add-u642 .ensures),
+    let e = stepped (now t) (code t) (c .before .before .before .before .before .before .before .step .ensures) (k .1) in
+    let f = c .before .before .wrapping-add-u64 .ensures ∙ ap (sum64 (forward t)) (c .before .before .before .forward-by .ensures) in
+    let b = c .wrapping-add-u642 .ensures ∙ ap (sum64 (backward t)) (c .before .backward-by .ensures) in (
+      counting-lead (a .first) (a .tape .now) (now t) (countIn (fonts t)) (forward t) (backward t) (i t) (counting t) (c .before .before .before .before .before .before .before .before .before .if1 .taken) (short t) (k .0 .0) e _ _ f b,
       size t,
     )
 

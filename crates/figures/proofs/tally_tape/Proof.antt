@@ -18,9 +18,6 @@ use Rattle.figures.proofs.Countings.{tallied-refused}
 use Rattle.figures.proofs.tally_tape.Statement.{statement}
 use Rattle.figures.proofs.tally_tape.Tie as tie
 
-found-requires : tie.Need-found-requires
-found-requires c κs = search needs
-
 -- what is so of one tape's figures and answer is so of equal ones
 as-figures : {f g : Figures} {t u : Tally} (fonts : List ℕ) → f ≡ g → t ≡ u → Tallied g u fonts → Tallied f t fonts
 as-figures {f} {g} {t} {u} fonts e q r = subst (λ (x : Figures). Tallied x t fonts) (sym e) (subst (λ (x : Tally). Tallied g x fonts) (sym q) r)
@@ -29,36 +26,21 @@ returns : tie.Need-returns
 returns c = let a = c .before .before .before .before .args in
     as-figures (a .fonts .now) (figures-long (a .tape .now) (a .machine) (c .before .if1 .taken)) (c .found .ensures) (tallied-refused _ (a .fonts .now) tapeTooLong (lit≤ tt) refl)
 
-at-start-requires : tie.Need-at-start-requires
-at-start-requires c κs = search needs
-
 tally-from-requires : tie.Need-tally-from-requires
 tally-from-requires c κs = ((rw (c .before .at-start .ensures) (start-sound Four), c .before .before .before .if1 .left), c .before .before .before .before .before .before .pre)
-
-same-length : tie.Need-same-length
-same-length c = search needs
 
 returns-2 : tie.Need-returns-2
 returns-2 c = let a = c .before .before .before .before .before .before .before .before .before .args in
     let e = figures-on (a .tape .now) (a .machine) (c .before .before .before .before .before .before .if1 .left) Four (machine-four (a .machine) (c .before .before .before .before .before .if2 .taken)) ∙ ap (λ (s : State). figuresFrom s (a .tape .now)) (sym (c .before .before .before .before .at-start .ensures)) in
     subst (λ (f : Figures). Tallied f (c .before .before .tally-from .result) (c .before .before .tally-from .last .1 .1 .0)) (sym e) (c .before .before .tally-from .ensures)
 
-at-start-requires-2 : tie.Need-at-start-requires-2
-at-start-requires-2 c κs = search needs
-
 tally-from-requires-2 : tie.Need-tally-from-requires-2
 tally-from-requires-2 c κs = ((rw (c .before .at-start2 .ensures) (start-sound Eight), c .before .before .before .before .if1 .left), c .before .before .before .before .before .before .before .pre)
-
-same-length-2 : tie.Need-same-length-2
-same-length-2 c = search needs
 
 returns-3 : tie.Need-returns-3
 returns-3 c = let a = c .before .before .before .before .before .before .before .before .before .before .args in
     let e = figures-on (a .tape .now) (a .machine) (c .before .before .before .before .before .before .before .if1 .left) Eight (machine-eight (a .machine) (c .before .before .before .before .before .before .if2 .left) (c .before .before .before .before .before .if3 .taken)) ∙ ap (λ (s : State). figuresFrom s (a .tape .now)) (sym (c .before .before .before .before .at-start2 .ensures)) in
     subst (λ (f : Figures). Tallied f (c .before .before .tally-from2 .result) (c .before .before .tally-from2 .last .1 .1 .0)) (sym e) (c .before .before .tally-from2 .ensures)
-
-found-requires-2 : tie.Need-found-requires-2
-found-requires-2 c κs = search needs
 
 returns-4 : tie.Need-returns-4
 returns-4 c = let a = c .before .before .before .before .before .before .args in
@@ -67,16 +49,5 @@ returns-4 c = let a = c .before .before .before .before .before .before .args in
 pub tally-tape-spec : {M : Type 1} → statement M
 tally-tape-spec =
     tie.close
-    (tie.spec
-    found-requires
-    returns
-    at-start-requires
-    tally-from-requires
-    same-length
-    returns-2
-    at-start-requires-2
-    tally-from-requires-2
-    same-length-2
-    returns-3
-    found-requires-2
-    returns-4)
+    (tie.spec (λ c κs. search needs) returns (λ c κs. search needs) tally-from-requires (λ c. search needs) returns-2 (λ c κs. search needs)
+    tally-from-requires-2 (λ c. search needs) returns-3 (λ c κs. search needs) returns-4)

@@ -1,14 +1,12 @@
 -- `galley::magnitude` meets its contract. a test's outcome is rewritten to the numbers, and then `omega integers` reads it.
 -- Assumes nothing.
-use mathlib.Core.Path.{_≡_, sym, _∙_}
-use Prim.Native.Nat.{_+_, _≤_, _<_}
-use lib.Dec.{T}
-use lib.IntN.{pos, natAbs, negℤ, _-ℤ_, +ℤ-idl}
-use lib.Signed.{nonNeg}
-use mir.Syntax.{w32, w64}
-use mir.Val.{Fits, SFits}
+use Prim.Native.Nat.{_+_}
+use lib.IntN.{negℤ, +ℤ-idl}
+use mir.Syntax.{w64}
+use mir.Val.{SFits}
 use borrow.Author.Needs.{needs}
-use Rattle.integers.specs.Parts.{integers, up, dn, bounds, plain, wide, widened, dif-parts, neg-up, neg-dn, abs-parts, nonNeg-by}
+use Rattle.integers.specs.Parts.{integers, bounds, neg-up, neg-dn, abs-parts, nonNeg-by}
+use Rattle.integers.specs.Bits.{plain, wide, widened}
 use Rattle.galley.proofs.magnitude.Statement.{statement}
 use Rattle.galley.proofs.magnitude.Tie as tie
 
@@ -44,9 +42,5 @@ returns c =
     let a = s .args .z in
     rw (widened (s .fits .z), +ℤ-idl, plain (neg-fits s)) (omega (integers, abs-parts (negℤ a), abs-parts a, neg-up a, neg-dn a))
 
-returns-2 : tie.Need-returns-2
-returns-2 c = search needs
-
 pub magnitude-spec : {M : Type 1} → statement M
-magnitude-spec =
-    tie.close (tie.spec cast-result sub-result cast-result-2 cast-result-3 returns returns-2)
+magnitude-spec = tie.close (tie.spec cast-result sub-result cast-result-2 cast-result-3 returns (λ c. search needs))

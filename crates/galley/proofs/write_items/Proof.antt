@@ -1,14 +1,14 @@
 -- `galley::write_items` meets its contract: some items lie behind, and what is left of the galley falls.
 -- Assumes nothing.
-use mathlib.Core.Path.{_≡_, sym, ap, subst}
-use mathlib.Core.List.{List, [], _∷_, _++_}
+use mathlib.Core.Path.{_≡_, sym, subst}
+use mathlib.Core.List.{List, []}
 use Prim.Native.Nat.{ℕ, _+_, _-_, _≤_, _<_}
 use native.Mathlib.Omega.{arith}
 use borrow.Author.Needs.{needs}
 use lib.ListN.{length}
 use Rattle.galley_file.specs.declared.form.Form.the-variants.{New}
 use Rattle.galley_file.specs.declared.item.Item.{Item}
-use Rattle.galley_file.specs.Item.{itemSize, itemAt}
+use Rattle.galley_file.specs.Item.{itemAt}
 use Rattle.galley_file.specs.ItemLaws.{size-least}
 use Rattle.galley_file.specs.Galley.{itemsOf}
 use Rattle.galley_file.specs.GalleyLaws.{checked, read-as}

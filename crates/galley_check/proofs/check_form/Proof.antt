@@ -1,7 +1,5 @@
 -- `galley_check::check_form` meets its contract: the limit decides first, and then the run of fields.
 -- Assumes nothing.
-use mathlib.Core.Path.{_≡_, sym, ap, _∙_}
-use Prim.Native.Nat.{ℕ, _<_}
 use native.Mathlib.Omega.{arith}
 use borrow.Author.Tests.{le-ltb, lt-ltb}
 use borrow.Author.Needs.{needs}
@@ -12,9 +10,6 @@ use Rattle.galley_file.specs.Galley.{readGalley}
 use Rattle.galley_file.specs.Outcome.{checkOutcome}
 use Rattle.galley_check.proofs.check_form.Statement.{statement}
 use Rattle.galley_check.proofs.check_form.Tie as tie
-
-max-galley-requires : tie.Need-max-galley-requires
-max-galley-requires c κs = search needs
 
 returns : tie.Need-returns
 unfolding checkOutcome
@@ -34,4 +29,4 @@ returns-2 c =
     rw (le-ltb (maxGalley (a .f)) (length (a .g .now)) (omega (arith, c .before .before .max-galley .ensures, c .before .if1 .left))) (c .check-fields .ensures)
 
 pub check-form-spec : {M : Type 1} → statement M
-check-form-spec = tie.close (tie.spec max-galley-requires returns check-fields-requires returns-2)
+check-form-spec = tie.close (tie.spec (λ c κs. search needs) returns check-fields-requires returns-2)

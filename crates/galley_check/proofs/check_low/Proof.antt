@@ -7,15 +7,6 @@ use Rattle.galley_check.specs.LowLaws.{check-refused}
 use Rattle.galley_check.proofs.check_low.Statement.{statement}
 use Rattle.galley_check.proofs.check_low.Tie as tie
 
-check-galley-requires : tie.Need-check-galley-requires
-check-galley-requires c κs = search needs
-
-enum-known-checked : tie.Need-enum-known-checked
-enum-known-checked c = search needs
-
-enum-known-checked-2 : tie.Need-enum-known-checked-2
-enum-known-checked-2 c = search needs
-
 check-heights-requires : tie.Need-check-heights-requires
 check-heights-requires c κs = sym (ap outcomeOf (c .before .checked2 .given .1)) ∙ c .before .before .before .check-galley .ensures
 
@@ -26,5 +17,4 @@ returns-2 : tie.Need-returns-2
 returns-2 c = c .check-heights .ensures
 
 pub check-low-spec : {M : Type 1} → statement M
-check-low-spec =
-    tie.close (tie.spec check-galley-requires enum-known-checked enum-known-checked-2 check-heights-requires returns returns-2)
+check-low-spec = tie.close (tie.spec (λ c κs. search needs) (λ c. search needs) (λ c. search needs) check-heights-requires returns returns-2)

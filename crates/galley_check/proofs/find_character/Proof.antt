@@ -1,17 +1,14 @@
 -- `galley_check::find_character` meets its contract: the items before the present one are passed, and `left` characters come before n.
 -- Assumes nothing.
-use mathlib.Core.Path.{_≡_, refl, sym, ap, _∙_}
-use mathlib.Core.List.{List, [], _∷_, _++_}
-use Prim.Native.Nat.{ℕ, _+_, _-_, _<_, _≤_}
+use mathlib.Core.Path.{sym, _∙_}
+use mathlib.Core.List.{List}
+use Prim.Native.Nat.{ℕ, _-_, _≤_}
 use native.Mathlib.Omega.{arith}
 use lib.ListN.{length}
 use borrow.Author.Needs.{needs}
-use Rattle.octets.specs.Answer.{accepted}
 use Rattle.galley_file.specs.declared.item.Item.the-variants.{Placed, Cut}
 use Rattle.galley_file.specs.declared.form.Form.the-variants.{New}
 use Rattle.galley_file.specs.Form.{maxGalley}
-use Rattle.galley_file.specs.Outcome.{checkOutcome}
-use Rattle.galley_check.specs.Found.{found}
 use Rattle.galley_check.proofs.Back.{Passing, passing-start, passing-whole, passing-next, passing-found, passing-none}
 use Rattle.galley_check.proofs.find_character.Statement.{statement}
 use Rattle.galley_check.proofs.find_character.Tie as tie

@@ -1,7 +1,6 @@
 -- `galley_check::leading_run` meets its contract: a run has at most 1,024 characters, so its number is taken apart.
 -- Assumes nothing.
 use native.Mathlib.Omega.{arith}
-use borrow.Author.Needs.{needs}
 use Rattle.galley_check.proofs.Reading.{number-span}
 use Rattle.galley_check.proofs.leading_run.Statement.{statement}
 use Rattle.galley_check.proofs.leading_run.Tie as tie

@@ -11,15 +11,6 @@ use Rattle.galley_check.proofs.Back.{back-refused, back-few, back-room,
 use Rattle.galley_check.proofs.read_back.Statement.{statement}
 use Rattle.galley_check.proofs.read_back.Tie as tie
 
-check-galley-requires : tie.Need-check-galley-requires
-check-galley-requires c κs = search needs
-
-enum-known-checked : tie.Need-enum-known-checked
-enum-known-checked c = search needs
-
-enum-known-checked-2 : tie.Need-enum-known-checked-2
-enum-known-checked-2 c = search needs
-
 -- the answer of the check, in the arm for an accepted galley
 counted : (c : tie.After-checked2) → accepted (c .checked2 .given .0 .0) ≡ checkOutcome New (c .before .before .before .before .args .g .now)
 counted c = sym (ap outcomeOf (c .checked2 .given .1)) ∙ c .before .before .check-galley .ensures
@@ -56,5 +47,5 @@ returns-4 c = c .find-character .ensures
 pub read-back-spec : {M : Type 1} → statement M
 read-back-spec =
     tie.close
-    (tie.spec check-galley-requires enum-known-checked enum-known-checked-2 returns mul-if2 add-if2 mul-character-at character-at-requires
+    (tie.spec (λ c κs. search needs) (λ c. search needs) (λ c. search needs) returns mul-if2 add-if2 mul-character-at character-at-requires
     returns-2 find-character-requires returns-3 returns-4)

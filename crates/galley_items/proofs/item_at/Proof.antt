@@ -8,24 +8,12 @@ use Rattle.galley_file.specs.declared.form.Form.the-variants.{New}
 use Rattle.galley_file.specs.declared.item.Item.the-variants.{Placed}
 use Rattle.galley_file.specs.CharacterLaws.{read-character, height-number}
 use Rattle.galley_items.specs.Here.{isItem}
-use Rattle.galley_items.proofs.Places.{past-end, partAt, here-character, here-cut, here-none}
+use Rattle.galley_items.proofs.Places.{past-end, here-character, here-cut, here-none}
 use Rattle.galley_items.proofs.item_at.Statement.{statement}
 use Rattle.galley_items.proofs.item_at.Tie as tie
 
 returns : tie.Need-returns
 returns c = past-end _ _ (c .if1 .taken)
-
-sub-s : tie.Need-sub-s
-sub-s c = search needs
-
-part-s-start : tie.Need-part-s-start
-part-s-start c = search needs
-
-part-s-end : tie.Need-part-s-end
-part-s-end c = search needs
-
-is-character-requires : tie.Need-is-character-requires
-is-character-requires c κs = search needs
 
 character-at-requires : tie.Need-character-at-requires
 character-at-requires c κs =
@@ -37,9 +25,6 @@ returns-2 c =
     ap (λ (k : Character). isItem (Placed k)) (c .character-at .ensures)
     ∙ here-character _ _ (sym (c .before .before .is-character .ensures) ∙ c .before .if2 .taken)
 
-is-cut-requires : tie.Need-is-cut-requires
-is-cut-requires c κs = search needs
-
 returns-3 : tie.Need-returns-3
 returns-3 c = here-cut _ _ (sym (c .before .before .before .is-character .ensures) ∙ c .before .before .if2 .left) (sym (c .before .is-cut .ensures) ∙ c .if3 .taken)
 
@@ -49,14 +34,5 @@ returns-4 c = here-none _ _ (sym (c .before .before .before .is-character .ensur
 pub item-at-spec : {M : Type 1} → statement M
 item-at-spec =
     tie.close
-    (tie.spec
-    returns
-    sub-s
-    part-s-start
-    part-s-end
-    is-character-requires
-    character-at-requires
-    returns-2
-    is-cut-requires
-    returns-3
-    returns-4)
+    (tie.spec returns (λ c. search needs) (λ c. search needs) (λ c. search needs) (λ c κs. search needs) character-at-requires returns-2
+    (λ c κs. search needs) returns-3 returns-4)

@@ -1,7 +1,6 @@
 -- `punch::punch_checked` meets its contract: the first pass writes nothing and gives the length, which decides.
 -- Assumes nothing.
-use mathlib.Core.Path.{_≡_}
-use Prim.Native.Nat.{ℕ}
+use native.Mathlib.Nat.{suc-ne-zero}
 use native.Mathlib.Omega.{arith}
 use borrow.Author.Needs.{needs}
 use Rattle.octets.specs.Write.{put-length}
@@ -10,25 +9,16 @@ use Rattle.punch.proofs.punch_checked.Statement.{statement}
 use Rattle.punch.proofs.punch_checked.Tie as tie
 
 pass-requires : tie.Need-pass-requires
-pass-requires c κs = (c .before .before .before .pre, λ e. let z : _≡_ {A = ℕ} 0 1 = cc in omega arith)
-
-same-length : tie.Need-same-length
-same-length c = search needs
+pass-requires c κs = (c .before .before .before .pre, λ e. absurd (suc-ne-zero 0 cc))
 
 returns : tie.Need-returns
 returns c = punch-long _ _ (c .before .before .before .before .before .before .before .pre) _ _ _ (c .before .before .before .pass .ensures) (omega (arith, c .if1 .taken))
-
-same-length-2 : tie.Need-same-length-2
-same-length-2 c = search needs
 
 returns-2 : tie.Need-returns-2
 returns-2 c = let p = c .before .before .before .before .pass .ensures in punch-no-room _ _ (c .before .before .before .before .before .before .before .before .pre) _ _ _ p (omega (arith, c .before .if1 .left)) (omega (arith, c .if2 .taken, put-length p))
 
 pass-requires-2 : tie.Need-pass-requires-2
 pass-requires-2 c κs = let p = c .before .before .before .before .before .pass .ensures in (c .before .before .before .before .before .before .before .before .before .pre, λ e. omega (arith, c .before .if2 .left, p .place))
-
-same-length-3 : tie.Need-same-length-3
-same-length-3 c = search needs
 
 returns-3 : tie.Need-returns-3
 returns-3 c =
@@ -38,4 +28,4 @@ returns-3 c =
 pub punch-checked-spec : {M : Type 1} → statement M
 punch-checked-spec =
     tie.close
-    (tie.spec pass-requires same-length returns same-length-2 returns-2 pass-requires-2 same-length-3 returns-3)
+    (tie.spec pass-requires (λ c. search needs) returns (λ c. search needs) returns-2 pass-requires-2 (λ c. search needs) returns-3)

@@ -11,15 +11,6 @@ use Rattle.punch.proofs.Passes.{punch-refused}
 use Rattle.punch.proofs.punch_tape.Statement.{statement}
 use Rattle.punch.proofs.punch_tape.Tie as tie
 
-check-galley-requires : tie.Need-check-galley-requires
-check-galley-requires c κs = search needs
-
-enum-known-checked : tie.Need-enum-known-checked
-enum-known-checked c = search needs
-
-enum-known-checked-2 : tie.Need-enum-known-checked-2
-enum-known-checked-2 c = search needs
-
 punch-checked-requires : tie.Need-punch-checked-requires
 punch-checked-requires c κs = sym (ap outcomeOf (c .before .before .checked2 .given .1)) ∙ c .before .before .before .before .check-galley .ensures
 
@@ -29,18 +20,15 @@ returns c =
     let k : Bytes (a .galley .now) = λ i. c .before .before .before .before .before .shared-slice-known .given i .fits in
     let q = punch-refused (a .galley .now) (length (a .tape .now)) _ _ (sym (ap outcomeOf (c .before .checked .given .1)) ∙ c .before .before .before .check-galley .ensures) in
     let g = gives q refl refl in
-    (g, round-trip k g)
-
-same-length : tie.Need-same-length
-same-length c = search needs
+    record { gives-tape = g; reads-galley = round-trip k g }
 
 returns-2 : tie.Need-returns-2
 returns-2 c =
     let g = c .before .before .punch-checked .ensures in
     let k : Bytes (c .before .before .before .before .before .before .before .before .before .before .args .galley .now) = λ i. c .before .before .before .before .before .before .before .before .before .shared-slice-known .given i .fits in
-    (g, round-trip k g)
+    record { gives-tape = g; reads-galley = round-trip k g }
 
 pub punch-tape-spec : {M : Type 1} → statement M
 punch-tape-spec =
     tie.close
-    (tie.spec check-galley-requires enum-known-checked enum-known-checked-2 punch-checked-requires returns same-length returns-2)
+    (tie.spec (λ c κs. search needs) (λ c. search needs) (λ c. search needs) punch-checked-requires returns (λ c. search needs) returns-2)

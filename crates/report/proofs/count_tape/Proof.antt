@@ -8,35 +8,20 @@ use borrow.Author.Tests.{lt-ltb, le-ltb}
 use lib.ListN.{getD}
 use Rattle.octets.specs.Answer.{accepted, refused, reportFull}
 use Rattle.figures.specs.Figures.{figuresOf}
-use Rattle.report.specs.Report.{amount, added, maxTapes, countOutcome, countedIn}
+use Rattle.report.specs.Report.{amount, added, maxTapes, reportOutcome, countedIn}
 use Rattle.report.proofs.count_tape.Statement.{statement}
 use Rattle.report.proofs.count_tape.Tie as tie
 
-element-copy-out-if1 : tie.Need-element-copy-out-if1
-element-copy-out-if1 c = search needs
-
 returns : tie.Need-returns
-unfolding countOutcome countedIn
+unfolding reportOutcome countedIn
 returns c = let a = c .before .before .before .args in
     let t = le-ltb (getD (a .report .now) 0 0) maxTapes (omega (arith, c .if1 .taken)) in (
       sym (ap (λ (u : Bool). cond u (accepted 0) (refused reportFull 0)) t),
       sym (ap (λ (u : Bool). cond u (added (amount (figuresOf (a .tape .now) (a .machine))) 0 135 (a .report .now)) (a .report .now)) t),
     )
 
-slice-aggregate-tally-tape : tie.Need-slice-aggregate-tally-tape
-slice-aggregate-tally-tape c = search needs
-
-tally-tape-requires : tie.Need-tally-tape-requires
-tally-tape-requires c κs = search needs
-
-slice-aggregate-add : tie.Need-slice-aggregate-add
-slice-aggregate-add c = search needs
-
-add-requires : tie.Need-add-requires
-add-requires c κs = search needs
-
 returns-2 : tie.Need-returns-2
-unfolding countOutcome countedIn
+unfolding reportOutcome countedIn
 returns-2 c = let a = c .before .before .before .before .before .before .before .before .before .args in
     let t = lt-ltb (getD (a .report .now) 0 0) maxTapes (omega (arith, c .before .before .before .before .before .before .if1 .left)) in (
       sym (ap (λ (u : Bool). cond u (accepted 0) (refused reportFull 0)) t),
@@ -47,11 +32,4 @@ returns-2 c = let a = c .before .before .before .before .before .before .before 
 pub count-tape-spec : {M : Type 1} → statement M
 count-tape-spec =
     tie.close
-    (tie.spec
-    element-copy-out-if1
-    returns
-    slice-aggregate-tally-tape
-    tally-tape-requires
-    slice-aggregate-add
-    add-requires
-    returns-2)
+    (tie.spec (λ c. search needs) returns (λ c. search needs) (λ c κs. search needs) (λ c. search needs) (λ c κs. search needs) returns-2)

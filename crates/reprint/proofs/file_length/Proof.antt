@@ -9,18 +9,6 @@ use Rattle.reprint.proofs.Calls.{same-file, accepted-file, refused-file
 use Rattle.reprint.proofs.file_length.Statement.{statement}
 use Rattle.reprint.proofs.file_length.Tie as tie
 
-slice-aggregate-write-dvi : tie.Need-slice-aggregate-write-dvi
-slice-aggregate-write-dvi c = search needs
-
-write-dvi-requires : tie.Need-write-dvi-requires
-write-dvi-requires c κs = search needs
-
-enum-known-written : tie.Need-enum-known-written
-enum-known-written c = search needs
-
-enum-known-written-2 : tie.Need-enum-known-written-2
-enum-known-written-2 c = search needs
-
 returns : tie.Need-returns
 returns c =
     let s = c .before .before .before .before .before .before .before in
@@ -42,12 +30,4 @@ returns-2 c =
     accepted-file g (a .count) k e 1 _ q ∙ ap length (same-file g (a .count) k e)
 
 pub file-length-spec : {M : Type 1} → statement M
-file-length-spec =
-    tie.close
-    (tie.spec
-    slice-aggregate-write-dvi
-    write-dvi-requires
-    enum-known-written
-    enum-known-written-2
-    returns
-    returns-2)
+file-length-spec = tie.close (tie.spec (λ c. search needs) (λ c κs. search needs) (λ c. search needs) (λ c. search needs) returns returns-2)

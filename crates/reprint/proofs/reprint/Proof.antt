@@ -18,15 +18,6 @@ returns c =
     claims g (a .widths .now) (a .dvi .now) (a .sheet .now) k
     (refuses g (a .widths .now) (a .dvi .now) (a .sheet .now) (not-whole g (a .widths .now) (length (a .dvi .now)) (length (a .sheet .now)) (c .if1 .taken)))
 
-check-low-requires : tie.Need-check-low-requires
-check-low-requires c κs = search needs
-
-enum-known-checked : tie.Need-enum-known-checked
-enum-known-checked c = search needs
-
-enum-known-checked-2 : tie.Need-enum-known-checked-2
-enum-known-checked-2 c = search needs
-
 reprint-checked-requires : tie.Need-reprint-checked-requires
 reprint-checked-requires c κs =
     (sym (ap outcomeOf (c .before .before .before .checked2 .given .1)) ∙ c .before .before .before .before .before .check-low .ensures, c .before .before .before .before .before .before .if1 .left)
@@ -40,12 +31,6 @@ returns-2 c =
     claims g (a .widths .now) (a .dvi .now) (a .sheet .now) k
     (refuses g (a .widths .now) (a .dvi .now) (a .sheet .now) (refused-galley g (a .widths .now) (c .before .before .before .before .if1 .left) (length (a .dvi .now)) (length (a .sheet .now)) _ _ q))
 
-same-length : tie.Need-same-length
-same-length c = search needs
-
-same-length-2 : tie.Need-same-length-2
-same-length-2 c = search needs
-
 returns-3 : tie.Need-returns-3
 returns-3 c =
     let a = c .before .before .before .before .before .before .before .before .before .before .before .before .before .before .before .args in
@@ -56,13 +41,5 @@ returns-3 c =
 pub reprint-spec : {M : Type 1} → statement M
 reprint-spec =
     tie.close
-    (tie.spec
-    returns
-    check-low-requires
-    enum-known-checked
-    enum-known-checked-2
-    reprint-checked-requires
-    returns-2
-    same-length
-    same-length-2
-    returns-3)
+    (tie.spec returns (λ c κs. search needs) (λ c. search needs) (λ c. search needs) reprint-checked-requires returns-2 (λ c. search needs)
+    (λ c. search needs) returns-3)

@@ -1,18 +1,17 @@
 -- `reprint::reprint_checked` meets its contract: the tests are those of `reprintResult`; with room for the sheet, the writer decides, and then
 -- the reader reads exactly what it wrote.
 -- Assumes nothing.
-use mathlib.Core.Path.{_≡_, refl, sym, ap, _∙_}
-use mathlib.Core.List.{List}
-use Prim.Native.Nat.{ℕ, _+_, _*_, _≤_, _<_}
+use mathlib.Core.Path.{_≡_, sym, ap, _∙_}
+use Prim.Native.Nat.{_≤_, _<_}
 use native.Mathlib.Omega.{arith}
 use borrow.Author.Needs.{needs}
-use lib.ListN.{length, take}
+use lib.ListN.{length}
 use lib.Seq.{length-take-le}
 use Rattle.octets.specs.Octets.{Bytes}
 use Rattle.octets.specs.Answer.{accepted, refused, outcomeOf, outcome, noDviRoom, noSheetRoom}
 use Rattle.dvi_writer.specs.Result.{dviResult}
 use Rattle.reprint.specs.Reprint.{stopped}
-use Rattle.reprint.specs.ReprintLaws.{found, file, short-file, short-sheet}
+use Rattle.reprint.specs.ReprintLaws.{file, short-file, short-sheet}
 use Rattle.reprint.proofs.Calls.{refuses, same-file, sheet-needed, accepted-file, refused-file, refused-writing, file-fits, written-part, completes}
 use Rattle.reprint.proofs.reprint_checked.Statement.{statement}
 use Rattle.reprint.proofs.reprint_checked.Tie as tie
@@ -50,15 +49,6 @@ returns-2 c =
     refuses g (a .widths .now) (a .dvi .now) (a .sheet .now)
     (short-sheet g (a .count) k e (a .widths .now) w (length (a .dvi .now)) (length (a .sheet .now)) h (omega (arith, c .before .before .if1 .taken, n)) ∙ ap (stopped noSheetRoom) (sym n))
 
-write-dvi-requires : tie.Need-write-dvi-requires
-write-dvi-requires c κs = search needs
-
-enum-known-written : tie.Need-enum-known-written
-enum-known-written c = search needs
-
-enum-known-written-2 : tie.Need-enum-known-written-2
-enum-known-written-2 c = search needs
-
 -- the writer has accepted the galley, with this length
 accepted-by : (c : tie.After-known-told2) → let a = c .before .before .before .before .before .before .before .before .before .before .before .before .args in accepted (c .before .written2 .given .0 .0) ≡ outcome (dviResult (a .galley .now) (length (a .dvi .now)))
 accepted-by c = sym (ap outcomeOf (c .before .written2 .given .1)) ∙ c .before .before .before .before .before .write-dvi .ensures .outcome-is
@@ -84,12 +74,6 @@ slice-reshare-prefix-read-dvi c = omega (arith, part-fits c)
 slice-aggregate-read-dvi : tie.Need-slice-aggregate-read-dvi
 slice-aggregate-read-dvi c = sym (length-take-le _ _ (slice-reshare-prefix-read-dvi (c .before)))
 
-read-dvi-requires : tie.Need-read-dvi-requires
-read-dvi-requires c κs = search needs
-
-same-length : tie.Need-same-length
-same-length c = search needs
-
 returns-3 : tie.Need-returns-3
 returns-3 c =
     let s = c .before .before .before .before .before .before .before .before .before .before .before .before in
@@ -101,12 +85,6 @@ returns-3 c =
     let r = c .before .before .before .before .before .write-dvi in
     let q = short-file g (a .count) k e (a .widths .now) w (length (a .dvi .now)) (length (a .sheet .now)) (refused-file g (a .count) k e (length (a .dvi .now)) _ _ (refused-by c) .1 .1) in
     refused-writing g (a .count) k e (a .widths .now) (a .dvi .now) (a .sheet .now) _ _ (refused-by c) (r .ensures .buffer-is) q
-
-same-length-2 : tie.Need-same-length-2
-same-length-2 c = search needs
-
-same-length-3 : tie.Need-same-length-3
-same-length-3 c = search needs
 
 returns-4 : tie.Need-returns-4
 returns-4 c =
@@ -126,19 +104,6 @@ returns-4 c =
 pub reprint-checked-spec : {M : Type 1} → statement M
 reprint-checked-spec =
     tie.close
-    (tie.spec
-    sheet-length-requires
-    file-length-requires
-    returns
-    returns-2
-    write-dvi-requires
-    enum-known-written
-    enum-known-written-2
-    slice-reshare-prefix-read-dvi
-    slice-aggregate-read-dvi
-    read-dvi-requires
-    same-length
-    returns-3
-    same-length-2
-    same-length-3
-    returns-4)
+    (tie.spec sheet-length-requires file-length-requires returns returns-2 (λ c κs. search needs) (λ c. search needs) (λ c. search needs)
+    slice-reshare-prefix-read-dvi slice-aggregate-read-dvi (λ c κs. search needs) (λ c. search needs) returns-3 (λ c. search needs)
+    (λ c. search needs) returns-4)

@@ -4,11 +4,8 @@ use borrow.Author.Needs.{needs}
 use Rattle.running.proofs.begin.Statement.{statement}
 use Rattle.running.proofs.begin.Tie as tie
 
-at-start-requires : tie.Need-at-start-requires
-at-start-requires c κs = search needs
-
 returns : tie.Need-returns
 returns c = cc
 
 pub begin-spec : {M : Type 1} → statement M
-begin-spec = tie.close (tie.spec at-start-requires returns)
+begin-spec = tie.close (tie.spec (λ c κs. search needs) returns)

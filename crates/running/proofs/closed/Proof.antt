@@ -8,24 +8,6 @@ use Rattle.running.proofs.Replies.{refuses}
 use Rattle.running.proofs.closed.Statement.{statement}
 use Rattle.running.proofs.closed.Tie as tie
 
-enum-told : tie.Need-enum-told
-enum-told c = search needs
-
-refusing-requires : tie.Need-refusing-requires
-refusing-requires c κs = search needs
-
-enum-known-phase : tie.Need-enum-known-phase
-enum-known-phase c = search needs
-
-refusing-requires-2 : tie.Need-refusing-requires-2
-refusing-requires-2 c κs = search needs
-
-enum-told-2 : tie.Need-enum-told-2
-enum-told-2 c = search needs
-
-close-open-requires : tie.Need-close-open-requires
-close-open-requires c κs = search needs
-
 returns : tie.Need-returns
 returns c =
     let a = c .before .before .before .before .args in
@@ -36,9 +18,6 @@ returns-2 c =
     let a = c .before .before .before .before .before .args in
     refuses (a .tape) (close-phase (a .tape) (length (a .out .now)) (c .before .before .phase .given .1)) (c .refusing2 .ensures) refl
 
-same-length : tie.Need-same-length
-same-length c = search needs
-
 returns-3 : tie.Need-returns-3
 returns-3 c =
     let a = c .before .before .before .before .before .before .before .args in
@@ -47,14 +26,5 @@ returns-3 c =
 pub closed-spec : {M : Type 1} → statement M
 closed-spec =
     tie.close
-    (tie.spec
-    enum-told
-    refusing-requires
-    enum-known-phase
-    refusing-requires-2
-    enum-told-2
-    close-open-requires
-    returns
-    returns-2
-    same-length
-    returns-3)
+    (tie.spec (λ c. search needs) (λ c κs. search needs) (λ c. search needs) (λ c κs. search needs) (λ c. search needs)
+    (λ c κs. search needs) returns returns-2 (λ c. search needs) returns-3)

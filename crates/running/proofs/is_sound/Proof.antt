@@ -1,11 +1,10 @@
 -- `running::is_sound` meets its contract: the tests are those of `isSound`, in its order.
 -- Assumes nothing.
 use mathlib.Core.Path.{_≡_, refl, sym, _∙_}
-use mathlib.Core.Bool.{Bool, true, false, _&&_}
-use Prim.Native.Nat.{ℕ, _≤_, _<_}
+use mathlib.Core.Bool.{Bool, false, _&&_}
+use Prim.Native.Nat.{_≤_, _<_}
 use borrow.Author.Needs.{needs}
 use borrow.Author.Tests.{le-leb, lt-leb}
-use lib.Dec.{leb}
 use Rattle.measure.specs.Place.{carriageEnd, heightEnd, within}
 use Rattle.tape.specs.Tape.{maxTape}
 use Rattle.running.specs.declared.Running.{Running}
@@ -34,12 +33,6 @@ returns c = too-long (c .before .before .args .r) (c .if1 .taken)
 returns-2 : tie.Need-returns-2
 returns-2 c = too-many (c .before .before .before .before .args .r) (c .before .before .if1 .left) (c .if2 .taken)
 
-is-carriage-requires : tie.Need-is-carriage-requires
-is-carriage-requires c κs = search needs
-
-is-height-requires : tie.Need-is-height-requires
-is-height-requires c κs = search needs
-
 returns-3 : tie.Need-returns-3
 returns-3 c =
     by-place (c .before .before .before .before .before .before .before .args .r) (c .before .before .before .before .before .if1 .left) (c .before .before .before .if2 .left) (sym (c .before .if3 .taken) ∙ c .before .before .is-carriage .ensures) (c .is-height .ensures)
@@ -48,5 +41,4 @@ returns-4 : tie.Need-returns-4
 returns-4 c = by-place (c .before .before .before .before .before .before .args .r) (c .before .before .before .before .if1 .left) (c .before .before .if2 .left) (sym (c .if3 .left) ∙ c .before .is-carriage .ensures) refl
 
 pub is-sound-spec : {M : Type 1} → statement M
-is-sound-spec =
-    tie.close (tie.spec returns returns-2 is-carriage-requires is-height-requires returns-3 returns-4)
+is-sound-spec = tie.close (tie.spec returns returns-2 (λ c κs. search needs) (λ c κs. search needs) returns-3 returns-4)

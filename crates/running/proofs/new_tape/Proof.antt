@@ -4,14 +4,8 @@ use borrow.Author.Needs.{needs}
 use Rattle.running.proofs.new_tape.Statement.{statement}
 use Rattle.running.proofs.new_tape.Tie as tie
 
-at-start-requires : tie.Need-at-start-requires
-at-start-requires c κs = search needs
-
-none-requires : tie.Need-none-requires
-none-requires c κs = search needs
-
 returns : tie.Need-returns
 returns c = cc
 
 pub new-tape-spec : {M : Type 1} → statement M
-new-tape-spec = tie.close (tie.spec at-start-requires none-requires returns)
+new-tape-spec = tie.close (tie.spec (λ c κs. search needs) (λ c κs. search needs) returns)

@@ -23,27 +23,15 @@ starts f g r n {k} m e p =
     let q : startOn r k ≡ startOn r (machineOf n) = ap (startOn r) (sym m) in
     (ap (λ (h : Reply). outcomeOf (h .answer)) e ∙ p .0 ∙ ap (λ (x : Replied). outcome (x .result)) q, ap (λ (h : Reply). h .tape) e ∙ p .1 ∙ ap (λ (x : Replied). x .tape) q)
 
-none-requires : tie.Need-none-requires
-none-requires c κs = search needs
-
-begin-requires : tie.Need-begin-requires
-begin-requires c κs = search needs
-
 returns : tie.Need-returns
 returns c =
     let a = c .before .before .before .args in
     starts _ _ (a .tape) (a .machine) (machine-four (a .machine) (c .before .if1 .taken)) (c .begin .ensures) (refl, ap (begun Four) (c .before .before .none .ensures))
 
-begin-requires-2 : tie.Need-begin-requires-2
-begin-requires-2 c κs = search needs
-
 returns-2 : tie.Need-returns-2
 returns-2 c =
     let a = c .before .before .before .before .args in
     starts _ _ (a .tape) (a .machine) (machine-eight (a .machine) (c .before .before .if1 .left) (c .before .if2 .taken)) (c .begin2 .ensures) (refl, ap (begun Eight) (c .before .before .before .none .ensures))
-
-refusing-requires : tie.Need-refusing-requires
-refusing-requires c κs = search needs
 
 returns-3 : tie.Need-returns-3
 returns-3 c =
@@ -53,4 +41,4 @@ returns-3 c =
 pub started-spec : {M : Type 1} → statement M
 started-spec =
     tie.close
-    (tie.spec none-requires begin-requires returns begin-requires-2 returns-2 refusing-requires returns-3)
+    (tie.spec (λ c κs. search needs) (λ c κs. search needs) returns (λ c κs. search needs) returns-2 (λ c κs. search needs) returns-3)

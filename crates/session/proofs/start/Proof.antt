@@ -1,6 +1,6 @@
 -- `session::start` meets its contract: a walk of its MIR, by hand, as that of `feed`, with a number in place of the piece and the buffer.
 -- Assumes nothing.
-use Rattle.session.proofs.Walk.{_≡_, refl, ap, ℕ, _<_, _^_, [], _∷_, List, URA, fullShare, named, w32, Val, vint, vptr, SProp, ent, emp, via, fst∗, snd∗, exE, id⊢, GName, Lft, Share, ftrue, fat, flft, fobs, fbor, Memory, Routine, Heap, Calls, Loops, WpFn, Tables, Atoms, sem, Fun, fact, givenOf, tables, tablesOf, Given, ‵, raw, some, later, _⊛_, ⋆, _$_, _∵_, !, qed, by, move, keep, drop, use1, split, join, pick, rewrite, fsplit, fsplit3, fjoin, fjoin3, feqI, suffices, frame, await, done, look, look-raw, init, store-raw, forget, stop, hop, fld, from, load, of-opd, and-then, no-more, assigns, land, returns, enter, alloc1, alloc0, params1, pass1, pass0, free1, free0, whole, sub, look-in, Body, FmC, fmOf, WpFn-mono, owns, mem, Is, shows, u32, RefT, MutRef, ptr-vals, mut-tells, uint-vals, uint-tells, uint-makes, plain, owned, facts, heard, nothing, onEntry, Meets, tripleOf, Contract, Triple, calls-at, ensured, lasts, entered, cited, says, Stays, stay-ref, stay-dropped, walkOf, goes-ref, goes-dropped, Walks, ends-at, walked, walk-meets, yes}
+use Rattle.session.proofs.Walk.{_≡_, refl, ℕ, _<_, _^_, [], _∷_, List, URA, fullShare, named, w32, Val, vint, vptr, SProp, ent, emp, via, fst∗, snd∗, exE, id⊢, GName, Lft, Share, ftrue, fat, flft, fobs, fbor, Memory, Routine, Heap, Calls, Loops, WpFn, Tables, Atoms, sem, Fun, fact, givenOf, tables, tablesOf, Given, ‵, raw, some, later, _⊛_, ⋆, _$_, _∵_, !, qed, by, move, drop, use1, split, join, pick, rewrite, fsplit, fsplit3, fjoin, fjoin3, feqI, suffices, frame, await, done, look, look-raw, init, store-raw, forget, stop, hop, fld, from, load, of-opd, and-then, no-more, assigns, land, returns, enter, alloc1, alloc0, params1, pass1, pass0, free1, free0, whole, sub, look-in, Body, FmC, fmOf, WpFn-mono, owns, mem, Is, shows, u32, RefT, MutRef, ptr-vals, mut-tells, uint-vals, uint-tells, uint-makes, plain, owned, facts, heard, nothing, onEntry, Meets, tripleOf, Contract, Triple, calls-at, ensured, lasts, entered, cited, says, Stays, stay-ref, stay-dropped, walkOf, goes-ref, goes-dropped, Walks, ends-at, walked, walk-meets, yes}
 use denote.Struct.Laws as LL
 use denote.Enum.Laws as EL
 use Rattle.running.specs.Running.{startOf}

@@ -4,16 +4,13 @@ use mathlib.Core.Path.{ap}
 use mathlib.Core.List.{_++_}
 use native.Mathlib.Omega.{arith}
 use borrow.Author.Needs.{needs}
-use Rattle.integers.specs.Parts.{plain}
+use Rattle.integers.specs.Bits.{plain}
 use Rattle.octets.specs.Octets.{bytes, signedBytes}
 use Rattle.octets.specs.Field.{field}
 use Rattle.octets.specs.Write.{length-wrote, then, named}
 use Rattle.sheet.specs.Sheet.{markField}
 use Rattle.sheet.proofs.put_char.Statement.{statement}
 use Rattle.sheet.proofs.put_char.Tie as tie
-
-put-head-requires : tie.Need-put-head-requires
-put-head-requires c κs = search needs
 
 put-two-requires : tie.Need-put-two-requires
 unfolding bytes
@@ -32,9 +29,6 @@ put-byte-requires c κs =
     let w = then w₁ (c .before .before .before .put-number .ensures) in
     omega (arith, w .next-is, length-wrote w)
 
-same-length : tie.Need-same-length
-same-length c = search needs
-
 returns : tie.Need-returns
 unfolding markField field signedBytes bytes
 returns c =
@@ -46,12 +40,4 @@ returns c =
     then (then (then (h .put-head .ensures) place) font) (c .before .before .put-byte .ensures)
 
 pub put-char-spec : {M : Type 1} → statement M
-put-char-spec =
-    tie.close
-    (tie.spec
-    put-head-requires
-    put-two-requires
-    put-number-requires
-    put-byte-requires
-    same-length
-    returns)
+put-char-spec = tie.close (tie.spec (λ c κs. search needs) put-two-requires put-number-requires put-byte-requires (λ c. search needs) returns)

@@ -3,7 +3,7 @@
 use mathlib.Core.Path.{ap}
 use native.Mathlib.Omega.{arith}
 use borrow.Author.Needs.{needs}
-use Rattle.integers.specs.Parts.{plain}
+use Rattle.integers.specs.Bits.{plain}
 use Rattle.octets.specs.Octets.{bytes, signedBytes}
 use Rattle.octets.specs.Field.{field}
 use Rattle.octets.specs.Write.{length-wrote, then, named}
@@ -11,15 +11,9 @@ use Rattle.sheet.specs.Sheet.{markField}
 use Rattle.sheet.proofs.put_page.Statement.{statement}
 use Rattle.sheet.proofs.put_page.Tie as tie
 
-put-head-requires : tie.Need-put-head-requires
-put-head-requires c κs = search needs
-
 put-number-requires : tie.Need-put-number-requires
 unfolding bytes
 put-number-requires c κs = let w = c .before .before .before .put-head .ensures in omega (arith, w .next-is, length-wrote w)
-
-same-length : tie.Need-same-length
-same-length c = search needs
 
 returns : tie.Need-returns
 unfolding markField field signedBytes bytes
@@ -28,4 +22,4 @@ returns c =
     then (c .before .before .before .before .before .before .put-head .ensures) (named (ap (signedBytes 4) (plain (s .fits .n))) (c .before .before .put-number .ensures))
 
 pub put-page-spec : {M : Type 1} → statement M
-put-page-spec = tie.close (tie.spec put-head-requires put-number-requires same-length returns)
+put-page-spec = tie.close (tie.spec (λ c κs. search needs) put-number-requires (λ c. search needs) returns)

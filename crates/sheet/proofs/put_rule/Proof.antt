@@ -3,16 +3,13 @@
 use mathlib.Core.List.{_++_}
 use native.Mathlib.Omega.{arith}
 use borrow.Author.Needs.{needs}
-use Rattle.integers.specs.Parts.{plain}
+use Rattle.integers.specs.Bits.{plain}
 use Rattle.octets.specs.Octets.{bytes, signedBytes}
 use Rattle.octets.specs.Field.{field}
 use Rattle.octets.specs.Write.{length-wrote, then, named}
 use Rattle.sheet.specs.Sheet.{markField}
 use Rattle.sheet.proofs.put_rule.Statement.{statement}
 use Rattle.sheet.proofs.put_rule.Tie as tie
-
-put-head-requires : tie.Need-put-head-requires
-put-head-requires c κs = search needs
 
 put-byte-requires : tie.Need-put-byte-requires
 unfolding bytes
@@ -31,9 +28,6 @@ put-two-requires-2 c κs =
     let w = then w₁ (c .before .before .before .put-two .ensures) in
     omega (arith, w .next-is, length-wrote w)
 
-same-length : tie.Need-same-length
-same-length c = search needs
-
 returns : tie.Need-returns
 unfolding markField field signedBytes bytes
 returns c =
@@ -45,12 +39,4 @@ returns c =
     then (then (then (h .put-head .ensures) (k .put-byte .ensures)) place) sides
 
 pub put-rule-spec : {M : Type 1} → statement M
-put-rule-spec =
-    tie.close
-    (tie.spec
-    put-head-requires
-    put-byte-requires
-    put-two-requires
-    put-two-requires-2
-    same-length
-    returns)
+put-rule-spec = tie.close (tie.spec (λ c κs. search needs) put-byte-requires put-two-requires put-two-requires-2 (λ c. search needs) returns)

@@ -1,28 +1,17 @@
 -- `spatecanter::found_character` meets its contract: each arm is given which answer it is.
 -- Assumes nothing.
-use mathlib.Core.Path.{sym, ap, _∙_}
+use mathlib.Core.Path.{sym, ap}
 use borrow.Author.Needs.{needs}
 use lib.IntN.{pos}
 use mir.Syntax.{w32}
 use mir.Val.{SFits}
-use Rattle.integers.specs.Parts.{integers, plain, plain-pos}
+use Rattle.integers.specs.Parts.{integers}
+use Rattle.integers.specs.Bits.{plain, plain-pos}
 use Rattle.galley_check.specs.declared.Found.{Found}
 use Rattle.galley_check.specs.Found.{foundOf}
 use Rattle.spatecanter.specs.Numbers.{foundNumbers}
 use Rattle.spatecanter.proofs.found_character.Statement.{statement}
 use Rattle.spatecanter.proofs.found_character.Tie as tie
-
-enum-known-f : tie.Need-enum-known-f
-enum-known-f c = search needs
-
-cast-t4 : tie.Need-cast-t4
-cast-t4 c = search needs
-
-cast-t5 : tie.Need-cast-t5
-cast-t5 c = search needs
-
-enum-told : tie.Need-enum-told
-enum-told c = search needs
 
 returns : tie.Need-returns
 returns c =
@@ -38,5 +27,4 @@ returns-2 : tie.Need-returns-2
 returns-2 c = sym (ap (λ (f : Found). foundNumbers (foundOf f)) (c .enum-told .given .1))
 
 pub found-character-spec : {M : Type 1} → statement M
-found-character-spec =
-    tie.close (tie.spec enum-known-f cast-t4 cast-t5 enum-told returns returns-2)
+found-character-spec = tie.close (tie.spec (λ c. search needs) (λ c. search needs) (λ c. search needs) (λ c. search needs) returns returns-2)

@@ -8,15 +8,6 @@ use Rattle.octets.specs.Answer.{numbersOf}
 use Rattle.spatecanter.proofs.found_numbers.Statement.{statement}
 use Rattle.spatecanter.proofs.found_numbers.Tie as tie
 
-enum-told : tie.Need-enum-told
-enum-told c = search needs
-
-enum-known-f : tie.Need-enum-known-f
-enum-known-f c = search needs
-
-cast-t5 : tie.Need-cast-t5
-cast-t5 c = search needs
-
 returns : tie.Need-returns
 returns c = sym (ap (λ (f : Found). numbersOf (outcomeOfFound (foundOf f))) (c .enum-told .given .1))
 
@@ -24,4 +15,4 @@ returns-2 : tie.Need-returns-2
 returns-2 c = sym (ap (λ (f : Found). numbersOf (outcomeOfFound (foundOf f))) (c .before .f .given .1))
 
 pub found-numbers-spec : {M : Type 1} → statement M
-found-numbers-spec = tie.close (tie.spec enum-told enum-known-f cast-t5 returns returns-2)
+found-numbers-spec = tie.close (tie.spec (λ c. search needs) (λ c. search needs) (λ c. search needs) returns returns-2)

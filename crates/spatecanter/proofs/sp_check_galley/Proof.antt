@@ -6,14 +6,8 @@ use Rattle.octets.specs.Answer.{numbersOf}
 use Rattle.spatecanter.proofs.sp_check_galley.Statement.{statement}
 use Rattle.spatecanter.proofs.sp_check_galley.Tie as tie
 
-check-galley-requires : tie.Need-check-galley-requires
-check-galley-requires c κs = search needs
-
-numbers-requires : tie.Need-numbers-requires
-numbers-requires c κs = search needs
-
 returns : tie.Need-returns
 returns c = c .numbers .ensures ∙ ap numbersOf (c .before .check-galley .ensures)
 
 pub sp-check-galley-spec : {M : Type 1} → statement M
-sp-check-galley-spec = tie.close (tie.spec check-galley-requires numbers-requires returns)
+sp-check-galley-spec = tie.close (tie.spec (λ c κs. search needs) (λ c κs. search needs) returns)

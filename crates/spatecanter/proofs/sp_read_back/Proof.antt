@@ -8,20 +8,10 @@ use Rattle.spatecanter.specs.Numbers.{foundNumbers}
 use Rattle.spatecanter.proofs.sp_read_back.Statement.{statement}
 use Rattle.spatecanter.proofs.sp_read_back.Tie as tie
 
-read-back-requires : tie.Need-read-back-requires
-read-back-requires c κs = search needs
-
-found-numbers-requires : tie.Need-found-numbers-requires
-found-numbers-requires c κs = search needs
-
-found-character-requires : tie.Need-found-character-requires
-found-character-requires c κs = search needs
-
 returns : tie.Need-returns
 returns c =
     let r = c .before .before .read-back .ensures in
     (c .before .found-numbers .ensures ∙ ap (λ (f : FoundOutcome). numbersOf (outcomeOfFound f)) r, c .found-character .ensures ∙ ap foundNumbers r)
 
 pub sp-read-back-spec : {M : Type 1} → statement M
-sp-read-back-spec =
-    tie.close (tie.spec read-back-requires found-numbers-requires found-character-requires returns)
+sp-read-back-spec = tie.close (tie.spec (λ c κs. search needs) (λ c κs. search needs) (λ c κs. search needs) returns)

@@ -4,18 +4,6 @@ use borrow.Author.Needs.{needs}
 use Rattle.spatecanter.proofs.sp_reprint.Statement.{statement}
 use Rattle.spatecanter.proofs.sp_reprint.Tie as tie
 
-reprint-requires : tie.Need-reprint-requires
-reprint-requires c κs = search needs
-
-numbers-requires : tie.Need-numbers-requires
-numbers-requires c κs = search needs
-
-same-length : tie.Need-same-length
-same-length c = search needs
-
-same-length-2 : tie.Need-same-length-2
-same-length-2 c = search needs
-
 returns : tie.Need-returns
 returns c = record {
   forFile = _;
@@ -25,4 +13,4 @@ returns c = record {
 }
 
 pub sp-reprint-spec : {M : Type 1} → statement M
-sp-reprint-spec = tie.close (tie.spec reprint-requires numbers-requires same-length same-length-2 returns)
+sp-reprint-spec = tie.close (tie.spec (λ c κs. search needs) (λ c κs. search needs) (λ c. search needs) (λ c. search needs) returns)

@@ -5,17 +5,8 @@ use Rattle.octets.specs.AnswerLaws.{gives-numbers}
 use Rattle.spatecanter.proofs.sp_write_dvi.Statement.{statement}
 use Rattle.spatecanter.proofs.sp_write_dvi.Tie as tie
 
-write-dvi-requires : tie.Need-write-dvi-requires
-write-dvi-requires c κs = search needs
-
-numbers-requires : tie.Need-numbers-requires
-numbers-requires c κs = search needs
-
-same-length : tie.Need-same-length
-same-length c = search needs
-
 returns : tie.Need-returns
 returns c = gives-numbers (c .numbers .ensures) (c .before .before .before .write-dvi .ensures)
 
 pub sp-write-dvi-spec : {M : Type 1} → statement M
-sp-write-dvi-spec = tie.close (tie.spec write-dvi-requires numbers-requires same-length returns)
+sp-write-dvi-spec = tie.close (tie.spec (λ c κs. search needs) (λ c κs. search needs) (λ c. search needs) returns)

@@ -5,17 +5,8 @@ use Rattle.octets.specs.AnswerLaws.{gives-numbers}
 use Rattle.spatecanter_back.proofs.sp_dvi_to_galley.Statement.{statement}
 use Rattle.spatecanter_back.proofs.sp_dvi_to_galley.Tie as tie
 
-dvi-to-galley-requires : tie.Need-dvi-to-galley-requires
-dvi-to-galley-requires c κs = search needs
-
-numbers-requires : tie.Need-numbers-requires
-numbers-requires c κs = search needs
-
-same-length : tie.Need-same-length
-same-length c = search needs
-
 returns : tie.Need-returns
 returns c = gives-numbers (c .numbers .ensures) (c .before .before .before .dvi-to-galley .ensures)
 
 pub sp-dvi-to-galley-spec : {M : Type 1} → statement M
-sp-dvi-to-galley-spec = tie.close (tie.spec dvi-to-galley-requires numbers-requires same-length returns)
+sp-dvi-to-galley-spec = tie.close (tie.spec (λ c κs. search needs) (λ c κs. search needs) (λ c. search needs) returns)

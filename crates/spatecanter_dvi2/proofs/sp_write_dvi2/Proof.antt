@@ -5,17 +5,8 @@ use Rattle.octets.specs.AnswerLaws.{gives-numbers}
 use Rattle.spatecanter_dvi2.proofs.sp_write_dvi2.Statement.{statement}
 use Rattle.spatecanter_dvi2.proofs.sp_write_dvi2.Tie as tie
 
-write-dvi2-requires : tie.Need-write-dvi2-requires
-write-dvi2-requires c κs = search needs
-
-numbers-requires : tie.Need-numbers-requires
-numbers-requires c κs = search needs
-
-same-length : tie.Need-same-length
-same-length c = search needs
-
 returns : tie.Need-returns
 returns c = gives-numbers (c .numbers .ensures) (c .before .before .before .write-dvi2 .ensures)
 
 pub sp-write-dvi2-spec : {M : Type 1} → statement M
-sp-write-dvi2-spec = tie.close (tie.spec write-dvi2-requires numbers-requires same-length returns)
+sp-write-dvi2-spec = tie.close (tie.spec (λ c κs. search needs) (λ c κs. search needs) (λ c. search needs) returns)

@@ -5,30 +5,13 @@ use borrow.Author.Needs.{needs}
 use lib.IntN.{pos}
 use mir.Syntax.{w32}
 use mir.Val.{SFits}
-use Rattle.integers.specs.Parts.{integers, plain, plain-pos}
+use Rattle.integers.specs.Parts.{integers}
+use Rattle.integers.specs.Bits.{plain, plain-pos}
 use Rattle.galley_items.specs.declared.Here.{Here}
 use Rattle.galley_items.specs.declared.Here.the-variants.{Is}
 use Rattle.galley_items.specs.Here.{hereOf, hereNumbers}
 use Rattle.spatecanter_items.proofs.here_item.Statement.{statement}
 use Rattle.spatecanter_items.proofs.here_item.Tie as tie
-
-enum-known-h : tie.Need-enum-known-h
-enum-known-h c = search needs
-
-enum-known-i : tie.Need-enum-known-i
-enum-known-i c = search needs
-
-cast-t6 : tie.Need-cast-t6
-cast-t6 c = search needs
-
-cast-t7 : tie.Need-cast-t7
-cast-t7 c = search needs
-
-enum-told : tie.Need-enum-told
-enum-told c = search needs
-
-enum-told-2 : tie.Need-enum-told-2
-enum-told-2 c = search needs
 
 returns : tie.Need-returns
 returns c =
@@ -50,4 +33,5 @@ returns-3 c = sym (ap (λ (k : Here). hereNumbers (hereOf k)) (c .enum-told2 .gi
 pub here-item-spec : {M : Type 1} → statement M
 here-item-spec =
     tie.close
-    (tie.spec enum-known-h enum-known-i cast-t6 cast-t7 enum-told enum-told-2 returns returns-2 returns-3)
+    (tie.spec (λ c. search needs) (λ c. search needs) (λ c. search needs) (λ c. search needs) (λ c. search needs) (λ c. search needs) returns
+    returns-2 returns-3)

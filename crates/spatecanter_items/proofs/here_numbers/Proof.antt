@@ -10,18 +10,6 @@ use Rattle.galley_items.specs.Here.{hereOf, outcomeOfHere}
 use Rattle.spatecanter_items.proofs.here_numbers.Statement.{statement}
 use Rattle.spatecanter_items.proofs.here_numbers.Tie as tie
 
-enum-known-h : tie.Need-enum-known-h
-enum-known-h c = search needs
-
-item-size-requires : tie.Need-item-size-requires
-item-size-requires c κs = search needs
-
-enum-known-h-2 : tie.Need-enum-known-h-2
-enum-known-h-2 c = search needs
-
-cast-t8 : tie.Need-cast-t8
-cast-t8 c = search needs
-
 returns : tie.Need-returns
 returns c =
     ap (λ (n : ℕ). 0 ∷ 0 ∷ n ∷ []) (c .item-size .ensures)
@@ -31,5 +19,4 @@ returns-2 : tie.Need-returns-2
 returns-2 c = sym (ap (λ (h : Here). numbersOf (outcomeOfHere (hereOf h))) (c .before .h2 .given .1))
 
 pub here-numbers-spec : {M : Type 1} → statement M
-here-numbers-spec =
-    tie.close (tie.spec enum-known-h item-size-requires enum-known-h-2 cast-t8 returns returns-2)
+here-numbers-spec = tie.close (tie.spec (λ c. search needs) (λ c κs. search needs) (λ c. search needs) (λ c. search needs) returns returns-2)

@@ -7,20 +7,10 @@ use Rattle.galley_items.specs.Here.{HereOutcome, outcomeOfHere, hereNumbers}
 use Rattle.spatecanter_items.proofs.sp_item_at.Statement.{statement}
 use Rattle.spatecanter_items.proofs.sp_item_at.Tie as tie
 
-item-at-requires : tie.Need-item-at-requires
-item-at-requires c κs = search needs
-
-here-numbers-requires : tie.Need-here-numbers-requires
-here-numbers-requires c κs = search needs
-
-here-item-requires : tie.Need-here-item-requires
-here-item-requires c κs = search needs
-
 returns : tie.Need-returns
 returns c =
     let r = c .before .before .item-at .ensures in
     (c .before .here-numbers .ensures ∙ ap (λ (h : HereOutcome). numbersOf (outcomeOfHere h)) r, c .here-item .ensures ∙ ap hereNumbers r)
 
 pub sp-item-at-spec : {M : Type 1} → statement M
-sp-item-at-spec =
-    tie.close (tie.spec item-at-requires here-numbers-requires here-item-requires returns)
+sp-item-at-spec = tie.close (tie.spec (λ c κs. search needs) (λ c κs. search needs) (λ c κs. search needs) returns)

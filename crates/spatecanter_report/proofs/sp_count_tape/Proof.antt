@@ -6,14 +6,8 @@ use Rattle.octets.specs.Answer.{numbersOf}
 use Rattle.spatecanter_report.proofs.sp_count_tape.Statement.{statement}
 use Rattle.spatecanter_report.proofs.sp_count_tape.Tie as tie
 
-count-tape-requires : tie.Need-count-tape-requires
-count-tape-requires c κs = search needs
-
-numbers-requires : tie.Need-numbers-requires
-numbers-requires c κs = search needs
-
 returns : tie.Need-returns
 returns c = let r = c .before .count-tape .ensures in (c .numbers .ensures ∙ ap numbersOf (r .0), r .1)
 
 pub sp-count-tape-spec : {M : Type 1} → statement M
-sp-count-tape-spec = tie.close (tie.spec count-tape-requires numbers-requires returns)
+sp-count-tape-spec = tie.close (tie.spec (λ c κs. search needs) (λ c κs. search needs) returns)

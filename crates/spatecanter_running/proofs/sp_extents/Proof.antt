@@ -1,6 +1,6 @@
 -- `spatecanter_running::sp_extents` meets its contract.
 -- Assumes nothing.
-use mathlib.Core.Path.{_≡_, ap, _∙_}
+use mathlib.Core.Path.{ap}
 use mathlib.Core.List.{[], _∷_}
 use borrow.Author.Needs.{needs}
 use lib.ListN.{getD}
@@ -9,9 +9,6 @@ use Rattle.spatecanter_running.specs.Words.{tapeIn}
 use Rattle.spatecanter_running.specs.WordsLaws.{held}
 use Rattle.spatecanter_running.proofs.sp_extents.Statement.{statement}
 use Rattle.spatecanter_running.proofs.sp_extents.Tie as tie
-
-extents-in-requires : tie.Need-extents-in-requires
-extents-in-requires c κs = search needs
 
 returns : tie.Need-returns
 unfolding tapeIn
@@ -23,4 +20,4 @@ returns c =
     ((λ i. x i ∷ h i ∷ []), (λ i. e i .fonts .low ∷ e i .fonts .high ∷ []))
 
 pub sp-extents-spec : {M : Type 1} → statement M
-sp-extents-spec = tie.close (tie.spec extents-in-requires returns)
+sp-extents-spec = tie.close (tie.spec (λ c κs. search needs) returns)

@@ -7,21 +7,6 @@ use Rattle.spatecanter_running.specs.WordsLaws.{leaves-words}
 use Rattle.spatecanter_running.proofs.sp_feed.Statement.{statement}
 use Rattle.spatecanter_running.proofs.sp_feed.Tie as tie
 
-tape-in-requires : tie.Need-tape-in-requires
-tape-in-requires c κs = search needs
-
-fed-requires : tie.Need-fed-requires
-fed-requires c κs = search needs
-
-words-of-requires : tie.Need-words-of-requires
-words-of-requires c κs = search needs
-
-numbers-requires : tie.Need-numbers-requires
-numbers-requires c κs = search needs
-
-same-length : tie.Need-same-length
-same-length c = search needs
-
 returns : tie.Need-returns
 returns c =
     let a = c .before .before .before .before .before .before .before .before .before .before .before .args in
@@ -30,4 +15,4 @@ returns c =
 pub sp-feed-spec : {M : Type 1} → statement M
 sp-feed-spec =
     tie.close
-    (tie.spec tape-in-requires fed-requires words-of-requires numbers-requires same-length returns)
+    (tie.spec (λ c κs. search needs) (λ c κs. search needs) (λ c κs. search needs) (λ c κs. search needs) (λ c. search needs) returns)

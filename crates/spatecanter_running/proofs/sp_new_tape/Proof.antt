@@ -6,14 +6,8 @@ use Rattle.spatecanter_running.specs.Words.{Holds}
 use Rattle.spatecanter_running.proofs.sp_new_tape.Statement.{statement}
 use Rattle.spatecanter_running.proofs.sp_new_tape.Tie as tie
 
-new-tape-requires : tie.Need-new-tape-requires
-new-tape-requires c κs = search needs
-
-words-of-requires : tie.Need-words-of-requires
-words-of-requires c κs = search needs
-
 returns : tie.Need-returns
 returns c = subst (Holds _) (c .before .new-tape .ensures) (c .words-of .ensures)
 
 pub sp-new-tape-spec : {M : Type 1} → statement M
-sp-new-tape-spec = tie.close (tie.spec new-tape-requires words-of-requires returns)
+sp-new-tape-spec = tie.close (tie.spec (λ c κs. search needs) (λ c κs. search needs) returns)

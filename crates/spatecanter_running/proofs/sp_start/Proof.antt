@@ -9,18 +9,6 @@ use Rattle.spatecanter_running.specs.Words.{Holds}
 use Rattle.spatecanter_running.proofs.sp_start.Statement.{statement}
 use Rattle.spatecanter_running.proofs.sp_start.Tie as tie
 
-tape-in-requires : tie.Need-tape-in-requires
-tape-in-requires c κs = search needs
-
-started-requires : tie.Need-started-requires
-started-requires c κs = search needs
-
-words-of-requires : tie.Need-words-of-requires
-words-of-requires c κs = search needs
-
-numbers-requires : tie.Need-numbers-requires
-numbers-requires c κs = search needs
-
 returns : tie.Need-returns
 returns c =
     let a = c .before .before .before .before .before .before .args in
@@ -29,6 +17,4 @@ returns c =
     (c .numbers .ensures ∙ ap numbersOf (f .0 ∙ ap (λ (x : Replied). outcome (x .result)) g), subst (Holds _) (f .1 ∙ ap (λ (x : Replied). x .tape) g) (c .before .words-of .ensures))
 
 pub sp-start-spec : {M : Type 1} → statement M
-sp-start-spec =
-    tie.close
-    (tie.spec tape-in-requires started-requires words-of-requires numbers-requires returns)
+sp-start-spec = tie.close (tie.spec (λ c κs. search needs) (λ c κs. search needs) (λ c κs. search needs) (λ c κs. search needs) returns)

@@ -16,11 +16,13 @@ use Rattle.typesetter.specs.declared.machine.State.{State}
 use Rattle.typesetter.specs.declared.machine.Effect.{Effect}
 use Rattle.typesetter.specs.declared.machine.Effect.the-variants.{Moved, Flashed, PageEnded}
 use Rattle.tape.specs.declared.Reading.{Reading}
-use Rattle.typesetter.specs.Machine.{effectOf}
+use Rattle.typesetter.specs.Machine.{byteEffect}
 use Rattle.tape.specs.RunLaws.{Sets, flashed, pageEnded}
-use Rattle.tape.specs.Tape.{run}
-use Rattle.tape.specs.Pass.{putAt, Going, Passed}
-use Rattle.tape.proofs.Passes.{going-start, going-bound, going-moved, going-room, going-set, going-refused, going-done}
+use Rattle.tape.specs.Tape.{maxTape, run}
+use Rattle.tape_stretch.specs.Further.{putAt}
+use Rattle.tape_stretch.specs.FurtherLaws.{further-onward}
+use Rattle.tape.specs.Pass.{Going, Passed}
+use Rattle.tape.proofs.Passes.{going-start, going-bound, going-moved, going-room, going-set, going-refused, going-done, going-further}
 use Rattle.tape.proofs.pass.Statement.{statement}
 use Rattle.tape.proofs.pass.Tie as tie
 
@@ -54,7 +56,7 @@ module _ (c : tie.After-reached Inv-loop μ-loop) where
   code = getD (start .args .tape .now) i 0
 
   going : Going (start .args .first) (start .args .at) (start .args .tape .now) (start .args .out .now) (start .args .writing) out now count cuts i
-  going = let a = start .args in c .before .before .before .quick-run .ensures .keeps (a .first) (a .at) (a .out .now) (c .before .before .before .before .before .before .loop .inv)
+  going = let a = start .args in going-further (a .first) (a .at) (a .tape .now) (a .out .now) (a .writing) (c .before .before .before .quick-run .ensures) (c .before .before .before .before .before .before .loop .inv)
 
   module _ (h : i < length (start .args .tape .now)) where
     next-i : Fits w64 (i + 1)
@@ -69,16 +71,16 @@ module _ (c : tie.After-reached Inv-loop μ-loop) where
     next-cuts : Fits w64 (cuts + 3)
     next-cuts = omega (arith, h, bound, start .pre .0 .1)
 
-    few : (count ≤ 1048576) × (cuts ≤ 3 * 1048576)
+    few : (count ≤ maxTape) × (cuts ≤ 3 * maxTape)
     few = (omega (arith, h, bound, start .pre .0 .1), omega (arith, h, bound, start .pre .0 .1))
 
     less : length (start .args .tape .now) - (i + 1) < length (start .args .tape .now) - c .before .before .before .before .before .before .loop .i
-    less = omega (arith, h, c .before .before .before .quick-run .ensures .onward)
+    less = omega (arith, h, further-onward (c .before .before .before .quick-run .ensures))
 
-    moved : (t : State) → effectOf now code ≡ Moved t → Going (start .args .first) (start .args .at) (start .args .tape .now) (start .args .out .now) (start .args .writing) out t count cuts (i + 1)
+    moved : (t : State) → byteEffect now code ≡ Moved t → Going (start .args .first) (start .args .at) (start .args .tape .now) (start .args .out .now) (start .args .writing) out t count cuts (i + 1)
     moved = let a = start .args in going-moved (a .first) (a .at) (a .tape .now) (a .out .now) (a .writing) out now count cuts i going h
 
-    module _ {e : Effect} {x : Item} {t : State} (q : effectOf now code ≡ e) (m : Sets now e x t) where
+    module _ {e : Effect} {x : Item} {t : State} (q : byteEffect now code ≡ e) (m : Sets now e x t) where
       room : start .args .writing ≡ true → 11 * count + cuts + itemSize New x ≤ length out
       room = let a = start .args in going-room (a .first) (a .at) (a .tape .now) (a .out .now) (a .writing) out now count cuts i going h q m (start .pre .1)
 
@@ -87,10 +89,10 @@ module _ (c : tie.After-reached Inv-loop μ-loop) where
       set = let a = start .args in going-set (a .first) (a .at) (a .tape .now) (a .out .now) (a .writing) out now count cuts i going h q m
 
 -- the character, or the cut, that a code sets
-flashes : (c : tie.After-c Inv-loop μ-loop) → effectOf (now (c .before .before .before .before .before)) (code (c .before .before .before .before .before)) ≡ Flashed (c .c .given .0 .0)
+flashes : (c : tie.After-c Inv-loop μ-loop) → byteEffect (now (c .before .before .before .before .before)) (code (c .before .before .before .before .before)) ≡ Flashed (c .c .given .0 .0)
 flashes c = sym (c .before .before .step .ensures) ∙ c .c .given .1
 
-parts : (c : tie.After-next2 Inv-loop μ-loop) → effectOf (now (c .before .before .before .before .before)) (code (c .before .before .before .before .before)) ≡ PageEnded (c .next2 .given .0 .0)
+parts : (c : tie.After-next2 Inv-loop μ-loop) → byteEffect (now (c .before .before .before .before .before)) (code (c .before .before .before .before .before)) ≡ PageEnded (c .next2 .given .0 .0)
 parts c = sym (c .before .before .step .ensures) ∙ c .next2 .given .1
 
 loop-holds : tie.Need-loop-holds Inv-loop μ-loop

@@ -27,18 +27,9 @@ mul-start c = omega (arith, c .before .before .pass .ensures .few)
 add-start : tie.Need-add-start
 add-start c = let p = c .before .before .before .pass .ensures in omega (arith, p .few, p .short)
 
-enum-known-ending : tie.Need-enum-known-ending
-enum-known-ending c = search needs
-
-enum-known-ending-2 : tie.Need-enum-known-ending-2
-enum-known-ending-2 c = search needs
-
 -- the bytes of the fields that the first pass has counted
 bytes-counted : (c : tie.After-pass) → 11 * (c .pass .result .count) + c .pass .result .cuts ≡ length (fields New (run (c .before .before .before .before .args .first) 0 (c .before .before .before .before .args .tape .now) .items))
 bytes-counted c = fields-counted _ _ _ (c .pass .ensures .counted) (c .pass .ensures .cut-bytes)
-
-same-length : tie.Need-same-length
-same-length c = search needs
 
 returns : tie.Need-returns
 returns c =
@@ -50,9 +41,6 @@ returns c =
 
 add-needed : tie.Need-add-needed
 add-needed c = let p = c .before .before .before .before .before .before .before .before .pass .ensures in omega (arith, p .few, p .short)
-
-same-length-2 : tie.Need-same-length-2
-same-length-2 c = search needs
 
 returns-2 : tie.Need-returns-2
 returns-2 c =
@@ -74,12 +62,6 @@ pass-requires-2 c κs =
 cast-put-end : tie.Need-cast-put-end
 cast-put-end c = omega (arith, c .before .before .before .before .before .before .before .before .before .before .before .before .before .before .pass .ensures .few)
 
-put-end-requires : tie.Need-put-end-requires
-put-end-requires c κs = search needs
-
-same-length-3 : tie.Need-same-length-3
-same-length-3 c = search needs
-
 returns-3 : tie.Need-returns-3
 returns-3 c =
     let t = c .before .before .before .before .before .before .before .before in
@@ -98,18 +80,12 @@ returns-3 c =
     (ap accepted (sym (needed (a .first) (a .tape .now) (length (a .galley .now)) _ e (c .before .before .before .before .before .before .before .before .before .before .if1 .left) (c .before .before .before .before .before .before .before .before .before .if2 .taken) _ n)))
     (filled is (p .result .count) _ (a .galley .now) (m .last .1 .1 .1 .0) (c .before .before .put-end .last .0) (p .ensures .counted) n room w (c .before .before .put-end .ensures .buffer-is))
 
-same-length-4 : tie.Need-same-length-4
-same-length-4 c = search needs
-
 returns-4 : tie.Need-returns-4
 returns-4 c =
     let a = c .before .before .before .before .before .before .before .before .before .before .args in
     let p = c .before .before .before .before .before .before .pass in
     let q = read-fault (a .first) (a .tape .now) (length (a .galley .now)) (sym (p .ensures .ended) ∙ c .before .ending .given .1) in
     gives q refl (p .ensures .buffer)
-
-same-length-5 : tie.Need-same-length-5
-same-length-5 c = search needs
 
 returns-5 : tie.Need-returns-5
 returns-5 c =
@@ -122,5 +98,6 @@ returns-5 c =
 pub read-from-spec : {M : Type 1} → statement M
 read-from-spec =
     tie.close
-    (tie.spec pass-requires mul-start add-start enum-known-ending enum-known-ending-2 same-length returns add-needed same-length-2 returns-2
-    pass-requires-2 cast-put-end put-end-requires same-length-3 returns-3 same-length-4 returns-4 same-length-5 returns-5)
+    (tie.spec pass-requires mul-start add-start (λ c. search needs) (λ c. search needs) (λ c. search needs) returns add-needed (λ c. search needs)
+    returns-2 pass-requires-2 cast-put-end (λ c κs. search needs) (λ c. search needs) returns-3 (λ c. search needs) returns-4 (λ c. search needs)
+    returns-5)

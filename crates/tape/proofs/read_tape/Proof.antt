@@ -15,14 +15,8 @@ returns c =
     let a = c .before .before .before .args in
     gives (long-tape (a .tape .now) (a .machine) (length (a .galley .now)) (c .if1 .taken)) refl refl
 
-at-start-requires : tie.Need-at-start-requires
-at-start-requires c κs = search needs
-
 read-from-requires : tie.Need-read-from-requires
 read-from-requires c κs = (rw (c .before .at-start .ensures) (start-sound Four), c .before .before .before .if1 .left)
-
-same-length : tie.Need-same-length
-same-length c = search needs
 
 returns-2 : tie.Need-returns-2
 returns-2 c =
@@ -31,14 +25,8 @@ returns-2 c =
     gives-same (on-machine (a .tape .now) (a .machine) (length (a .galley .now)) (t .before .if1 .left) (machine-four (a .machine) (t .if2 .taken)) (c .before .before .before .before .at-start .ensures))
     (c .before .before .read-from .ensures)
 
-at-start-requires-2 : tie.Need-at-start-requires-2
-at-start-requires-2 c κs = search needs
-
 read-from-requires-2 : tie.Need-read-from-requires-2
 read-from-requires-2 c κs = (rw (c .before .at-start2 .ensures) (start-sound Eight), c .before .before .before .before .if1 .left)
-
-same-length-2 : tie.Need-same-length-2
-same-length-2 c = search needs
 
 returns-3 : tie.Need-returns-3
 returns-3 c =
@@ -55,4 +43,5 @@ returns-4 c =
 pub read-tape-spec : {M : Type 1} → statement M
 read-tape-spec =
     tie.close
-    (tie.spec returns at-start-requires read-from-requires same-length returns-2 at-start-requires-2 read-from-requires-2 same-length-2 returns-3 returns-4)
+    (tie.spec returns (λ c κs. search needs) read-from-requires (λ c. search needs) returns-2 (λ c κs. search needs) read-from-requires-2
+    (λ c. search needs) returns-3 returns-4)

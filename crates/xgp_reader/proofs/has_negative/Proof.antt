@@ -8,7 +8,7 @@ use lib.IntN.{ℤ, pos}
 use lib.ListN.{length, getD, drop}
 use lib.Signed.{ltZ}
 use mir.Syntax.{w32}
-use Rattle.integers.specs.Parts.{plain}
+use Rattle.integers.specs.Bits.{plain}
 use Rattle.xgp.specs.Sheet.{anyNegative}
 use Rattle.xgp_reader.proofs.Widths.{negative-here, negative-further, negative-none}
 use Rattle.xgp_reader.proofs.has_negative.Statement.{statement}

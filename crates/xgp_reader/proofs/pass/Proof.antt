@@ -12,9 +12,8 @@ use Rattle.sheet.specs.ShownLaws.{shown-room}
 use Rattle.sheet.specs.Filled.{filled-start, filled-still, filled-more, filled-refused, filled-finished}
 use Rattle.xgp.specs.State.{withX, pageMarks}
 use Rattle.xgp.specs.FileLaws.{due-most, length-pageMarks}
-use Rattle.xgp_reader.proofs.Puts.{length-setFields}
-use Rattle.xgp_reader.proofs.Passes.{standing-start, standing-refused, standing-ended}
-use Rattle.xgp_reader.proofs.Stretches.{standing-stretch}
+use Rattle.xgp_step.proofs.Puts.{length-setFields}
+use Rattle.xgp_reader.proofs.Passes.{standing-start, standing-refused, standing-ended, standing-stretch}
 use borrow.Author.Needs.{needs}
 use Rattle.xgp_reader.proofs.pass.Proof.Turns.{Inv-loop, μ-loop, start, before, ended, state, standing, filled, from, stepped, goes, shown, sets, room}
 use Rattle.xgp_reader.proofs.pass.Statement.{statement}

@@ -21,7 +21,7 @@ pub fn galley(name: &OsStr, galley: &[u8], refusal: Refusal) -> Failure {
 
 /// A DVI file that was read with widths, or the table of widths where that is at fault.
 pub fn dvi(name: &OsStr, dvi: &[u8], table: Option<&OsStr>, widths: &[i32], refusal: Refusal) -> Failure {
-    let at_fault = table.filter(|_| refusal == Refusal::Widths).unwrap_or(name);
+    let at_fault = table.filter(|_| refusal == Refusal::WidthsNotWhole).unwrap_or(name);
     let mut why = refusal.in_dvi(dvi, widths).to_string();
     if refusal.place() == 0 && Edition::of(dvi) == Edition::Second {
         why += "\n  a file of the second edition begins so: see spatecanter back";

@@ -91,7 +91,7 @@ fn count_part(tapes: &[Tape], with_findings: bool, done: &Done) -> Result<Part, 
 /// each character, 3 for each cut and 7.
 fn finding(tape: &[u8], machine: u32, characters: u64) -> Finding {
     match spatecanter::read_tape_into(tape, machine, &mut []) {
-        Err(Refusal::GalleyRoom { needed }) => {
+        Err(Refusal::NoGalleyRoom { needed }) => {
             let cuts = (needed as u64 - 7 - 11 * characters) / 3;
             Ok(Held { characters, pages: cuts + 1 })
         }

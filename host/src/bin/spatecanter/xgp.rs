@@ -20,7 +20,7 @@ pub fn run(arguments: &Arguments) -> Result<(), Failure> {
         let file = input::read(name, XGP_LIMIT)?;
         let read = || spatecanter::read_xgp(&file, spacing, &widths);
         let sheet = progress::during("reading the XGP file", read).map_err(|refusal| {
-            let is_of_widths = matches!(refusal, Refusal::Widths | Refusal::NegativeWidth);
+            let is_of_widths = matches!(refusal, Refusal::WidthsNotWhole | Refusal::NegativeWidth);
             let at_fault = if is_of_widths { widths_name } else { name };
             refused::input(at_fault, &refusal.in_xgp(&file, spacing, &widths))
         })?;

@@ -4,7 +4,7 @@ use mathlib.Core.Path.{sym, ap, _∙_}
 use native.Mathlib.Omega.{arith}
 use borrow.Author.Needs.{needs}
 use mir.Syntax.{w32}
-use Rattle.integers.specs.Parts.{plain}
+use Rattle.integers.specs.Bits.{plain}
 use Rattle.sheet.specs.Sheet.{pageMark, charMark, ruleMark, markField}
 use Rattle.sheet.specs.SheetLaws.{fieldSize}
 use Rattle.dvi.specs.declared.mark.Mark.{Mark}
@@ -13,17 +13,11 @@ use Rattle.octets.specs.Write.{put-named}
 use Rattle.dvi.proofs.mark.show_mark.Statement.{statement}
 use Rattle.dvi.proofs.mark.show_mark.Tie as tie
 
-enum-known-m : tie.Need-enum-known-m
-enum-known-m c = search needs
-
 show-page-requires : tie.Need-show-page-requires
 show-page-requires c κs =
     let e = ap (λ (k : Mark). fieldSize (markOf k)) (c .before .before .m .given .1) in
     let p = c .before .before .before .before .before .pre in
     (p .0, λ w. omega (arith, e, p .1 w))
-
-enum-known-m-2 : tie.Need-enum-known-m-2
-enum-known-m-2 c = search needs
 
 show-char-requires : tie.Need-show-char-requires
 show-char-requires c κs =
@@ -31,26 +25,17 @@ show-char-requires c κs =
     let p = c .before .before .before .before .before .before .before .pre in
     (p .0, λ w. omega (arith, e, p .1 w))
 
-enum-known-m-3 : tie.Need-enum-known-m-3
-enum-known-m-3 c = search needs
-
 show-rule-requires : tie.Need-show-rule-requires
 show-rule-requires c κs =
     let e = ap (λ (k : Mark). fieldSize (markOf k)) (c .before .before .before .before .before .before .m3 .given .1) in
     let p = c .before .before .before .before .before .before .before .before .before .pre in
     (p .0, λ w. omega (arith, e, p .1 w))
 
-same-length : tie.Need-same-length
-same-length c = search needs
-
 returns : tie.Need-returns
 returns c =
     let g = c .before .before .before .before .before .m .given in
     let n = plain {w = w32} {z = g .0 .0} (search needs) in
     put-named ((λ i. markField (pageMark (n i))) ∙ ap (λ (k : Mark). markField (markOf k)) (sym (g .1))) (c .before .before .show-page .ensures)
-
-same-length-2 : tie.Need-same-length-2
-same-length-2 c = search needs
 
 returns-2 : tie.Need-returns-2
 returns-2 c =
@@ -59,9 +44,6 @@ returns-2 c =
     let y = plain {w = w32} {z = g .0 .1 .1 .0 .0} (search needs) in
     let f = plain {w = w32} {z = g .0 .1 .1 .1 .0} (search needs) in
     put-named ((λ i. markField (charMark (x i) (y i) (f i) (g .0 .0))) ∙ ap (λ (k : Mark). markField (markOf k)) (sym (g .1))) (c .before .before .show-char .ensures)
-
-same-length-3 : tie.Need-same-length-3
-same-length-3 c = search needs
 
 returns-3 : tie.Need-returns-3
 returns-3 c =
@@ -75,16 +57,5 @@ returns-3 c =
 pub show-mark-spec : {M : Type 1} → statement M
 show-mark-spec =
     tie.close
-    (tie.spec
-    enum-known-m
-    show-page-requires
-    enum-known-m-2
-    show-char-requires
-    enum-known-m-3
-    show-rule-requires
-    same-length
-    returns
-    same-length-2
-    returns-2
-    same-length-3
-    returns-3)
+    (tie.spec (λ c. search needs) show-page-requires (λ c. search needs) show-char-requires (λ c. search needs) show-rule-requires
+    (λ c. search needs) returns (λ c. search needs) returns-2 (λ c. search needs) returns-3)

@@ -9,36 +9,6 @@ use Rattle.dvi.specs.Writer.{nameOf}
 use Rattle.dvi.proofs.name.put_name.Statement.{statement}
 use Rattle.dvi.proofs.name.put_name.Tie as tie
 
-point-size-requires : tie.Need-point-size-requires
-point-size-requires c κs = search needs
-
-put-byte-requires : tie.Need-put-byte-requires
-put-byte-requires c κs = search needs
-
-font-of-requires : tie.Need-font-of-requires
-font-of-requires c κs = search needs
-
-add-put-byte : tie.Need-add-put-byte
-add-put-byte c = search needs
-
-put-byte-requires-2 : tie.Need-put-byte-requires-2
-put-byte-requires-2 c κs = search needs
-
-add-put-byte-2 : tie.Need-add-put-byte-2
-add-put-byte-2 c = search needs
-
-put-byte-requires-3 : tie.Need-put-byte-requires-3
-put-byte-requires-3 c κs = search needs
-
-add-put-byte-3 : tie.Need-add-put-byte-3
-add-put-byte-3 c = search needs
-
-put-byte-requires-4 : tie.Need-put-byte-requires-4
-put-byte-requires-4 c κs = search needs
-
-same-length : tie.Need-same-length
-same-length c = search needs
-
 returns : tie.Need-returns
 unfolding nameOf
 returns c =
@@ -51,15 +21,5 @@ returns c =
 pub put-name-spec : {M : Type 1} → statement M
 put-name-spec =
     tie.close
-    (tie.spec
-    point-size-requires
-    put-byte-requires
-    font-of-requires
-    add-put-byte
-    put-byte-requires-2
-    add-put-byte-2
-    put-byte-requires-3
-    add-put-byte-3
-    put-byte-requires-4
-    same-length
-    returns)
+    (tie.spec (λ c κs. search needs) (λ c κs. search needs) (λ c κs. search needs) (λ c. search needs) (λ c κs. search needs) (λ c. search needs)
+    (λ c κs. search needs) (λ c. search needs) (λ c κs. search needs) (λ c. search needs) returns)

@@ -9,15 +9,6 @@ use Rattle.dvi2_close.specs.Reading.{expected}
 use Rattle.dvi2_close.proofs.close.marked.Statement.{statement}
 use Rattle.dvi2_close.proofs.close.marked.Tie as tie
 
-has-font-requires : tie.Need-has-font-requires
-has-font-requires c κs = search needs
-
-definition-requires : tie.Need-definition-requires
-definition-requires c κs = search needs
-
-slice-aggregate-expect : tie.Need-slice-aggregate-expect
-slice-aggregate-expect c = search needs
-
 expect-requires : tie.Need-expect-requires
 expect-requires c κs = (c .before .before .before .before .before .pre .0, search needs)
 
@@ -38,12 +29,4 @@ returns-2 c =
     ap (λ (t : Bool). cond t (expected s (a .at) (definition (a .f))) (To (a .at))) (sym (c .if1 .left) ∙ c .before .has-font .ensures)
 
 pub marked-spec : {M : Type 1} → statement M
-marked-spec =
-    tie.close
-    (tie.spec
-    has-font-requires
-    definition-requires
-    slice-aggregate-expect
-    expect-requires
-    returns
-    returns-2)
+marked-spec = tie.close (tie.spec (λ c κs. search needs) (λ c κs. search needs) (λ c. search needs) expect-requires returns returns-2)

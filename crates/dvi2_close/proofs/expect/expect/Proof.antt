@@ -6,21 +6,6 @@ use Rattle.dvi2_close.specs.Reading.{byMatch, expected}
 use Rattle.dvi2_close.proofs.expect.expect.Statement.{statement}
 use Rattle.dvi2_close.proofs.expect.expect.Tie as tie
 
-compare-requires : tie.Need-compare-requires
-compare-requires c κs = search needs
-
-enum-told : tie.Need-enum-told
-enum-told c = search needs
-
-add-t7 : tie.Need-add-t7
-add-t7 c = search needs
-
-enum-told-2 : tie.Need-enum-told-2
-enum-told-2 c = search needs
-
-enum-told-3 : tie.Need-enum-told-3
-enum-told-3 c = search needs
-
 returns : tie.Need-returns
 unfolding expected
 returns c =
@@ -48,12 +33,4 @@ returns-3 c =
 pub expect-spec : {M : Type 1} → statement M
 expect-spec =
     tie.close
-    (tie.spec
-    compare-requires
-    enum-told
-    add-t7
-    enum-told-2
-    enum-told-3
-    returns
-    returns-2
-    returns-3)
+    (tie.spec (λ c κs. search needs) (λ c. search needs) (λ c. search needs) (λ c. search needs) (λ c. search needs) returns returns-2 returns-3)

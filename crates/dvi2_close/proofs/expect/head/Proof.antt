@@ -4,37 +4,16 @@ use mathlib.Core.Path.{sym, _∙_}
 use native.Mathlib.Omega.{arith}
 use borrow.Author.Needs.{needs}
 use Rattle.dvi2_reading.specs.Reading.{firstBop}
-use Rattle.dvi2_close.proofs.Expected.{expect-inside, inside-to, head-led, head-fault}
+use Rattle.dvi2_close.proofs.Expected.{expect-inside, inside-to, head-readsTo, head-fault}
 use Rattle.dvi2_close.proofs.expect.head.Statement.{statement}
 use Rattle.dvi2_close.proofs.expect.head.Tie as tie
-
-preamble-requires : tie.Need-preamble-requires
-preamble-requires c κs = search needs
-
-slice-aggregate-expect : tie.Need-slice-aggregate-expect
-slice-aggregate-expect c = search needs
-
-expect-requires : tie.Need-expect-requires
-expect-requires c κs = search needs
-
-enum-known-r : tie.Need-enum-known-r
-enum-known-r c = search needs
-
-bop-requires : tie.Need-bop-requires
-bop-requires c κs = search needs
-
-slice-aggregate-expect-2 : tie.Need-slice-aggregate-expect-2
-slice-aggregate-expect-2 c = search needs
 
 expect-requires-2 : tie.Need-expect-requires-2
 expect-requires-2 c κs = (inside-to (sym (c .before .before .before .before .before .expect .ensures) ∙ c .before .before .before .r .given .1) (expect-inside _ _ _ (omega arith)), search needs)
 
-enum-known-r-2 : tie.Need-enum-known-r-2
-enum-known-r-2 c = search needs
-
 returns : tie.Need-returns
 unfolding firstBop
-returns c = head-led _ _ _ (c .before .before .before .before .before .before .before .before .preamble .ensures) (c .before .before .before .before .before .before .expect .ensures) _ (c .before .before .before .before .r .given .1) _ (c .before .before .bop .ensures) _ (c .expect2 .ensures)
+returns c = head-readsTo _ _ _ (c .before .before .before .before .before .before .before .before .preamble .ensures) (c .before .before .before .before .before .before .expect .ensures) _ (c .before .before .before .before .r .given .1) _ (c .before .before .bop .ensures) _ (c .expect2 .ensures)
 
 returns-2 : tie.Need-returns-2
 returns-2 c = head-fault _ _ _ (c .before .before .before .before .before .preamble .ensures) (c .before .before .before .expect .ensures) _ (c .before .r2 .given .1)
@@ -42,14 +21,5 @@ returns-2 c = head-fault _ _ _ (c .before .before .before .before .before .pream
 pub head-spec : {M : Type 1} → statement M
 head-spec =
     tie.close
-    (tie.spec
-    preamble-requires
-    slice-aggregate-expect
-    expect-requires
-    enum-known-r
-    bop-requires
-    slice-aggregate-expect-2
-    expect-requires-2
-    enum-known-r-2
-    returns
-    returns-2)
+    (tie.spec (λ c κs. search needs) (λ c. search needs) (λ c κs. search needs) (λ c. search needs) (λ c κs. search needs) (λ c. search needs)
+    expect-requires-2 (λ c. search needs) returns returns-2)

@@ -3,23 +3,16 @@
 use mathlib.Core.Path.{ap, _∙_}
 use mir.Syntax.{w32}
 use mir.Val.{SFits}
-use Rattle.integers.specs.Parts.{plain}
+use Rattle.integers.specs.Bits.{plain}
 use native.Mathlib.Omega.{arith}
 use borrow.Author.Needs.{needs}
 use Rattle.galley_file.specs.CharacterLaws.{valid-parts}
 use Rattle.dvi2.specs.Command.{RIGHT1, DOWN1}
 use Rattle.dvi2.specs.Writer.{move, commandsOf}
 use Rattle.dvi2.specs.WriterLaws.{fontChange-most, move-most}
-use Rattle.dvi2_commands.specs.Position.{positionOf}
 use Rattle.octets.specs.PutIfRoomLaws.{putIfRoom-then, putIfRoom-named, putIfRoom-next}
 use Rattle.dvi2_commands.proofs.command.put_commands.Statement.{statement}
 use Rattle.dvi2_commands.proofs.command.put_commands.Tie as tie
-
-right-to-requires : tie.Need-right-to-requires
-right-to-requires c κs = search needs
-
-down-to-requires : tie.Need-down-to-requires
-down-to-requires c κs = search needs
 
 put-font-requires : tie.Need-put-font-requires
 put-font-requires c κs = let s = c .before .before .before .before in (s .pre .0, valid-parts (s .pre .1 .1) .font)
@@ -36,11 +29,8 @@ put-two-requires : tie.Need-put-two-requires
 put-two-requires c κs =
     omega (arith, c .before .before .before .before .before .before .before .before .before .before .before .before .before .before .before .before .pre .0, putIfRoom-next (c .before .before .before .before .before .before .before .before .before .before .before .put-font .ensures) 22 (fontChange-most _ _ _), putIfRoom-next (c .before .before .before .before .before .before .before .put-move .ensures) 5 (move-most _ _), putIfRoom-next (c .before .before .before .put-move2 .ensures) 5 (move-most _ _))
 
-same-length : tie.Need-same-length
-same-length c = search needs
-
 returns : tie.Need-returns
-unfolding commandsOf positionOf
+unfolding commandsOf
 returns c =
     let f : SFits w32 (c .before .before .before .before .before .before .before .before .before .before .before .before .before .before .before .before .before .right-to .result) = search needs in
     let g : SFits w32 (c .before .before .before .before .before .before .before .before .before .before .before .before .before .before .before .before .down-to .result) = search needs in
@@ -51,4 +41,5 @@ returns c =
 pub put-commands-spec : {M : Type 1} → statement M
 put-commands-spec =
     tie.close
-    (tie.spec right-to-requires down-to-requires put-font-requires put-move-requires put-move-requires-2 put-two-requires same-length returns)
+    (tie.spec (λ c κs. search needs) (λ c κs. search needs) put-font-requires put-move-requires put-move-requires-2 put-two-requires
+    (λ c. search needs) returns)

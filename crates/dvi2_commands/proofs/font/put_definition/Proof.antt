@@ -13,32 +13,8 @@ use Rattle.octets.specs.PutIfRoomLaws.{putIfRoom-written, putIfRoom-counted}
 use Rattle.dvi2_commands.proofs.font.put_definition.Statement.{statement}
 use Rattle.dvi2_commands.proofs.font.put_definition.Tie as tie
 
-add-if1 : tie.Need-add-if1
-add-if1 c = search needs
-
-add-result : tie.Need-add-result
-add-result c = search needs
-
 returns : tie.Need-returns
 returns c = putIfRoom-counted _ _ _ 20 (length-definition _) (c .if1 .taken)
-
-point-size-requires : tie.Need-point-size-requires
-point-size-requires c κs = search needs
-
-cast-size : tie.Need-cast-size
-cast-size c = search needs
-
-mul-size : tie.Need-mul-size
-mul-size c = search needs
-
-put-byte-requires : tie.Need-put-byte-requires
-put-byte-requires c κs = search needs
-
-put-byte-requires-2 : tie.Need-put-byte-requires-2
-put-byte-requires-2 c κs = search needs
-
-put-sizes-requires : tie.Need-put-sizes-requires
-put-sizes-requires c κs = search needs
 
 put-nat2-requires : tie.Need-put-nat2-requires
 unfolding bytes
@@ -52,9 +28,6 @@ put-name-requires c κs = (
   c .before .before .before .before .before .before .before .before .before .before .before .before .before .before .before .before .before .before .before .before .pre .1,
 )
 
-same-length : tie.Need-same-length
-same-length c = search needs
-
 returns-2 : tie.Need-returns-2
 unfolding definition bytes
 returns-2 c =
@@ -66,5 +39,5 @@ returns-2 c =
 pub put-definition-spec : {M : Type 1} → statement M
 put-definition-spec =
     tie.close
-    (tie.spec add-if1 add-result returns point-size-requires cast-size mul-size put-byte-requires put-byte-requires-2 put-sizes-requires put-nat2-requires
-    put-name-requires same-length returns-2)
+    (tie.spec (λ c. search needs) (λ c. search needs) returns (λ c κs. search needs) (λ c. search needs) (λ c. search needs) (λ c κs. search needs)
+    (λ c κs. search needs) (λ c κs. search needs) put-nat2-requires put-name-requires (λ c. search needs) returns-2)

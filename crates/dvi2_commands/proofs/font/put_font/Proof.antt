@@ -14,28 +14,16 @@ use Rattle.dvi2_commands.proofs.font.put_font.Tie as tie
 returns : tie.Need-returns
 returns c = putIfRoom-named (sym (same-font _ _ _ (c .before .before .pre .1) (c .if1 .taken))) (putIfRoom-none _ _)
 
-put-select-requires : tie.Need-put-select-requires
-put-select-requires c κs = search needs
-
-same-length : tie.Need-same-length
-same-length c = search needs
-
 returns-2 : tie.Need-returns-2
 unfolding fontCommands
 returns-2 c =
     let a = c .before .before .before .before .before .before .before .args in
     putIfRoom-named (sym (other-font _ _ _ (c .before .before .before .before .before .if1 .left) ∙ ap (λ (t : Bool). fontCommands t (a .f)) (c .before .before .before .before .if2 .taken))) (c .before .before .put-select .ensures)
 
-put-definition-requires : tie.Need-put-definition-requires
-put-definition-requires c κs = search needs
-
 put-select-requires-2 : tie.Need-put-select-requires-2
 put-select-requires-2 c κs =
     let s = c .before .before .before .before .before .before .before .before in
     (omega (arith, s .pre .0, c .before .before .before .put-definition .ensures .next-is, length-definition (s .args .f)), s .pre .1)
-
-same-length-2 : tie.Need-same-length-2
-same-length-2 c = search needs
 
 returns-3 : tie.Need-returns-3
 unfolding fontCommands
@@ -47,4 +35,5 @@ returns-3 c =
 pub put-font-spec : {M : Type 1} → statement M
 put-font-spec =
     tie.close
-    (tie.spec returns put-select-requires same-length returns-2 put-definition-requires put-select-requires-2 same-length-2 returns-3)
+    (tie.spec returns (λ c κs. search needs) (λ c. search needs) returns-2 (λ c κs. search needs) put-select-requires-2 (λ c. search needs)
+    returns-3)

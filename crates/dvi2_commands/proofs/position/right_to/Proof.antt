@@ -3,8 +3,7 @@
 use borrow.Author.Needs.{needs}
 use mir.Syntax.{w32}
 use mir.Val.{SFits}
-use Rattle.integers.specs.Parts.{plain}
-use Rattle.dvi2_commands.specs.Position.{positionOf}
+use Rattle.integers.specs.Bits.{plain}
 use Rattle.dvi2_commands.proofs.Positions.{right-fits}
 use Rattle.dvi2_commands.proofs.position.right_to.Statement.{statement}
 use Rattle.dvi2_commands.proofs.position.right_to.Tie as tie
@@ -17,7 +16,6 @@ sub-result c =
     rw (plain f, plain g) (right-fits (s .args .last) (s .args .c) (s .pre .0) (s .pre .1))
 
 returns : tie.Need-returns
-unfolding positionOf
 returns c =
     let s = c .before .before .before .before in
     let f : SFits w32 (s .args .c .x .0) = search needs in

@@ -1,167 +1,144 @@
 -- `dvi2_moves::moves::down` meets its contract: each test is one of those of `mayCome`; a move that is cut short is looked for.
 -- Assumes nothing.
-use mathlib.Core.Path.{_≡_, sym, ap, subst, _∙_}
+use mathlib.Core.Path.{_≡_, refl, sym, ap, _∙_}
 use mathlib.Core.Bool.{true}
-use Prim.Native.Nat.{_+_}
+use Prim.Native.Nat.{_+_, _-_, _<_}
 use native.Mathlib.Omega.{arith}
-use lib.IntN.{ℤ, pos, _+ℤ_}
-use lib.ListN.{drop}
+use borrow.Author.Needs.{needs}
+use lib.IntN.{ℤ, pos, _+ℤ_, _*ℤ_}
+use lib.ListN.{length}
 use mir.Syntax.{w32, w64}
 use mir.Val.{SFits, toZ, ofZ}
+use Rattle.integers.specs.Parts.{integers, scale-parts}
+use Rattle.integers.specs.Bits.{plain, same-bits, returned}
 use Rattle.octets.specs.Octets.{signedAt}
-use Rattle.integers.specs.Parts.{plain, same-bits, returned}
-use Rattle.dvi2.specs.Writer.{widthOf}
-use Rattle.dvi2_reading.specs.Reading.{someBelow, validIn, isDown, pageStateAfter, inPage, go}
-use Rattle.dvi2_reading.specs.Reading as R
 use Rattle.dvi.specs.FontOrNone.{fontOrNone}
-use Rattle.dvi2_state.specs.Page.{downBegins}
-use Rattle.dvi2_moves.proofs.Rights.{d-not, d-found, d-none, d-bad, d-go, zero-no, some-move, down-fits, clash}
-use borrow.Author.Needs.{needs}
+use Rattle.dvi2.specs.Writer.{parameterWidth}
+use Rattle.dvi2_reading.specs.PageReading.{isDown}
+use Rattle.dvi2_reading.specs.Reading.{heightOf, pageStateAfter, inPage, go}
+use Rattle.dvi2_reading.specs.PageReading as Page
+use Rattle.dvi2_reading.specs.PieceLaws.{thrice}
+use Rattle.dvi2_state.specs.declared.page_state.Stepped.the-variants.{Bad}
+use Rattle.dvi2_state.specs.Page.{StepsAs}
+use Rattle.dvi2_moves.proofs.CommandKinds.{no-truth}
+use Rattle.dvi2_moves.proofs.CodeSteps.{d-not, d-found, d-none, d-bad, d-go}
 use Rattle.dvi2_moves.proofs.moves.down.Statement.{statement}
 use Rattle.dvi2_moves.proofs.moves.down.Tie as tie
 
-before-down-requires : tie.Need-before-down-requires
-before-down-requires c κs = search needs
+module _ (s : tie.Start) where
+  -- the number that stands there, and the place that it leads to
+  abbrev by : ℤ
+  by = signedAt (s .args .k) (s .args .at + 1) (s .args .s .now)
 
-valid-in-requires : tie.Need-valid-in-requires
-valid-in-requires c κs = search needs
+  abbrev from : ℤ
+  from = pos 3 *ℤ s .args .h .position .height .0
 
-sub-if3 : tie.Need-sub-if3
-sub-if3 c = search needs
+  abbrev to : ℤ
+  to = from +ℤ by
 
-may-begin-down-requires : tie.Need-may-begin-down-requires
-may-begin-down-requires c κs = search needs
+  from-fits : SFits w32 from
+  from-fits = let o = s .pre .sound .on-page in omega (integers, o .top, o .bottom)
+
+  height-fits : SFits w32 (s .args .h .position .height .0)
+  height-fits = let o = s .pre .sound .on-page in omega (integers, o .top, o .bottom, scale-parts 3 (s .args .h .position .height .0))
+
+  refused : s .args .k < length (s .args .s .now) - s .args .at → (parameterWidth by ≡ s .args .k → (by ≡ pos 0 → ⊥) → isDown to ≡ true → ⊥)
+      → StepsAs (s .args .s .now) (s .args .at) (s .args .h) Bad
+  refused c f is l = d-bad (s .args .s .now) (s .args .at) (156 + s .args .k) (s .args .k) (s .args .h) (s .pre) is l refl c f
+
+-- from the number that is read back to the start, and from the sum back to that number
+abbrev start : tie.After-signed-at → tie.Start
+start c = c .before .before .before .before .before .before .before .before .before
+
+abbrev number : tie.After-sum → tie.After-signed-at
+number c = c .before .before .before .before .before .before
+
+by-is : (c : tie.After-signed-at) → toZ w32 (ofZ w32 (c .signed-at .result)) ≡ by (start c)
+by-is c = returned w32 (c .signed-at .ok) (c .signed-at .ensures)
+
+to-is : (c : tie.After-sum) → toZ w64 (ofZ w64 (c .sum .result)) ≡ to (start (number c))
+to-is c =
+    let s = start (number c) in
+    let y = ap (λ (z : ℤ). toZ w32 (ofZ w32 (pos 3 *ℤ z))) (plain (height-fits s)) ∙ plain (from-fits s) in
+    returned w64 (c .sum .ok) (c .sum .ensures ∙ (λ i. y i +ℤ by-is (number c) i))
+
+down-is : (c : tie.After-is-down) → c .is-down .result ≡ isDown (to (start (number (c .before))))
+down-is c = c .is-down .ensures ∙ ap isDown (to-is (c .before))
 
 returns : tie.Need-returns
 returns c =
-    let st = c .before .before .before .before .before .before .before .before .before .before in
-    let a = st .args in
-    let p = st .pre in
-    let fx : SFits w32 (a .h .x) = search needs in
-    let fy : SFits w32 (a .h .y) = search needs in
-    λ is l. d-found (a .s .now) (a .at) (a .k) (a .h) (p .0 .0) (p .1 .0 .0) (p .1 .0 .1) (p .1 .1) is l (p .0 .1) (sym (c .before .before .before .before .before .before .before-down .ensures) ∙ c .before .before .before .before .before .if1 .taken) (sym (c .before .before .before .before .valid-in .ensures ∙ ap (validIn (fontOrNone (a .h .font))) (plain fx)) ∙ c .before .before .before .if2 .taken) (c .before .before .if3 .taken) (sym (c .before .may-begin-down .ensures ∙ ap (λ (z : ℤ). someBelow 1000001 (downBegins (drop (a .at) (a .s .now)) z)) (plain fy)) ∙ c .if4 .taken)
+    let s = c .before .before .before .before .before .before .before .before .before .before in
+    λ is l.
+    d-found (s .args .s .now) (s .args .at) (156 + s .args .k) (s .args .k) (s .args .h) (s .pre) is l refl
+    (sym (c .before .before .before .before .before .before .before-down .ensures) ∙ c .before .before .before .before .before .if1 .taken)
+    (sym (c .before .before .before .before .valid-in .ensures) ∙ c .before .before .before .if2 .taken) (c .before .before .if3 .taken)
+    (sym (c .before .may-begin-down .ensures) ∙ c .if4 .taken)
 
 returns-2 : tie.Need-returns-2
 returns-2 c =
-    let st = c .before .before .before .before .before .before .before .before .before .before in
-    let a = st .args in
-    let p = st .pre in
-    let fx : SFits w32 (a .h .x) = search needs in
-    let fy : SFits w32 (a .h .y) = search needs in
-    λ is l. d-none (a .s .now) (a .at) (a .k) (a .h) (p .0 .0) (p .1 .0 .0) (p .1 .0 .1) (p .1 .1) is l (p .0 .1) (sym (c .before .before .before .before .before .before .before-down .ensures) ∙ c .before .before .before .before .before .if1 .taken) (sym (c .before .before .before .before .valid-in .ensures ∙ ap (validIn (fontOrNone (a .h .font))) (plain fx)) ∙ c .before .before .before .if2 .taken) (c .before .before .if3 .taken) (sym (c .before .may-begin-down .ensures ∙ ap (λ (z : ℤ). someBelow 1000001 (downBegins (drop (a .at) (a .s .now)) z)) (plain fy)) ∙ c .if4 .left)
-
-add-signed-at : tie.Need-add-signed-at
-add-signed-at c = search needs
-
-signed-at-requires : tie.Need-signed-at-requires
-signed-at-requires c κs = search needs
-
-width-of-requires : tie.Need-width-of-requires
-width-of-requires c κs = search needs
+    let s = c .before .before .before .before .before .before .before .before .before .before in
+    λ is l.
+    d-none (s .args .s .now) (s .args .at) (156 + s .args .k) (s .args .k) (s .args .h) (s .pre) is l refl
+    (sym (c .before .before .before .before .before .before .before-down .ensures) ∙ c .before .before .before .before .before .if1 .taken)
+    (sym (c .before .before .before .before .valid-in .ensures) ∙ c .before .before .before .if2 .taken) (c .before .before .if3 .taken)
+    (sym (c .before .may-begin-down .ensures) ∙ c .if4 .left)
 
 returns-3 : tie.Need-returns-3
 returns-3 c =
-    let st = c .before .before .before .before .before .before .before .before .before .before .before in
-    let a = st .args in
-    let p = st .pre in
-    let fx : SFits w32 (a .h .x) = search needs in
-    let fy : SFits w32 (a .h .y) = search needs in
-    let m : toZ w32 (ofZ w32 (c .before .before .signed-at .result)) ≡ signedAt (a .k) (a .at + 1) (a .s .now) = returned w32 (c .before .before .signed-at .ok) (c .before .before .signed-at .ensures) in
-    λ is l. d-bad (a .s .now) (a .at) (a .k) (a .h) (p .0 .0) (p .1 .0 .0) (p .1 .0 .1) (p .1 .1) is l (p .0 .1) (omega (arith, c .before .before .before .if3 .left)) (λ w n v. c .if5 .taken (c .before .width-of .ensures .0 ∙ ap widthOf m ∙ w))
+    refused (start (c .before .before)) (omega (arith, c .before .before .before .if3 .left))
+    (λ w n d. c .if5 .taken (c .before .parameter-width .ensures .0 ∙ ap parameterWidth (by-is (c .before .before)) ∙ w))
 
 returns-4 : tie.Need-returns-4
 returns-4 c =
-    let st = c .before .before .before .before .before .before .before .before .before .before .before .before in
-    let a = st .args in
-    let p = st .pre in
-    let fx : SFits w32 (a .h .x) = search needs in
-    let fy : SFits w32 (a .h .y) = search needs in
-    let m : toZ w32 (ofZ w32 (c .before .before .before .signed-at .result)) ≡ signedAt (a .k) (a .at + 1) (a .s .now) = returned w32 (c .before .before .before .signed-at .ok) (c .before .before .before .signed-at .ensures) in
-    λ is l. d-bad (a .s .now) (a .at) (a .k) (a .h) (p .0 .0) (p .1 .0 .0) (p .1 .0 .1) (p .1 .1) is l (p .0 .1) (omega (arith, c .before .before .before .before .if3 .left)) (λ w n v. zero-no _ (sym (c .before .before .before .signed-at .ensures) ∙ same-bits {w = w32} {b = pos 0} (record { sfits = c .before .before .before .signed-at .ok }) (record { sfits = omega arith }) (c .if6 .taken)) n)
+    let m = c .before .before .before in
+    refused (start m) (omega (arith, m .before .if3 .left))
+    (λ w n d.
+    n (sym (m .signed-at .ensures)
+    ∙ same-bits {w = w32} {b = pos 0} (record { sfits = m .signed-at .ok }) (record { sfits = omega arith }) (c .if6 .taken)))
 
-sum-requires : tie.Need-sum-requires
-sum-requires c κs = search needs
+mul-sum : tie.Need-mul-sum
+mul-sum c = let s = c .before .before .before .before .before .before .before .before .before .before .before .before .before .before in rw (plain (height-fits s)) (from-fits s)
 
-is-down-requires : tie.Need-is-down-requires
-is-down-requires c κs = search needs
-
-cast-t20 : tie.Need-cast-t20
-cast-t20 c =
-    let st = c .before .before .before .before .before .before .before .before .before .before .before .before .before .before .before in
-    let a = st .args in
-    let p = st .pre in
-    let fx : SFits w32 (a .h .x) = search needs in
-    let fy : SFits w32 (a .h .y) = search needs in
-    let m : toZ w32 (ofZ w32 (c .before .before .before .before .before .before .signed-at .result)) ≡ signedAt (a .k) (a .at + 1) (a .s .now) = returned w32 (c .before .before .before .before .before .before .signed-at .ok) (c .before .before .before .before .before .before .signed-at .ensures) in
-    let t : toZ w64 (ofZ w64 (c .before .before .sum .result)) ≡ a .h .y +ℤ signedAt (a .k) (a .at + 1) (a .s .now) = returned w64 (c .before .before .sum .ok) (c .before .before .sum .ensures ∙ (λ i. plain fy i +ℤ m i)) in
-    subst (SFits w32) (sym t) (down-fits (a .h .y +ℤ signedAt (a .k) (a .at + 1) (a .s .now)) (sym (c .before .is-down .ensures ∙ ap isDown t) ∙ c .if7 .taken))
+height-at-requires : tie.Need-height-at-requires
+height-at-requires c κs = rw (to-is (c .before .before)) (sym (down-is (c .before)) ∙ c .if7 .taken)
 
 returns-5 : tie.Need-returns-5
 unfolding pageStateAfter
 returns-5 c =
-    let st = c .before .before .before .before .before .before .before .before .before .before .before .before .before .before .before in
-    let a = st .args in
-    let p = st .pre in
-    let fx : SFits w32 (a .h .x) = search needs in
-    let fy : SFits w32 (a .h .y) = search needs in
-    let m : toZ w32 (ofZ w32 (c .before .before .before .before .before .before .signed-at .result)) ≡ signedAt (a .k) (a .at + 1) (a .s .now) = returned w32 (c .before .before .before .before .before .before .signed-at .ok) (c .before .before .before .before .before .before .signed-at .ensures) in
-    let t : toZ w64 (ofZ w64 (c .before .before .sum .result)) ≡ a .h .y +ℤ signedAt (a .k) (a .at + 1) (a .s .now) = returned w64 (c .before .before .sum .ok) (c .before .before .sum .ensures ∙ (λ i. plain fy i +ℤ m i)) in
-    let d : isDown (a .h .y +ℤ signedAt (a .k) (a .at + 1) (a .s .now)) ≡ true = (sym (c .before .is-down .ensures ∙ ap isDown t) ∙ c .if7 .taken) in
-    let ey = ap (λ (z : ℤ). toZ w32 (ofZ w32 z)) t ∙ plain (down-fits (a .h .y +ℤ signedAt (a .k) (a .at + 1) (a .s .now)) d) in
+    let m = number (c .before .before .before) in
+    let s = start m in
+    let n = c .before .before .before .before .before .before .before in
+    let w = n .before in
+    let d = sym (down-is (c .before .before)) ∙ c .before .if7 .taken in
+    let y = ap (λ (z : ℤ). pos 3 *ℤ z) (c .height-at .ensures ∙ ap heightOf (to-is (c .before .before .before))) ∙ thrice (to s) d in
     λ is l.
-    (λ i. go (inPage (record { items = is; stage = R.lowered; position = record { font = fontOrNone (a .h .font); x = plain fx i; y = ey i } })) (a .k))
-    ∙ sym (d-go (a .s .now) (a .at) (a .k) (a .h) (p .0 .0) (p .1 .0 .0) (p .1 .0 .1) (p .1 .1) is l (p .0 .1) (sym (c .before .before .before .before .before .before .before .before .before .before .before .before-down .ensures) ∙ c .before .before .before .before .before .before .before .before .before .before .if1 .taken) (sym (c .before .before .before .before .before .before .before .before .before .valid-in .ensures ∙ ap (validIn (fontOrNone (a .h .font))) (plain fx)) ∙ c .before .before .before .before .before .before .before .before .if2 .taken) (omega (arith, c .before .before .before .before .before .before .before .if3 .left)) (λ i. c .before .before .before .before .before .before .before .before .before .before .before .before .before .before .shared-slice-known .given i .fits)
-    (ap widthOf (sym m) ∙ sym (c .before .before .before .before .before .width-of .ensures .0) ∙ c .before .before .before .before .if5 .left)
-    (some-move _ (λ e. c .before .before .before .if6 .left (ap (ofZ w32) (c .before .before .before .before .before .before .signed-at .ensures ∙ e)))) d)
+    (λ i. go (inPage (record { items = is; stage = Page.lowered; position = record { font = fontOrNone (s .args .h .position .font); x = s .args .h .position .x .0; y = y i } })) (s .args .k))
+    ∙ sym (d-go (s .args .s .now) (s .args .at) (156 + s .args .k) (s .args .k) (s .args .h) (s .pre) is l refl
+    (sym (m .before .before .before .before .before .before-down .ensures) ∙ m .before .before .before .before .if1 .taken)
+    (sym (m .before .before .before .valid-in .ensures) ∙ m .before .before .if2 .taken)
+    (omega (arith, m .before .if3 .left)) (λ i. m .before .before .before .before .before .before .before .before .shared-slice-known .given i .fits)
+    (ap parameterWidth (sym (by-is m)) ∙ sym (w .parameter-width .ensures .0) ∙ n .if5 .left)
+    (λ e. c .before .before .before .before .before .before .if6 .left (ap (ofZ w32) (m .signed-at .ensures ∙ e))) d)
 
 returns-6 : tie.Need-returns-6
 returns-6 c =
-    let st = c .before .before .before .before .before .before .before .before .before .before .before .before .before .before .before in
-    let a = st .args in
-    let p = st .pre in
-    let fx : SFits w32 (a .h .x) = search needs in
-    let fy : SFits w32 (a .h .y) = search needs in
-    let m : toZ w32 (ofZ w32 (c .before .before .before .before .before .before .signed-at .result)) ≡ signedAt (a .k) (a .at + 1) (a .s .now) = returned w32 (c .before .before .before .before .before .before .signed-at .ok) (c .before .before .before .before .before .before .signed-at .ensures) in
-    let t : toZ w64 (ofZ w64 (c .before .before .sum .result)) ≡ a .h .y +ℤ signedAt (a .k) (a .at + 1) (a .s .now) = returned w64 (c .before .before .sum .ok) (c .before .before .sum .ensures ∙ (λ i. plain fy i +ℤ m i)) in
-    λ is l. d-bad (a .s .now) (a .at) (a .k) (a .h) (p .0 .0) (p .1 .0 .0) (p .1 .0 .1) (p .1 .1) is l (p .0 .1) (omega (arith, c .before .before .before .before .before .before .before .if3 .left)) (λ w n v. clash _ v (sym (c .before .is-down .ensures ∙ ap isDown t) ∙ c .if7 .left))
+    let m = number (c .before .before) in
+    refused (start m) (omega (arith, m .before .if3 .left))
+    (λ w n d. no-truth _ d (sym (down-is (c .before)) ∙ c .if7 .left))
 
 returns-7 : tie.Need-returns-7
 returns-7 c =
-    let st = c .before .before .before .before .before .before .before in
-    let a = st .args in
-    let p = st .pre in
-    let fx : SFits w32 (a .h .x) = search needs in
-    let fy : SFits w32 (a .h .y) = search needs in
-    λ is l. d-not (a .s .now) (a .at) (a .k) (a .h) (p .0 .0) (p .1 .0 .0) (p .1 .0 .1) (p .1 .1) is l (p .0 .1) (λ e v. clash _ v (sym (c .before .valid-in .ensures ∙ ap (validIn (fontOrNone (a .h .font))) (plain fx)) ∙ c .if2 .left))
+    let s = c .before .before .before .before .before .before .before in
+    λ is l. d-not (s .args .s .now) (s .args .at) (156 + s .args .k) (s .args .k) (s .args .h) (s .pre) is l refl (λ e v. no-truth _ v (sym (c .before .valid-in .ensures) ∙ c .if2 .left))
 
 returns-8 : tie.Need-returns-8
 returns-8 c =
-    let st = c .before .before .before .before .before in
-    let a = st .args in
-    let p = st .pre in
-    let fx : SFits w32 (a .h .x) = search needs in
-    let fy : SFits w32 (a .h .y) = search needs in
-    λ is l. d-not (a .s .now) (a .at) (a .k) (a .h) (p .0 .0) (p .1 .0 .0) (p .1 .0 .1) (p .1 .1) is l (p .0 .1) (λ e v. clash _ e (sym (c .before .before-down .ensures) ∙ c .if1 .left))
+    let s = c .before .before .before .before .before in
+    λ is l. d-not (s .args .s .now) (s .args .at) (156 + s .args .k) (s .args .k) (s .args .h) (s .pre) is l refl (λ e v. no-truth _ e (sym (c .before .before-down .ensures) ∙ c .if1 .left))
 
 pub down-spec : {M : Type 1} → statement M
 down-spec =
     tie.close
-    (tie.spec
-    before-down-requires
-    valid-in-requires
-    sub-if3
-    may-begin-down-requires
-    returns
-    returns-2
-    add-signed-at
-    signed-at-requires
-    width-of-requires
-    returns-3
-    returns-4
-    sum-requires
-    is-down-requires
-    cast-t20
-    returns-5
-    returns-6
-    returns-7
-    returns-8)
+    (tie.spec (λ c κs. search needs) (λ c κs. search needs) (λ c. search needs) (λ c κs. search needs) returns returns-2 (λ c. search needs)
+    (λ c κs. search needs) (λ c κs. search needs) returns-3 returns-4 mul-sum (λ c κs. search needs) (λ c κs. search needs) height-at-requires
+    returns-5 returns-6 returns-7 returns-8)

@@ -1,8 +1,9 @@
 -- `dvi2_moves::moves::is_down` meets its contract.
 -- Assumes nothing.
 use native.Mathlib.Omega.{arith}
-use Rattle.integers.specs.Parts.{integers, plain, nonNeg-by}
-use Rattle.dvi2_moves.proofs.Rights.{not-down, too-low, down-is, small-abs}
+use Rattle.integers.specs.Parts.{integers, nonNeg-by}
+use Rattle.integers.specs.Bits.{plain}
+use Rattle.dvi2_moves.proofs.CodeSteps.{not-down, too-low, down-is, small-abs}
 use Rattle.dvi2_moves.proofs.moves.is_down.Statement.{statement}
 use Rattle.dvi2_moves.proofs.moves.is_down.Tie as tie
 

@@ -5,31 +5,19 @@ use Prim.Native.Nat.{ℕ}
 use mir.Syntax.{w32}
 use Rattle.dvi2_state.proofs.Bytes.{four-left}
 use Rattle.octets.specs.Octets.{signedAt}
-use Rattle.integers.specs.Parts.{returned}
+use Rattle.integers.specs.Bits.{returned}
 use borrow.Author.Needs.{needs}
 use Rattle.dvi2_moves.proofs.moves.signed_at.Statement.{statement}
 use Rattle.dvi2_moves.proofs.moves.signed_at.Tie as tie
 
-signed1-at-requires : tie.Need-signed1-at-requires
-signed1-at-requires c κs = search needs
-
 returns : tie.Need-returns
 returns c = let a = c .before .before .before .args in returned w32 (c .signed1-at .ok) (c .signed1-at .ensures ∙ ap (λ (k : ℕ). signedAt k (a .at) (a .s .now)) (sym (c .before .if1 .taken)))
-
-signed2-at-requires : tie.Need-signed2-at-requires
-signed2-at-requires c κs = search needs
 
 returns-2 : tie.Need-returns-2
 returns-2 c = let a = c .before .before .before .before .args in returned w32 (c .signed2-at .ok) (c .signed2-at .ensures ∙ ap (λ (k : ℕ). signedAt k (a .at) (a .s .now)) (sym (c .before .if2 .taken)))
 
-signed3-at-requires : tie.Need-signed3-at-requires
-signed3-at-requires c κs = search needs
-
 returns-3 : tie.Need-returns-3
 returns-3 c = let a = c .before .before .before .before .before .args in returned w32 (c .signed3-at .ok) (c .signed3-at .ensures ∙ ap (λ (k : ℕ). signedAt k (a .at) (a .s .now)) (sym (c .before .if3 .taken)))
-
-signed4-at-requires : tie.Need-signed4-at-requires
-signed4-at-requires c κs = search needs
 
 returns-4 : tie.Need-returns-4
 returns-4 c =
@@ -43,12 +31,4 @@ returns-4 c =
 pub signed-at-spec : {M : Type 1} → statement M
 signed-at-spec =
     tie.close
-    (tie.spec
-    signed1-at-requires
-    returns
-    signed2-at-requires
-    returns-2
-    signed3-at-requires
-    returns-3
-    signed4-at-requires
-    returns-4)
+    (tie.spec (λ c κs. search needs) returns (λ c κs. search needs) returns-2 (λ c κs. search needs) returns-3 (λ c κs. search needs) returns-4)

@@ -1,6 +1,6 @@
 -- `dvi2_moves::moves::sum` meets its contract: the sum is exact in 64 bits.
 -- Assumes nothing.
-use Rattle.integers.specs.Parts.{plain, wide, widened, sum-fits, widened-sum}
+use Rattle.integers.specs.Bits.{plain, wide, widened, sum-fits, widened-sum}
 use Rattle.dvi2_moves.proofs.moves.sum.Statement.{statement}
 use Rattle.dvi2_moves.proofs.moves.sum.Tie as tie
 

@@ -3,10 +3,11 @@
 use mathlib.Core.Path.{ap, _∙_}
 use mir.Syntax.{w32}
 use mir.Val.{SFits}
-use Rattle.dvi2_reading.specs.Reading.{validIn}
+use Rattle.dvi2_reading.specs.PageReading.{validIn}
 use Rattle.dvi.specs.FontOrNone.{fontOrNone}
-use Rattle.integers.specs.Parts.{integers, plain}
-use Rattle.dvi2_moves.proofs.Rights.{out-left, out-right}
+use Rattle.integers.specs.Parts.{integers}
+use Rattle.integers.specs.Bits.{plain}
+use Rattle.dvi2_moves.proofs.CodeSteps.{out-left, out-right}
 use borrow.Author.Needs.{needs}
 use Rattle.dvi2_moves.proofs.moves.valid_at.Statement.{statement}
 use Rattle.dvi2_moves.proofs.moves.valid_at.Tie as tie
@@ -24,14 +25,11 @@ returns c = let f = c .before .fits in out-left (fontOrNone (c .before .args .f)
 returns-2 : tie.Need-returns-2
 returns-2 c = let f = c .before .before .fits in out-right (fontOrNone (c .before .before .args .f)) (c .before .before .args .t) (rw (plain (f .t)) at (c .if2 .taken))
 
-cast-valid-in : tie.Need-cast-valid-in
-cast-valid-in c = rw (plain (c .before .before .fits .t)) (narrow c)
-
-valid-in-requires : tie.Need-valid-in-requires
-valid-in-requires c κs = search needs
+cast-t4 : tie.Need-cast-t4
+cast-t4 c = rw (plain (c .before .before .fits .t)) (narrow c)
 
 returns-3 : tie.Need-returns-3
 returns-3 c = let f = c .before .before .before .fits in c .valid-in .ensures ∙ ap (validIn (fontOrNone (c .before .before .before .args .f))) (rw (plain (f .t)) (plain (narrow (c .before))))
 
 pub valid-at-spec : {M : Type 1} → statement M
-valid-at-spec = tie.close (tie.spec returns returns-2 cast-valid-in valid-in-requires returns-3)
+valid-at-spec = tie.close (tie.spec returns returns-2 cast-t4 (λ c κs. search needs) returns-3)

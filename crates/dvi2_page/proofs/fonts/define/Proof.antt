@@ -6,15 +6,6 @@ use Rattle.dvi2_page.proofs.Defines.{d-not-ready, d-short, d-none}
 use Rattle.dvi2_page.proofs.fonts.define.Statement.{statement}
 use Rattle.dvi2_page.proofs.fonts.define.Tie as tie
 
-is-ready-requires : tie.Need-is-ready-requires
-is-ready-requires c κs = search needs
-
-sub-if2 : tie.Need-sub-if2
-sub-if2 c = search needs
-
-some-free-requires : tie.Need-some-free-requires
-some-free-requires c κs = search needs
-
 returns : tie.Need-returns
 returns c =
     let st = c .before .before .before .before .before .before in
@@ -29,18 +20,6 @@ returns-2 c =
     let p = st .pre in
     λ is l k. d-none (a .s .now) (a .at) (a .h) is l (a .used .low) (a .used .high) k (p .1) (sym (c .before .before .before .before .is-ready .ensures) ∙ c .before .before .before .if1 .taken) (c .before .before .if2 .taken) (sym (c .before .some-free .ensures is k) ∙ c .if3 .left)
 
-add-f : tie.Need-add-f
-add-f c = search needs
-
-shared-slice-read-f : tie.Need-shared-slice-read-f
-shared-slice-read-f c = search needs
-
-define-font-requires : tie.Need-define-font-requires
-define-font-requires c κs = search needs
-
-returns-3 : tie.Need-returns-3
-returns-3 c = search needs
-
 returns-4 : tie.Need-returns-4
 returns-4 c =
     let st = c .before .before .before in
@@ -51,14 +30,5 @@ returns-4 c =
 pub define-spec : {M : Type 1} → statement M
 define-spec =
     tie.close
-    (tie.spec
-    is-ready-requires
-    sub-if2
-    some-free-requires
-    returns
-    returns-2
-    add-f
-    shared-slice-read-f
-    define-font-requires
-    returns-3
-    returns-4)
+    (tie.spec (λ c κs. search needs) (λ c. search needs) (λ c κs. search needs) returns returns-2 (λ c. search needs) (λ c. search needs)
+    (λ c κs. search needs) (λ c. search needs) returns-4)

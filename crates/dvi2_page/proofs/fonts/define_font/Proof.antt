@@ -5,8 +5,9 @@ use native.Mathlib.Omega.{arith}
 use borrow.Author.Needs.{needs}
 use lib.ListN.{drop}
 use Rattle.dvi2.specs.Writer.{definition}
+use Rattle.dvi2_commands.specs.Position.{positionOf}
 use Rattle.dvi2_reading.specs.Reading.{pageStateAfter, withFont, inPage, go}
-use Rattle.dvi2_reading.specs.Reading as R
+use Rattle.dvi2_reading.specs.PageReading as Page
 use Rattle.dvi2_state.specs.declared.page_state.PageState.{PageState}
 use Rattle.dvi2_state.specs.Page.{pageStateOf}
 use Rattle.dvi.specs.FontOrNone.{font-some}
@@ -23,36 +24,12 @@ returns c =
     let p = st .pre in
     λ is l k. d-big (a .s .now) (a .at) (a .h) is l (a .used .low) (a .used .high) k (p .0 .1 .0) (p .1) (p .0 .0) (a .f) (p .0 .1 .1) (c .if1 .taken)
 
-has-font-requires : tie.Need-has-font-requires
-has-font-requires c κs = search needs
-
 returns-2 : tie.Need-returns-2
 returns-2 c =
     let st = c .before .before .before .before in
     let a = st .args in
     let p = st .pre in
     λ is l k. d-used (a .s .now) (a .at) (a .h) is l (a .used .low) (a .used .high) k (p .0 .1 .0) (p .1) (p .0 .0) (a .f) (p .0 .1 .1) (omega (arith, c .before .before .if1 .left)) (sym (c .before .has-font .ensures) ∙ c .if2 .taken)
-
-definition-requires : tie.Need-definition-requires
-definition-requires c κs = search needs
-
-slice-aggregate-compare : tie.Need-slice-aggregate-compare
-slice-aggregate-compare c = search needs
-
-compare-requires : tie.Need-compare-requires
-compare-requires c κs = search needs
-
-enum-told : tie.Need-enum-told
-enum-told c = search needs
-
-with-font-requires : tie.Need-with-font-requires
-with-font-requires c κs = search needs
-
-enum-told-2 : tie.Need-enum-told-2
-enum-told-2 c = search needs
-
-enum-told-3 : tie.Need-enum-told-3
-enum-told-3 c = search needs
 
 returns-3 : tie.Need-returns-3
 unfolding pageStateAfter withFont
@@ -64,7 +41,7 @@ returns-3 c =
     ap (compared (drop (a .at) (a .s .now))) (sym (c .before .before .before .before .before .definition .ensures)) ∙ sym (c .before .before .before .compare .ensures) ∙ c .before .enum-told .given .1 in
     λ is l k.
     ap (λ (g : PageState). go (inPage (pageStateOf is g)) 19) (c .with-font .ensures)
-    ∙ (λ i. go (inPage (record { items = is; stage = R.named; position = record { font = font-some (a .f) (λ e. omega (arith, c .before .before .before .before .before .before .before .before .if1 .left)) i; x = a .h .x; y = a .h .y } })) 19)
+    ∙ (λ i. go (inPage (record { items = is; stage = Page.named; position = record { font = font-some (a .f) (λ e. omega (arith, c .before .before .before .before .before .before .before .before .if1 .left)) i; x = a .h .position .x .0; y = positionOf (a .h .position) .y } })) 19)
     ∙ d-go (a .s .now) (a .at) (a .h) is l (a .used .low) (a .used .high) k (p .0 .1 .0) (p .1) (p .0 .0) (a .f) (p .0 .1 .1) (omega (arith, c .before .before .before .before .before .before .before .before .if1 .left)) (sym (c .before .before .before .before .before .before .before .has-font .ensures) ∙ c .before .before .before .before .before .before .if2 .left) q
 
 returns-4 : tie.Need-returns-4
@@ -88,17 +65,5 @@ returns-5 c =
 pub define-font-spec : {M : Type 1} → statement M
 define-font-spec =
     tie.close
-    (tie.spec
-    returns
-    has-font-requires
-    returns-2
-    definition-requires
-    slice-aggregate-compare
-    compare-requires
-    enum-told
-    with-font-requires
-    enum-told-2
-    enum-told-3
-    returns-3
-    returns-4
-    returns-5)
+    (tie.spec returns (λ c κs. search needs) returns-2 (λ c κs. search needs) (λ c. search needs) (λ c κs. search needs) (λ c. search needs)
+    (λ c κs. search needs) (λ c. search needs) (λ c. search needs) returns-3 returns-4 returns-5)

@@ -6,14 +6,8 @@ use Rattle.dvi2.specs.WriterLaws.{length-definition}
 use Rattle.dvi2_page.proofs.fonts.definition.Statement.{statement}
 use Rattle.dvi2_page.proofs.fonts.definition.Tie as tie
 
-slice-aggregate-put-definition : tie.Need-slice-aggregate-put-definition
-slice-aggregate-put-definition c = search needs
-
-put-definition-requires : tie.Need-put-definition-requires
-put-definition-requires c κs = search needs
-
 returns : tie.Need-returns
 returns c = putIfRoom-whole (c .before .put-definition .ensures) (length-definition _)
 
 pub definition-spec : {M : Type 1} → statement M
-definition-spec = tie.close (tie.spec slice-aggregate-put-definition put-definition-requires returns)
+definition-spec = tie.close (tie.spec (λ c. search needs) (λ c κs. search needs) returns)

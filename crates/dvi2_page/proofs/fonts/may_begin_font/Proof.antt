@@ -7,7 +7,7 @@ use Prim.Native.Nat.{ℕ, _-_, _≤_}
 use native.Mathlib.Omega.{arith}
 use Rattle.galley_file.specs.declared.item.Item.{Item}
 use Rattle.galley_file.specs.Item.{charactersOf}
-use Rattle.dvi2_reading.specs.Reading.{someBelow}
+use Rattle.dvi2_reading.specs.PageReading.{someBelow}
 use Rattle.dvi2_reading.specs.BytesLaws.{found-some}
 use Rattle.dvi.specs.FontOrNone.{fontOrNone}
 use Rattle.dvi2_state.specs.Page.{stageOf}

@@ -3,7 +3,7 @@
 use mathlib.Core.Path.{refl, sym, ap, _∙_}
 use native.Mathlib.Omega.{arith}
 use Rattle.galley_file.specs.Item.{charactersOf}
-use Rattle.dvi2_reading.specs.Reading.{mayChoose}
+use Rattle.dvi2_reading.specs.PageReading.{mayChoose}
 use Rattle.dvi2_state.specs.declared.page_state.Stage.{Stage}
 use Rattle.dvi.specs.FontOrNone.{fontOrNone}
 use Rattle.dvi2_state.specs.Page.{stageOf}
@@ -18,29 +18,11 @@ returns c =
     λ is k.
     choose-big (a .last) (a .f) (a .used .low) (a .used .high) is k (stageOf (a .stage)) (c .if1 .taken) (c .before .pre)
 
-enum-told : tie.Need-enum-told
-enum-told c = search needs
-
 returns-2 : tie.Need-returns-2
 returns-2 c =
     let a = c .before .before .before .before .args in
     λ is k.
     choose-same (a .last) (a .f) (a .used .low) (a .used .high) is k (omega (arith, c .before .before .before .if1 .left)) (c .if2 .taken) ∙ ap (λ (s : Stage). mayChoose (stageOf s) (charactersOf is) (fontOrNone (a .last)) (a .f)) (sym (c .before .enum-told .given .1))
-
-has-font-requires : tie.Need-has-font-requires
-has-font-requires c κs = search needs
-
-enum-told-2 : tie.Need-enum-told-2
-enum-told-2 c = search needs
-
-enum-told-3 : tie.Need-enum-told-3
-enum-told-3 c = search needs
-
-enum-told-4 : tie.Need-enum-told-4
-enum-told-4 c = search needs
-
-enum-told-5 : tie.Need-enum-told-5
-enum-told-5 c = search needs
 
 returns-3 : tie.Need-returns-3
 returns-3 c =
@@ -75,17 +57,5 @@ returns-7 c =
 pub may-choose-spec : {M : Type 1} → statement M
 may-choose-spec =
     tie.close
-    (tie.spec
-    returns
-    enum-told
-    returns-2
-    has-font-requires
-    enum-told-2
-    enum-told-3
-    enum-told-4
-    enum-told-5
-    returns-3
-    returns-4
-    returns-5
-    returns-6
-    returns-7)
+    (tie.spec returns (λ c. search needs) returns-2 (λ c κs. search needs) (λ c. search needs) (λ c. search needs) (λ c. search needs)
+    (λ c. search needs) returns-3 returns-4 returns-5 returns-6 returns-7)

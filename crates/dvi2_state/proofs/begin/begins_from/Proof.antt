@@ -4,7 +4,7 @@ use mathlib.Core.Path.{_≡_, refl, sym, _∙_}
 use Prim.Native.Nat.{suc, _+_, _-_, _≤_}
 use native.Mathlib.Omega.{arith}
 use lib.ListN.{length, drop}
-use Rattle.dvi2_reading.specs.Reading.{begins}
+use Rattle.dvi2_reading.specs.PageReading.{begins}
 use Rattle.dvi2_state.proofs.Bytes.{begins-past, begins-other, begins-more, begins-out}
 use Rattle.dvi2_state.proofs.begin.begins_from.Statement.{statement}
 use Rattle.dvi2_state.proofs.begin.begins_from.Tie as tie

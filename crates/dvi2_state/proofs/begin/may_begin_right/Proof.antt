@@ -1,49 +1,62 @@
--- `dvi2_state::begin::may_begin_right` meets its contract: no place before that of k is one. The measure is what is left of them.
+-- `dvi2_state::begin::may_begin_right` meets its contract: no place below k is one. The measure is what is left of them.
 -- Assumes nothing.
-use mathlib.Core.Path.{_≡_, sym, ap, _∙_}
-use Prim.Native.Nat.{ℕ, _-_, _≤_}
+use mathlib.Core.Path.{_≡_, sym, ap, subst, _∙_}
+use mathlib.Core.Bool.{Bool, false}
+use Prim.Native.Nat.{ℕ, _-_, _≤_, _<_}
 use native.Mathlib.Omega.{arith}
-use mathlib.Core.Bool.{false}
 use lib.IntN.{ℤ, pos, _-ℤ_}
 use lib.ListN.{drop}
 use mir.Syntax.{w32}
 use mir.Val.{toZ, ofZ}
-use Rattle.integers.specs.Parts.{plain}
-use Rattle.dvi2_reading.specs.Reading.{someBelow}
+use Rattle.integers.specs.Bits.{plain, plain-pos}
+use Rattle.measure.specs.Target.{entryX}
+use Rattle.dvi2_commands.specs.Position.{positionOf}
+use Rattle.dvi2_reading.specs.PageReading.{someBelow}
+use Rattle.dvi2_reading.specs.Reading.{places}
 use Rattle.dvi2_reading.specs.BytesLaws.{found-some}
-use Rattle.dvi.specs.FontOrNone.{fontOrNone}
 use Rattle.dvi2_state.specs.Page.{rightBegins}
-use Rattle.dvi2_state.proofs.Searches.{some-next, some-none, right-begins-is, count-fits, place-mag, place-fits, place-plain}
+use Rattle.dvi2_state.proofs.Searches.{some-next, some-none, count-fits, place-between, place-fits}
 use Rattle.dvi2_state.proofs.begin.may_begin_right.Statement.{statement}
 use Rattle.dvi2_state.proofs.begin.may_begin_right.Tie as tie
 
 abbrev Inv-loop : tie.InvT-loop
-Inv-loop s at f x k₀ k = (k ≤ 3295) × (someBelow k (rightBegins (drop at s) (fontOrNone f) (toZ w32 x)) ≡ false)
+Inv-loop s at p k₀ k = (k ≤ places) × (someBelow k (λ n. rightBegins (drop at s) (positionOf p) (entryX n)) ≡ false)
 
 abbrev μ-loop : tie.MeasureT-loop
-μ-loop s at f x k₀ k = 3295 - k
+μ-loop s at p k₀ k = places - k
 
 loop-holds : tie.Need-loop-holds Inv-loop μ-loop
 loop-holds c = (omega arith, some-none _)
 
-cast-right-begins : tie.Need-cast-right-begins Inv-loop μ-loop
-cast-right-begins c = count-fits _ (omega arith)
+cast-t7 : tie.Need-cast-t7 Inv-loop μ-loop
+cast-t7 c = count-fits _ (omega arith)
 
-sub-right-begins : tie.Need-sub-right-begins Inv-loop μ-loop
-sub-right-begins c = place-fits (c .before .loop .k) (omega arith)
+sub-t9 : tie.Need-sub-t9 Inv-loop μ-loop
+sub-t9 c =
+    let k = c .before .before .before .loop .k in
+    let l : k < places = omega arith in
+    rw (plain-pos (count-fits k (omega arith))) (place-fits k l)
 
 right-begins-requires : tie.Need-right-begins-requires Inv-loop μ-loop
 right-begins-requires c κs =
-    let p = c .before .before .before .pre in
-    let k = c .before .loop .k in
-    (omega arith, (rw (plain (c .before .before .before .fits .x)) (p .1), rw (place-plain k (omega arith)) (place-mag k (omega arith))))
+    let k = c .before .before .before .loop .k in
+    let l : k < places = omega arith in
+    (omega arith, (c .before .before .before .before .before .pre .1, rw (plain-pos (count-fits k (omega arith)), plain (place-fits k l)) (place-between k l)))
+
+module _ (s : tie.Start Inv-loop μ-loop) where
+  -- whether a move to the place so counted begins
+  abbrev begins-at : ℕ → Bool
+  begins-at n = rightBegins (drop (s .args .at) (s .args .s .now)) (positionOf (s .args .p)) (entryX n)
+
+begins-is : (c : tie.After-right-begins Inv-loop μ-loop) → c .right-begins .result ≡ begins-at (c .before .before .before .before .before .before) (c .before .before .before .before .loop .k)
+begins-is c =
+    let k = c .before .before .before .before .loop .k in
+    let e = ap (λ (z : ℤ). toZ w32 (ofZ w32 (z -ℤ pos 55))) (plain-pos (count-fits k (omega arith))) ∙ plain (place-fits k (omega arith)) in
+    let s = c .before .before .before .before .before .before .args in
+    c .right-begins .ensures ∙ ap (rightBegins (drop (s .at) (s .s .now)) (positionOf (s .p))) e
 
 returns : tie.Need-returns Inv-loop μ-loop
-returns c =
-    let a = c .before .before .before .before .before .args in
-    let k = c .before .before .before .loop .k in
-    let e : c .before .right-begins .result ≡ rightBegins (drop (a .at) (a .s .now)) (fontOrNone (a .f)) (toZ w32 (ofZ w32 (a .x))) k = c .before .right-begins .ensures ∙ right-begins-is (drop (a .at) (a .s .now)) (fontOrNone (a .f)) (toZ w32 (ofZ w32 (a .x))) (toZ w32 (ofZ w32 (toZ w32 k -ℤ pos 55))) k (place-plain k (omega arith)) in
-    sym (ap (λ (z : ℤ). someBelow 3295 (rightBegins (drop (a .at) (a .s .now)) (fontOrNone (a .f)) z)) (sym (plain (c .before .before .before .before .before .fits .x))) ∙ found-some 3295 (rightBegins (drop (a .at) (a .s .now)) (fontOrNone (a .f)) (toZ w32 (ofZ w32 (a .x)))) k (omega arith) (sym e ∙ c .if1 .taken))
+returns c = sym (found-some places (begins-at (c .before .before .before .before .before .before .before)) (c .before .before .before .before .before .loop .k) (omega arith) (sym (begins-is (c .before)) ∙ c .if1 .taken))
 
 add-k : tie.Need-add-k Inv-loop μ-loop
 add-k c = omega arith
@@ -52,31 +65,13 @@ loop-less : tie.Need-loop-less Inv-loop μ-loop
 loop-less c = omega arith
 
 loop-again : tie.Need-loop-again Inv-loop μ-loop
-loop-again c =
-    let a = c .before .before .before .before .before .args in
-    let k = c .before .before .before .loop .k in
-    let e : c .before .right-begins .result ≡ rightBegins (drop (a .at) (a .s .now)) (fontOrNone (a .f)) (toZ w32 (ofZ w32 (a .x))) k = c .before .right-begins .ensures ∙ right-begins-is (drop (a .at) (a .s .now)) (fontOrNone (a .f)) (toZ w32 (ofZ w32 (a .x))) (toZ w32 (ofZ w32 (toZ w32 k -ℤ pos 55))) k (place-plain k (omega arith)) in
-    (omega arith, some-next k (rightBegins (drop (a .at) (a .s .now)) (fontOrNone (a .f)) (toZ w32 (ofZ w32 (a .x)))) (c .before .before .before .loop .inv .1) (sym e ∙ c .if1 .left))
+loop-again c = (omega arith, some-next _ (begins-at (c .before .before .before .before .before .before .before)) (c .before .before .before .before .before .loop .inv .1) (sym (begins-is (c .before)) ∙ c .if1 .left))
 
 returns-2 : tie.Need-returns-2 Inv-loop μ-loop
 returns-2 c =
-    let a = c .before .before .before .args in
-    let k = c .before .loop .k in
-    let n : k ≡ 3295 = omega arith in
-    sym (ap (λ (z : ℤ). someBelow 3295 (rightBegins (drop (a .at) (a .s .now)) (fontOrNone (a .f)) z)) (sym (plain (c .before .before .before .fits .x))) ∙ ap (λ (j : ℕ). someBelow j (rightBegins (drop (a .at) (a .s .now)) (fontOrNone (a .f)) (toZ w32 (ofZ w32 (a .x))))) (sym n) ∙ c .before .loop .inv .1)
+    let n : c .before .loop .k ≡ places = omega arith in
+    sym (subst (λ (j : ℕ). someBelow j (begins-at (c .before .before .before)) ≡ false) n (c .before .loop .inv .1))
 
 pub may-begin-right-spec : {M : Type 1} → statement M
 may-begin-right-spec =
-    tie.close
-    (tie.spec
-    Inv-loop
-    μ-loop
-    loop-holds
-    cast-right-begins
-    sub-right-begins
-    right-begins-requires
-    returns
-    add-k
-    loop-less
-    loop-again
-    returns-2)
+    tie.close (tie.spec Inv-loop μ-loop loop-holds cast-t7 sub-t9 right-begins-requires returns add-k loop-less loop-again returns-2)

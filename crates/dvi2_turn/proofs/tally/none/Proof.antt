@@ -6,15 +6,8 @@ use Rattle.dvi2_turn.proofs.Tallies.{tally-none}
 use Rattle.dvi2_turn.proofs.tally.none.Statement.{statement}
 use Rattle.dvi2_turn.proofs.tally.none.Tie as tie
 
-none-requires : tie.Need-none-requires
-none-requires c κs = search needs
-
 returns : tie.Need-returns
 returns c = tally-none _ refl refl (c .none .ensures) refl
 
 pub none-spec : {M : Type 1} → statement M
-none-spec =
-    tie.close
-    (tie.spec
-    none-requires
-    returns)
+none-spec = tie.close (tie.spec (λ c κs. search needs) returns)

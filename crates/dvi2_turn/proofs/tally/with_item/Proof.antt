@@ -10,14 +10,8 @@ use Rattle.dvi2_turn.proofs.tally.with_item.Tie as tie
 with-item-requires : tie.Need-with-item-requires
 with-item-requires c κs = c .pre .1 .1
 
-enum-told : tie.Need-enum-told
-enum-told c = search needs
-
 add-t6 : tie.Need-add-t6
 add-t6 c = omega (arith, c .before .before .before .before .pre .0 .0)
-
-enum-told-2 : tie.Need-enum-told-2
-enum-told-2 c = search needs
 
 add-t7 : tie.Need-add-t7
 add-t7 c = omega (arith, c .before .before .before .before .pre .0 .1)
@@ -32,14 +26,4 @@ returns-2 : tie.Need-returns-2
 returns-2 c = λ is k p. tally-ended _ _ is k _ (c .before .before .before .with-item .ensures) _ (c .before .enum-told2 .given .1) refl refl refl p
 
 pub with-item-spec : {M : Type 1} → statement M
-with-item-spec =
-    tie.close
-    (tie.spec
-    with-item-requires
-    enum-told
-    add-t6
-    enum-told-2
-    add-t7
-    sub-t8
-    returns
-    returns-2)
+with-item-spec = tie.close (tie.spec with-item-requires (λ c. search needs) add-t6 (λ c. search needs) add-t7 sub-t8 returns returns-2)

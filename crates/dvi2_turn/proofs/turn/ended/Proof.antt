@@ -8,7 +8,7 @@ use Rattle.galley_file.specs.declared.item.Item.the-variants.{Cut}
 use Rattle.dvi2_reading.specs.Reading.{inPage, between, newPageState, atEnd}
 use Rattle.dvi2_reading.specs.StandingLaws.{standing-refuse, standing-end, full-refuse}
 use Rattle.dvi2_close.specs.Reading.{Ended}
-use Rattle.dvi2_close.proofs.Expected.{led-to, led-fault}
+use Rattle.dvi2_close.proofs.Expected.{readsTo-standing, readsTo-fault}
 use Rattle.dvi2_turn.proofs.Tallies.{count-is}
 use Rattle.dvi2_turn.proofs.Turns.{cut-turned}
 use Rattle.dvi2_turn.proofs.turn.ended.Statement.{statement}
@@ -18,17 +18,8 @@ returns : tie.Need-returns
 unfolding atEnd
 returns c = λ is k j. standing-end _ (between is) _ j (c .if1 .taken)
 
-shared-slice-read-if2 : tie.Need-shared-slice-read-if2
-shared-slice-read-if2 c = search needs
-
 to-post-requires : tie.Need-to-post-requires
 to-post-requires c κs = ((omega (arith, c .before .before .if1 .left), c .if2 .taken), c .before .before .before .before .pre)
-
-enum-told : tie.Need-enum-told
-enum-told c = search needs
-
-enum-known-r : tie.Need-enum-known-r
-enum-known-r c = search needs
 
 returns-2 : tie.Need-returns-2
 returns-2 c = λ is k j. subst (Ended _ is) (c .enum-told .given .1) (c .before .before .to-post .ensures is k j)
@@ -51,15 +42,6 @@ returns-4 c =
 to-page-requires : tie.Need-to-page-requires
 to-page-requires c κs = ((omega (arith, c .before .before .before .before .if1 .left), c .before .before .if2 .left), c .before .before .before .before .before .before .pre .1)
 
-enum-known-r-2 : tie.Need-enum-known-r-2
-enum-known-r-2 c = search needs
-
-new-page-requires : tie.Need-new-page-requires
-new-page-requires c κs = search needs
-
-enum-known-r-3 : tie.Need-enum-known-r-3
-enum-known-r-3 c = search needs
-
 returns-5 : tie.Need-returns-5
 returns-5 c =
     let st = c .before .before .before .before .before .before .before .before .before .before .before in
@@ -67,7 +49,7 @@ returns-5 c =
     let s = a .dvi .now in
     λ is k j.
     cut-turned s is (a .at) _ (c .new-page .result) j (c .new-page .ensures .1 _)
-    (led-to (c .before .before .r2 .given .1) (c .before .before .before .before .to-page .ensures is k (omega (arith, c .before .before .before .before .before .if3 .left, count-is (a .t) is k (j .reached .writable))) j))
+    (readsTo-standing (c .before .before .r2 .given .1) (c .before .before .before .before .to-page .ensures is k (omega (arith, c .before .before .before .before .before .if3 .left, count-is (a .t) is k (j .reached .writable))) j))
 
 returns-6 : tie.Need-returns-6
 returns-6 c =
@@ -75,24 +57,10 @@ returns-6 c =
     let a = st .args in
     let s = a .dvi .now in
     λ is k j.
-    led-fault s (inPage (newPageState (is ++ (Cut ∷ [])))) (c .before .r3 .given .1) (c .before .before .before .to-page .ensures is k (omega (arith, c .before .before .before .before .if3 .left, count-is (a .t) is k (j .reached .writable))) j)
+    readsTo-fault s (inPage (newPageState (is ++ (Cut ∷ [])))) (c .before .r3 .given .1) (c .before .before .before .to-page .ensures is k (omega (arith, c .before .before .before .before .if3 .left, count-is (a .t) is k (j .reached .writable))) j)
 
 pub ended-spec : {M : Type 1} → statement M
 ended-spec =
     tie.close
-    (tie.spec
-    returns
-    shared-slice-read-if2
-    to-post-requires
-    enum-told
-    enum-known-r
-    returns-2
-    returns-3
-    add-if3
-    returns-4
-    to-page-requires
-    enum-known-r-2
-    new-page-requires
-    enum-known-r-3
-    returns-5
-    returns-6)
+    (tie.spec returns (λ c. search needs) to-post-requires (λ c. search needs) (λ c. search needs) returns-2 returns-3 add-if3 returns-4
+    to-page-requires (λ c. search needs) (λ c κs. search needs) (λ c. search needs) returns-5 returns-6)

@@ -1,6 +1,6 @@
 -- `dvi2_turn::turn::take_turn` meets its contract: the step of the definition, and what follows an eop.
 -- Assumes nothing.
-use mathlib.Core.Path.{sym, ap, subst, _∙_}
+use mathlib.Core.Path.{refl, sym, ap, subst, _∙_}
 use Prim.Native.Nat.{_+_}
 use native.Mathlib.Omega.{arith}
 use borrow.Author.Needs.{needs}
@@ -8,8 +8,8 @@ use Rattle.dvi2_reading.specs.Reading.{inPage, between}
 use Rattle.dvi2_reading.specs.Standing.{Standing}
 use Rattle.dvi2_reading.specs.StandingLaws.{standing-go, standing-refuse, standing-short}
 use Rattle.dvi2_state.specs.Page.{pageStateOf, stepOf}
-use Rattle.dvi2_turn.proofs.Stands.{near, is-down}
-use Rattle.dvi2_turn.proofs.Tallies.{known, count-is, small}
+use Rattle.dvi2_turn.proofs.Stands.{sound, is-down}
+use Rattle.dvi2_turn.proofs.Tallies.{known, count-is, tally-ranged}
 use Rattle.dvi2_turn.proofs.Turns.{put-turned, turned-before}
 use Rattle.dvi2_turn.proofs.turn.take_turn.Statement.{statement}
 use Rattle.dvi2_turn.proofs.turn.take_turn.Tie as tie
@@ -17,20 +17,11 @@ use Rattle.dvi2_turn.proofs.turn.take_turn.Tie as tie
 add-step : tie.Need-add-step
 add-step c =
     let p = c .before .before .pre in
-    let t = small _ (p .1 .items) (p .1 .tally) (p .1 .standing .reached .writable) in
+    let t = tally-ranged _ (p .1 .items) (p .1 .tally) (p .1 .standing .reached .writable) in
     omega (arith, t .few, t .few-cuts)
 
 step-requires : tie.Need-step-requires
-step-requires c κs = let p = c .before .before .pre in (p .0 .0, near _ (p .1 .items) _ _ (p .1 .standing))
-
-enum-told : tie.Need-enum-told
-enum-told c = search needs
-
-enum-told-2 : tie.Need-enum-told-2
-enum-told-2 c = search needs
-
-enum-told-3 : tie.Need-enum-told-3
-enum-told-3 c = search needs
+step-requires c κs = let p = c .before .before .pre in (p .0 .0, sound _ (p .1 .items) _ _ (p .1 .standing))
 
 add-ended : tie.Need-add-ended
 add-ended c = omega (arith, c .before .before .before .before .before .pre .0 .0, c .before .before .before .before .before .pre .0 .1)
@@ -38,29 +29,20 @@ add-ended c = omega (arith, c .before .before .before .before .before .pre .0 .0
 ended-requires : tie.Need-ended-requires
 ended-requires c κs =
     let p = c .before .before .before .before .before .pre in
-    let t = small _ (p .1 .items) (p .1 .tally) (p .1 .standing .reached .writable) in
+    let t = tally-ranged _ (p .1 .items) (p .1 .tally) (p .1 .standing .reached .writable) in
     (p .0 .1, t)
 
-enum-known-r : tie.Need-enum-known-r
-enum-known-r c = search needs
-
 character-requires : tie.Need-character-requires
-character-requires c κs = let st = c .before .before .before .before .before .before in is-down _ (st .pre .1 .items) (st .args .h) _ (st .pre .1 .standing)
-
-with-font-requires : tie.Need-with-font-requires
-with-font-requires c κs = search needs
-
-add-t17 : tie.Need-add-t17
-add-t17 c = omega (arith, c .before .before .before .before .before .before .before .before .pre .0 .0, c .before .before .before .before .before .before .before .before .pre .0 .1)
-
-enum-known-r-2 : tie.Need-enum-known-r-2
-enum-known-r-2 c = search needs
+character-requires c κs = let st = c .before .before .before .before .before .before .before in is-down _ (st .pre .1 .items) (st .args .h) _ (st .pre .1 .standing)
 
 add-t18 : tie.Need-add-t18
-add-t18 c = omega (arith, c .before .before .before .before .before .before .pre .0 .0, c .before .before .before .before .before .before .pre .0 .1)
+add-t18 c = omega (arith, c .before .before .before .before .before .before .before .before .pre .0 .0, c .before .before .before .before .before .before .before .before .pre .0 .1)
 
 add-t19 : tie.Need-add-t19
-add-t19 c =
+add-t19 c = omega (arith, c .before .before .before .before .before .before .pre .0 .0, c .before .before .before .before .before .before .pre .0 .1)
+
+add-t20 : tie.Need-add-t20
+add-t20 c =
     let st = c .before .before .before .before .before .before in
     let a = st .args in
     let is = st .pre .1 .items in
@@ -97,7 +79,7 @@ returns-4 c =
     let a = st .args in
     let s = a .dvi .now in
     λ is k j.
-    put-turned s is (a .at) (a .h) _ _ _ (standing-go s (inPage (pageStateOf is (a .h))) (a .at) j (st .pre .0 .0) _ 1 (ap (stepOf is (a .h)) (sym (c .before .before .before .r .given .1)) ∙ c .before .before .before .before .before .step .ensures is (count-is (a .t) is k (j .reached .writable)) (known (a .t) is k (j .reached .writable)))) (c .before .character .ensures) (c .with-font .ensures)
+    put-turned s is (a .at) (a .h) _ _ _ (standing-go s (inPage (pageStateOf is (a .h))) (a .at) j (st .pre .0 .0) _ 1 (ap (stepOf is (a .h)) (sym (c .before .before .before .r .given .1)) ∙ c .before .before .before .before .before .step .ensures is (count-is (a .t) is k (j .reached .writable)) (known (a .t) is k (j .reached .writable)))) (c .character .ensures) refl
 
 returns-5 : tie.Need-returns-5
 returns-5 c =
@@ -111,23 +93,5 @@ returns-5 c =
 pub take-turn-spec : {M : Type 1} → statement M
 take-turn-spec =
     tie.close
-    (tie.spec
-    add-step
-    step-requires
-    enum-told
-    enum-told-2
-    enum-told-3
-    add-ended
-    ended-requires
-    enum-known-r
-    character-requires
-    with-font-requires
-    add-t17
-    enum-known-r-2
-    add-t18
-    add-t19
-    returns
-    returns-2
-    returns-3
-    returns-4
-    returns-5)
+    (tie.spec add-step step-requires (λ c. search needs) (λ c. search needs) (λ c. search needs) add-ended ended-requires (λ c. search needs)
+    character-requires add-t18 (λ c. search needs) add-t19 add-t20 returns returns-2 returns-3 returns-4 returns-5)

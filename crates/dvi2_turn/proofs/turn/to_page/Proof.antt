@@ -6,9 +6,10 @@ use borrow.Author.Needs.{needs}
 use lib.IntN.{pos}
 use mir.Syntax.{w32}
 use mir.Val.{SFits}
-use Rattle.integers.specs.Parts.{integers, plain-pos}
+use Rattle.integers.specs.Parts.{integers}
+use Rattle.integers.specs.Bits.{plain-pos}
 use Rattle.dvi2.specs.Writer.{bopBytes}
-use Rattle.dvi2_turn.proofs.Turns.{page-led}
+use Rattle.dvi2_turn.proofs.Turns.{page-readsTo}
 use Rattle.dvi2_turn.proofs.turn.to_page.Statement.{statement}
 use Rattle.dvi2_turn.proofs.turn.to_page.Tie as tie
 
@@ -21,12 +22,6 @@ add-bop c = omega (arith, c .before .before .pre .1 .few-cuts)
 cast-bop-2 : tie.Need-cast-bop-2
 cast-bop-2 c = omega (arith, c .before .before .before .pre .1 .bop-small)
 
-bop-requires : tie.Need-bop-requires
-bop-requires c κs = search needs
-
-slice-aggregate-expect : tie.Need-slice-aggregate-expect
-slice-aggregate-expect c = search needs
-
 expect-requires : tie.Need-expect-requires
 expect-requires c κs = (omega (arith, c .before .before .before .before .before .pre .0 .0), search needs)
 
@@ -36,16 +31,7 @@ returns c =
     let a = st .args in
     let s = a .dvi .now in
     let f : SFits w32 (pos (a .t .bop)) = omega (integers, st .pre .1 .bop-small) in
-    λ is k l j. page-led s (a .at) (a .t) is k (st .pre .0 .0) j (st .pre .0 .1) l _ (c .before .before .bop .ensures ∙ ap (bopBytes _) (plain-pos f)) _ (c .expect .ensures)
+    λ is k l j. page-readsTo s (a .at) (a .t) is k (st .pre .0 .0) j (st .pre .0 .1) l _ (c .before .before .bop .ensures ∙ ap (bopBytes _) (plain-pos f)) _ (c .expect .ensures)
 
 pub to-page-spec : {M : Type 1} → statement M
-to-page-spec =
-    tie.close
-    (tie.spec
-    cast-bop
-    add-bop
-    cast-bop-2
-    bop-requires
-    slice-aggregate-expect
-    expect-requires
-    returns)
+to-page-spec = tie.close (tie.spec cast-bop add-bop cast-bop-2 (λ c κs. search needs) (λ c. search needs) expect-requires returns)

@@ -4,10 +4,10 @@ use mathlib.Core.Path.{sym, _∙_}
 use native.Mathlib.Omega.{arith}
 use borrow.Author.Needs.{needs}
 use Rattle.dvi2_reading.specs.Reading.{closing, closingOf}
-use Rattle.dvi2_close.proofs.Expected.{expect-inside, inside-to, led-to, led-fault}
+use Rattle.dvi2_close.proofs.Expected.{expect-inside, inside-to, readsTo-standing, readsTo-fault}
 use Rattle.dvi2_turn.proofs.Stands.{between-place}
 use Rattle.dvi2_turn.proofs.Tallies.{extents-is}
-use Rattle.dvi2_turn.proofs.Turns.{post-led}
+use Rattle.dvi2_turn.proofs.Turns.{post-readsTo}
 use Rattle.dvi2_turn.proofs.turn.to_post.Statement.{statement}
 use Rattle.dvi2_turn.proofs.turn.to_post.Tie as tie
 
@@ -23,22 +23,13 @@ add-post c = omega (arith, c .before .before .before .pre .1 .1 .few-cuts)
 post-requires : tie.Need-post-requires
 post-requires c κs = c .before .before .before .pre .1 .1 .ranged
 
-slice-aggregate-expect : tie.Need-slice-aggregate-expect
-slice-aggregate-expect c = search needs
-
 expect-requires : tie.Need-expect-requires
 expect-requires c κs = (omega (arith, c .before .before .before .before .before .pre .0 .0), search needs)
-
-enum-known-r : tie.Need-enum-known-r
-enum-known-r c = search needs
 
 close-requires : tie.Need-close-requires
 close-requires c κs =
     let p = c .before .before .before .before .before .before .before .before .before .pre in
     (inside-to (sym (c .before .before .before .expect .ensures) ∙ c .before .r .given .1) (expect-inside _ _ _ (omega (arith, p .0 .0))), (p .1 .0, omega (arith, p .0 .0, p .1 .0)))
-
-enum-known-r-2 : tie.Need-enum-known-r-2
-enum-known-r-2 c = search needs
 
 returns : tie.Need-returns
 returns c =
@@ -47,7 +38,7 @@ returns c =
     let s = a .dvi .now in
     let p = st .pre in
     λ is k j.
-    c .close .ensures is (extents-is (a .t) is k (j .reached .writable) .fonts-are) (between-place s is (a .at) j) (led-to (c .before .before .r .given .1) (post-led s (a .at) (a .t) is k (p .0 .0) j (p .0 .1) _ (c .before .before .before .before .before .before .post .ensures) _ (c .before .before .before .before .expect .ensures)))
+    c .close .ensures is (extents-is (a .t) is k (j .reached .writable) .fonts-are) (between-place s is (a .at) j) (readsTo-standing (c .before .before .r .given .1) (post-readsTo s (a .at) (a .t) is k (p .0 .0) j (p .0 .1) _ (c .before .before .before .before .before .before .post .ensures) _ (c .before .before .before .before .expect .ensures)))
 
 returns-2 : tie.Need-returns-2
 returns-2 c =
@@ -55,20 +46,10 @@ returns-2 c =
     let a = st .args in
     let s = a .dvi .now in
     let p = st .pre in
-    λ is k j. led-fault s (closing is (closingOf is)) (c .before .r2 .given .1) (post-led s (a .at) (a .t) is k (p .0 .0) j (p .0 .1) _ (c .before .before .before .before .before .post .ensures) _ (c .before .before .before .expect .ensures))
+    λ is k j. readsTo-fault s (closing is (closingOf is)) (c .before .r2 .given .1) (post-readsTo s (a .at) (a .t) is k (p .0 .0) j (p .0 .1) _ (c .before .before .before .before .before .post .ensures) _ (c .before .before .before .expect .ensures))
 
 pub to-post-spec : {M : Type 1} → statement M
 to-post-spec =
     tie.close
-    (tie.spec
-    cast-post
-    cast-post-2
-    add-post
-    post-requires
-    slice-aggregate-expect
-    expect-requires
-    enum-known-r
-    close-requires
-    enum-known-r-2
-    returns
-    returns-2)
+    (tie.spec cast-post cast-post-2 add-post post-requires (λ c. search needs) expect-requires (λ c. search needs) close-requires
+    (λ c. search needs) returns returns-2)

@@ -18,12 +18,6 @@ has-font-requires c κs = valid-parts (c .before .pre .1) .font
 put-commands-requires : tie.Need-put-commands-requires
 put-commands-requires c κs = let s = c .before .before .before in (omega (arith, s .pre .0 .at-small), (s .pre .0 .on-page, s .pre .1))
 
-after-character-requires : tie.Need-after-character-requires
-after-character-requires c κs = search needs
-
-same-length : tie.Need-same-length
-same-length c = search needs
-
 returns : tie.Need-returns
 returns c is h =
     let s = c .before .before .before .before .before .before .before in
@@ -35,4 +29,4 @@ returns c is h =
     (rw l w, writing-character (a .p) is h _ (a .c) _ (s .pre .1) r (w .next-is))
 
 pub put-character-spec : {M : Type 1} → statement M
-put-character-spec = tie.close (tie.spec has-font-requires put-commands-requires after-character-requires same-length returns)
+put-character-spec = tie.close (tie.spec has-font-requires put-commands-requires (λ c κs. search needs) (λ c. search needs) returns)

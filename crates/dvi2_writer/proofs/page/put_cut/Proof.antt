@@ -8,7 +8,8 @@ use borrow.Author.Needs.{needs}
 use lib.IntN.{pos}
 use mir.Syntax.{w32}
 use mir.Val.{SFits, toZ}
-use Rattle.integers.specs.Parts.{integers, plain-pos}
+use Rattle.integers.specs.Parts.{integers}
+use Rattle.integers.specs.Bits.{plain-pos}
 use Rattle.dvi2.specs.Writer.{bopBytes, firstWriting, itemBytes, writingAfterAll}
 use Rattle.dvi2.specs.WriterLaws.{length-cut}
 use Rattle.octets.specs.PutIfRoomLaws.{putIfRoom-then, putIfRoom-named}
@@ -28,14 +29,8 @@ cast-put-bop c = omega (arith, c .before .before .before .before .before .before
 put-bop-requires : tie.Need-put-bop-requires
 put-bop-requires c κs = omega (arith, c .before .before .before .before .before .before .before .before .pre .at-small, c .before .before .before .before .before .put-byte .ensures .next-is)
 
-start-position-requires : tie.Need-start-position-requires
-start-position-requires c κs = search needs
-
 cast-bop : tie.Need-cast-t13
 cast-bop c = omega (arith, c .before .before .before .before .before .before .before .before .before .before .before .before .before .pre .at-small, c .before .before .before .before .before .before .before .before .before .before .put-byte .ensures .next-is)
-
-same-length : tie.Need-same-length
-same-length c = search needs
 
 returns : tie.Need-returns
 unfolding itemBytes
@@ -51,4 +46,6 @@ returns c is h =
     (w, writing-cut a is h _ (c .before .start-position .ensures) refl (add-one (a .page)) (e .next-is) (w .next-is ∙ ap (λ (k : ℕ). a .at + k) (length-cut (writingAfterAll firstWriting is))))
 
 pub put-cut-spec : {M : Type 1} → statement M
-put-cut-spec = tie.close (tie.spec put-byte-requires add-page cast-put-bop put-bop-requires start-position-requires cast-bop same-length returns)
+put-cut-spec =
+    tie.close
+    (tie.spec put-byte-requires add-page cast-put-bop put-bop-requires (λ c κs. search needs) cast-bop (λ c. search needs) returns)

@@ -20,31 +20,22 @@ of-kind : (o : List ℕ) (p : Writing) (o′ : List ℕ) (r : Writing) {i j : It
     → (is : List Item) → WritingIs p is → (PutIfRoom o (p .at) (itemBytes (writingAfterAll firstWriting is) j) o′ (r .at)) × WritingIs r (is ++ (j ∷ []))
 of-kind o p o′ r e w = subst (λ (k : Item). (is : List Item) → WritingIs p is → (PutIfRoom o (p .at) (itemBytes (writingAfterAll firstWriting is) k) o′ (r .at)) × WritingIs r (is ++ (k ∷ []))) e w
 
-enum-known-i : tie.Need-enum-known-i
-enum-known-i c = search needs
-
 put-character-requires : tie.Need-put-character-requires
 put-character-requires c κs =
     let s = c .before .before .before .before .before in
     (s .pre .0, sym (ap (validItem heightEnd) (c .before .before .i .given .1)) ∙ s .pre .1)
 
-enum-told : tie.Need-enum-told
-enum-told c = search needs
-
 put-cut-requires : tie.Need-put-cut-requires
 put-cut-requires c κs = c .before .before .before .before .pre .0
 
-same-length : tie.Need-same-length
-same-length c = search needs
-
 returns : tie.Need-returns
 returns c = of-kind _ (c .before .before .before .before .before .before .before .before .args .p) _ _ (sym (c .before .before .before .before .before .i .given .1)) (c .before .before .put-character .ensures)
-
-same-length-2 : tie.Need-same-length-2
-same-length-2 c = search needs
 
 returns-2 : tie.Need-returns-2
 returns-2 c = of-kind _ (c .before .before .before .before .before .before .before .args .p) _ _ (sym (c .before .before .before .before .enum-told .given .1)) (c .before .before .put-cut .ensures)
 
 pub put-item-spec : {M : Type 1} → statement M
-put-item-spec = tie.close (tie.spec enum-known-i put-character-requires enum-told put-cut-requires same-length returns same-length-2 returns-2)
+put-item-spec =
+    tie.close
+    (tie.spec (λ c. search needs) put-character-requires (λ c. search needs) put-cut-requires (λ c. search needs) returns (λ c. search needs)
+    returns-2)

@@ -26,9 +26,6 @@ length-preamble = refl
 ends-at : {o o′ bs : List ℕ} {i j k : ℕ} → PutIfRoom o i bs o′ j → j ≡ k → PutIfRoom o i bs o′ k
 ends-at {o} {o′} {bs} {i} w e = subst (λ (n : ℕ). PutIfRoom o i bs o′ n) e w
 
-put-preamble-requires : tie.Need-put-preamble-requires
-put-preamble-requires c κs = search needs
-
 put-bop-requires : tie.Need-put-bop-requires
 put-bop-requires c κs = omega (arith, c .before .before .before .put-preamble .ensures .next-is, length-preamble)
 
@@ -39,9 +36,6 @@ put-byte-requires : tie.Need-put-byte-requires
 put-byte-requires c κs =
     let s = c .before .before .before .before .before .before .before .before .before .before .before .before .before .before .before in
     omega (arith, c .before .before .before .put-items .ensures .0 .next-is, itemsBytes-most firstWriting (itemsOf New (s .args .g .now)), few _ _ (s .pre))
-
-same-length : tie.Need-same-length
-same-length c = search needs
 
 returns : tie.Need-returns
 unfolding pagesBytes
@@ -56,4 +50,4 @@ returns c =
     )
 
 pub put-pages-spec : {M : Type 1} → statement M
-put-pages-spec = tie.close (tie.spec put-preamble-requires put-bop-requires put-items-requires put-byte-requires same-length returns)
+put-pages-spec = tie.close (tie.spec (λ c κs. search needs) put-bop-requires put-items-requires put-byte-requires (λ c. search needs) returns)

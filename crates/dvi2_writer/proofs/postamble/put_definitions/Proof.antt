@@ -1,6 +1,7 @@
 -- `dvi2_writer::postamble::put_definitions` meets its contract. Written are the definitions of the marked fonts below f; what is left of 120 falls.
 -- Assumes nothing.
 use mathlib.Core.Path.{_≡_, sym}
+use mathlib.Core.List.{flatten}
 use Prim.Native.Nat.{_-_, _≤_, _<_}
 use native.Mathlib.Omega.{arith}
 use Rattle.extents.specs.FontMarks.{markedFonts}
@@ -18,7 +19,7 @@ abbrev μ-loop : tie.MeasureT-loop
 μ-loop out₀ at fonts to₀ f₀ out to f = 120 - f
 
 loop-holds : tie.Need-loop-holds Inv-loop μ-loop
-unfolding markedFonts definitionBytes
+unfolding markedFonts flatten
 loop-holds c = (omega arith, putIfRoom-none _ _)
 
 put-marked-requires : tie.Need-put-marked-requires Inv-loop μ-loop

@@ -23,9 +23,6 @@ put-post-post-requires c κs =
     let s = c .before .before .before .before .before .before .before .before .before .before in
     omega (arith, s .pre .at-small, putIfRoom-next (c .before .before .before .before .before .before .before .put-post .ensures) 29 (post-most _ _ _ _), c .before .before .before .put-definitions .ensures .next-is, define-most (s .args .p .extents .fonts .low) (s .args .p .extents .fonts .high) 120)
 
-same-length : tie.Need-same-length
-same-length c = search needs
-
 returns : tie.Need-returns
 unfolding postambleOf
 returns c =
@@ -35,4 +32,4 @@ returns c =
 pub put-postamble-spec : {M : Type 1} → statement M
 put-postamble-spec =
     tie.close
-    (tie.spec put-post-requires put-definitions-requires cast-put-post-post put-post-post-requires same-length returns)
+    (tie.spec put-post-requires put-definitions-requires cast-put-post-post put-post-post-requires (λ c. search needs) returns)

@@ -6,9 +6,6 @@ use Rattle.galley_file.specs.CharacterLaws.{valid-parts}
 use Rattle.dvi2_writer.proofs.writing.after_character.Statement.{statement}
 use Rattle.dvi2_writer.proofs.writing.after_character.Tie as tie
 
-position-at-requires : tie.Need-position-at-requires
-position-at-requires c κs = search needs
-
 with-character-requires : tie.Need-with-character-requires
 with-character-requires c κs = valid-parts (c .before .pre) .font
 
@@ -23,4 +20,4 @@ returns c =
     }
 
 pub after-character-spec : {M : Type 1} → statement M
-after-character-spec = tie.close (tie.spec position-at-requires with-character-requires returns)
+after-character-spec = tie.close (tie.spec (λ c κs. search needs) with-character-requires returns)

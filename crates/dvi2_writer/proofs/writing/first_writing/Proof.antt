@@ -6,14 +6,8 @@ use Rattle.dvi2_writer.proofs.Writings.{writing-first}
 use Rattle.dvi2_writer.proofs.writing.first_writing.Statement.{statement}
 use Rattle.dvi2_writer.proofs.writing.first_writing.Tie as tie
 
-start-position-requires : tie.Need-start-position-requires
-start-position-requires c κs = search needs
-
-none-requires : tie.Need-none-requires
-none-requires c κs = search needs
-
 returns : tie.Need-returns
 returns c = writing-first _ (c .before .start-position .ensures) (c .none .ensures) refl refl refl
 
 pub first-writing-spec : {M : Type 1} → statement M
-first-writing-spec = tie.close (tie.spec start-position-requires none-requires returns)
+first-writing-spec = tie.close (tie.spec (λ c κs. search needs) (λ c κs. search needs) returns)

@@ -14,35 +14,17 @@ use Rattle.dvi_back.specs.declared.tally.Tally.{Tally}
 use Rattle.dvi_back.proofs.tally.finish.Statement.{statement}
 use Rattle.dvi_back.proofs.tally.finish.Tie as tie
 
-enum-told : tie.Need-enum-told
-enum-told c = search needs
-
-enum-known-g : tie.Need-enum-known-g
-enum-known-g c = search needs
-
-place-requires : tie.Need-place-requires
-place-requires c κs = search needs
-
 show-end-requires : tie.Need-show-end-requires
 show-end-requires c κs w =
     let s = c .before .before .before .before .before .before in
     let g = c .before .before .before .g .given in
     omega (arith, s .pre w, ap placeIn (g .1), ap (λ (k : Tally). length (endOf k)) (g .1), length-end (g .0 .1 .0), c .before .place .ensures .0)
 
-add-t12 : tie.Need-add-t12
-add-t12 c = search needs
-
-enum-known-g-2 : tie.Need-enum-known-g-2
-enum-known-g-2 c = search needs
-
 returns : tie.Need-returns
 returns c =
     let a = c .before .before .before .args in
     let e = sym (c .enum-told .given .1) in
     (ap tallyReading e, putIf-none (a .writing) (a .out .now) (placeIn (a .g)) ∙ ap (λ (k : Tally). putIf (a .writing) (a .out .now) (placeIn (a .g)) (endOf k)) e)
-
-same-length : tie.Need-same-length
-same-length c = search needs
 
 returns-2 : tie.Need-returns-2
 returns-2 c =
@@ -64,4 +46,5 @@ returns-3 c =
 pub finish-spec : {M : Type 1} → statement M
 finish-spec =
     tie.close
-    (tie.spec enum-told enum-known-g place-requires show-end-requires add-t12 enum-known-g-2 returns same-length returns-2 returns-3)
+    (tie.spec (λ c. search needs) (λ c. search needs) (λ c κs. search needs) show-end-requires (λ c. search needs) (λ c. search needs) returns
+    (λ c. search needs) returns-2 returns-3)

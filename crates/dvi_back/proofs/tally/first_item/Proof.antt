@@ -11,18 +11,6 @@ use Rattle.dvi_galley.specs.declared.item.Taken.the-variants.{Is}
 use Rattle.dvi_back.proofs.tally.first_item.Statement.{statement}
 use Rattle.dvi_back.proofs.tally.first_item.Tie as tie
 
-enum-known-i : tie.Need-enum-known-i
-enum-known-i c = search needs
-
-enum-told : tie.Need-enum-told
-enum-told c = search needs
-
-enum-told-2 : tie.Need-enum-told-2
-enum-told-2 c = search needs
-
-enum-told-3 : tie.Need-enum-told-3
-enum-told-3 c = search needs
-
 returns : tie.Need-returns
 unfolding withItem
 returns c =
@@ -42,4 +30,4 @@ returns-3 c =
     sym (ap (λ (k : Taken). tallyOf (withItem nothing (a .at) (takenOf k))) (c .enum-told3 .given .1))
 
 pub first-item-spec : {M : Type 1} → statement M
-first-item-spec = tie.close (tie.spec enum-known-i enum-told enum-told-2 enum-told-3 returns returns-2 returns-3)
+first-item-spec = tie.close (tie.spec (λ c. search needs) (λ c. search needs) (λ c. search needs) (λ c. search needs) returns returns-2 returns-3)

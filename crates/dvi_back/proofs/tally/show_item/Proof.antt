@@ -10,31 +10,16 @@ use Rattle.dvi_back.specs.declared.tally.Tally.{Tally}
 use Rattle.dvi_back.proofs.tally.show_item.Statement.{statement}
 use Rattle.dvi_back.proofs.tally.show_item.Tie as tie
 
-enum-told : tie.Need-enum-told
-enum-told c = search needs
-
-enum-known-g : tie.Need-enum-known-g
-enum-known-g c = search needs
-
-place-requires : tie.Need-place-requires
-place-requires c κs = search needs
-
 show-taken-requires : tie.Need-show-taken-requires
 show-taken-requires c κs w =
     let s = c .before .before .before .before .before .before in
     let e = c .before .before .before .g .given .1 in
     omega (arith, s .pre w, ap placeIn e, ap (λ (k : Tally). length (addedBy k (s .args .i))) e, c .place .ensures .0)
 
-enum-told-2 : tie.Need-enum-told-2
-enum-told-2 c = search needs
-
 returns : tie.Need-returns
 returns c =
     let a = c .before .before .before .args in
     putIf-none (a .writing) (a .out .now) (placeIn (a .g)) ∙ ap (λ (k : Tally). putIf (a .writing) (a .out .now) (placeIn (a .g)) (addedBy k (a .i))) (sym (c .enum-told .given .1))
-
-same-length : tie.Need-same-length
-same-length c = search needs
 
 returns-2 : tie.Need-returns-2
 returns-2 c =
@@ -53,4 +38,5 @@ returns-3 c =
 pub show-item-spec : {M : Type 1} → statement M
 show-item-spec =
     tie.close
-    (tie.spec enum-told enum-known-g place-requires show-taken-requires enum-told-2 returns same-length returns-2 returns-3)
+    (tie.spec (λ c. search needs) (λ c. search needs) (λ c κs. search needs) show-taken-requires (λ c. search needs) returns (λ c. search needs)
+    returns-2 returns-3)

@@ -12,19 +12,10 @@ use Rattle.dvi_galley.specs.declared.item.Taken.{Taken}
 use Rattle.dvi_back.proofs.tally.show_taken.Statement.{statement}
 use Rattle.dvi_back.proofs.tally.show_taken.Tie as tie
 
-enum-known-i : tie.Need-enum-known-i
-enum-known-i c = search needs
-
 put-item-requires : tie.Need-put-item-requires
 put-item-requires c κs =
     let g = c .before .before .i .given in
     omega (arith, c .before .before .before .before .before .before .pre (c .before .before .before .before .if1 .taken), ap (λ (k : Taken). length (fieldOf k)) (g .1), length-itemField New (g .0 .0))
-
-enum-told : tie.Need-enum-told
-enum-told c = search needs
-
-same-length : tie.Need-same-length
-same-length c = search needs
 
 returns : tie.Need-returns
 returns c =
@@ -33,13 +24,7 @@ returns c =
     let e = c .before .before .before .before .before .i .given .1 in
     c .before .before .put-item .ensures .buffer-is ∙ sym (λ k. putIf (w k) (a .out .now) (a .to) (fieldOf (e k)))
 
-returns-2 : tie.Need-returns-2
-returns-2 c = search needs
-
-returns-3 : tie.Need-returns-3
-returns-3 c = search needs
-
 pub show-taken-spec : {M : Type 1} → statement M
 show-taken-spec =
     tie.close
-    (tie.spec enum-known-i put-item-requires enum-told same-length returns returns-2 returns-3)
+    (tie.spec (λ c. search needs) put-item-requires (λ c. search needs) (λ c. search needs) returns (λ c. search needs) (λ c. search needs))

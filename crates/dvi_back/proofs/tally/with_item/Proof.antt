@@ -9,21 +9,6 @@ use Rattle.dvi_back.proofs.Items.{nothing-is, broken-is}
 use Rattle.dvi_back.proofs.tally.with_item.Statement.{statement}
 use Rattle.dvi_back.proofs.tally.with_item.Tie as tie
 
-enum-told : tie.Need-enum-told
-enum-told c = search needs
-
-first-item-requires : tie.Need-first-item-requires
-first-item-requires c κs = search needs
-
-enum-known-g : tie.Need-enum-known-g
-enum-known-g c = search needs
-
-next-item-requires : tie.Need-next-item-requires
-next-item-requires c κs = search needs
-
-enum-known-g-2 : tie.Need-enum-known-g-2
-enum-known-g-2 c = search needs
-
 returns : tie.Need-returns
 returns c b e =
     let a = c .before .before .before .args in
@@ -41,4 +26,4 @@ returns-3 c b e =
 pub with-item-spec : {M : Type 1} → statement M
 with-item-spec =
     tie.close
-    (tie.spec enum-told first-item-requires enum-known-g next-item-requires enum-known-g-2 returns returns-2 returns-3)
+    (tie.spec (λ c. search needs) (λ c κs. search needs) (λ c. search needs) (λ c κs. search needs) (λ c. search needs) returns returns-2 returns-3)

@@ -5,32 +5,18 @@ use mathlib.Core.Bool.{cond}
 use mathlib.Core.Option.{none, some}
 use borrow.Author.Needs.{needs}
 use mir.Syntax.{w32}
-use Rattle.integers.specs.Parts.{plain, eqZ}
+use Rattle.integers.specs.Bits.{plain}
+use Rattle.integers.specs.Equality.{eqZ}
 use Rattle.galley_file.specs.declared.item.Item.the-variants.{Cut}
 use Rattle.dvi.specs.Mark.{markOf}
 use Rattle.dvi.specs.declared.mark.Mark.{Mark}
-use Rattle.dvi_galley.specs.Target.{xAt, heightAt}
-use Rattle.dvi_galley.specs.Back.{placedItem, characterOf, itemOf}
+use Rattle.dvi_galley.specs.Target.{xOfTarget, heightOfTarget}
+use Rattle.dvi_galley.specs.Back.{placedItem, characterShown, itemShown}
 use Rattle.dvi_galley.proofs.item.item_of.Statement.{statement}
 use Rattle.dvi_galley.proofs.item.item_of.Tie as tie
 
-enum-known-m : tie.Need-enum-known-m
-enum-known-m c = search needs
-
-page-of-requires : tie.Need-page-of-requires
-page-of-requires c κs = search needs
-
-enum-known-m-2 : tie.Need-enum-known-m-2
-enum-known-m-2 c = search needs
-
-character-of-requires : tie.Need-character-of-requires
-character-of-requires c κs = search needs
-
-enum-known-m-3 : tie.Need-enum-known-m-3
-enum-known-m-3 c = search needs
-
 returns : tie.Need-returns
-unfolding itemOf
+unfolding itemShown
 returns c n e =
     let s = c .before .before .before .before in
     let g = c .before .before .m .given in
@@ -38,22 +24,23 @@ returns c n e =
     let y = plain (s .fits .next) in
     c .page-of .ensures
     ∙ (λ k. cond (eqZ (z k) ((y ∙ e) k)) (some Cut) none)
-    ∙ ap (λ (k : Mark). itemOf n (markOf k)) (sym (g .1))
+    ∙ ap (λ (k : Mark). itemShown n (markOf k)) (sym (g .1))
 
 returns-2 : tie.Need-returns-2
-unfolding itemOf
+unfolding itemShown
 returns-2 c n e =
     let g = c .before .before .m2 .given in
     let f = plain {w = w32} {z = g .0 .1 .1 .1 .0} (search needs) in
     c .character-of .ensures
-    ∙ (λ k. placedItem (characterOf (xAt (g .0 .1 .0 .0)) (heightAt (g .0 .1 .1 .0 .0)) (f k) (g .0 .0)))
-    ∙ ap (λ (k : Mark). itemOf n (markOf k)) (sym (g .1))
+    ∙ (λ k. placedItem (characterShown (xOfTarget (g .0 .1 .0 .0)) (heightOfTarget (g .0 .1 .1 .0 .0)) (f k) (g .0 .0)))
+    ∙ ap (λ (k : Mark). itemShown n (markOf k)) (sym (g .1))
 
 returns-3 : tie.Need-returns-3
-unfolding itemOf
-returns-3 c n e = ap (λ (k : Mark). itemOf n (markOf k)) (sym (c .before .m3 .given .1))
+unfolding itemShown
+returns-3 c n e = ap (λ (k : Mark). itemShown n (markOf k)) (sym (c .before .m3 .given .1))
 
 pub item-of-spec : {M : Type 1} → statement M
 item-of-spec =
     tie.close
-    (tie.spec enum-known-m page-of-requires enum-known-m-2 character-of-requires enum-known-m-3 returns returns-2 returns-3)
+    (tie.spec (λ c. search needs) (λ c κs. search needs) (λ c. search needs) (λ c κs. search needs) (λ c. search needs) returns returns-2
+    returns-3)

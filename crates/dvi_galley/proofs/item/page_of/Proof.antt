@@ -3,7 +3,8 @@
 use mathlib.Core.Path.{ap, _∙_}
 use mir.Syntax.{w64}
 use mir.Val.{ofZ}
-use Rattle.integers.specs.Parts.{plain, wide, same-bits, true-eqZ, false-eqZ}
+use Rattle.integers.specs.Bits.{plain, wide, same-bits}
+use Rattle.integers.specs.Equality.{true-eqZ, false-eqZ}
 use Rattle.dvi_galley.proofs.item.page_of.Statement.{statement}
 use Rattle.dvi_galley.proofs.item.page_of.Tie as tie
 

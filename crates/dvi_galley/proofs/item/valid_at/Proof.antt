@@ -5,7 +5,8 @@ use mathlib.Core.Bool.{false}
 use borrow.Author.Needs.{needs}
 use lib.IntN.{pos}
 use lib.Signed.{ltZ}
-use Rattle.integers.specs.Parts.{integers, plain, abs-parts, range-parts, nonNeg-by}
+use Rattle.integers.specs.Parts.{integers, abs-parts, range-parts, nonNeg-by}
+use Rattle.integers.specs.Bits.{plain}
 use Rattle.dvi_galley.proofs.Items.{font-negative, font-large, character-valid, character-not}
 use Rattle.dvi_galley.proofs.item.valid_at.Statement.{statement}
 use Rattle.dvi_galley.proofs.item.valid_at.Tie as tie
@@ -26,9 +27,6 @@ cast-t7 c =
     let r = range-parts f 0 119 (omega (integers, natural (c .before))) (omega (integers, small)) in
     rw (plain (c .before .before .fits .font)) (nonNeg-by f (omega (integers, r)), record { fits = omega (integers, r, abs-parts f) })
 
-valid-but-height-requires : tie.Need-valid-but-height-requires
-valid-but-height-requires c κs = search needs
-
 returns-3 : tie.Need-returns-3
 returns-3 c =
     let s = c .before .before .before .before in
@@ -43,5 +41,4 @@ returns-4 c =
     character-not (a .x) (a .h) (a .ch) (s .pre) (a .font) (natural (c .before .before .before)) (sym (c .if3 .left) ∙ rw (plain (s .fits .font)) at (c .before .valid-but-height .ensures))
 
 pub valid-at-spec : {M : Type 1} → statement M
-valid-at-spec =
-    tie.close (tie.spec returns returns-2 cast-t7 valid-but-height-requires returns-3 returns-4)
+valid-at-spec = tie.close (tie.spec returns returns-2 cast-t7 (λ c κs. search needs) returns-3 returns-4)

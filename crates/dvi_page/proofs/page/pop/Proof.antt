@@ -7,8 +7,7 @@ use borrow.Author.Needs.{needs}
 use Rattle.dvi.specs.Page.{Page, popped, withNumbers}
 use Rattle.dvi_page.specs.Stack.{stackOf}
 use Rattle.dvi_page.specs.Page.{pageOf}
-use Rattle.dvi_page.proofs.Stacks.{stack-top}
-use Rattle.dvi_page.proofs.Pages.{pop-one}
+use Rattle.dvi_page.proofs.Stacks.{stack-top, pop-one}
 use Rattle.dvi_page.proofs.page.pop.Statement.{statement}
 use Rattle.dvi_page.proofs.page.pop.Tie as tie
 
@@ -17,18 +16,6 @@ unfolding popped stackOf
 returns c =
     let a = c .before .args in
     ap (λ (d : ℕ). popped (pageOf (a .p) (a .entries .now)) (stackOf (a .entries .now) d)) (sym (c .if1 .taken))
-
-sub-entry : tie.Need-sub-entry
-sub-entry c = search needs
-
-entry-requires : tie.Need-entry-requires
-entry-requires c κs = search needs
-
-with-numbers-requires : tie.Need-with-numbers-requires
-with-numbers-requires c κs = search needs
-
-sub-q : tie.Need-sub-q
-sub-q c = search needs
 
 returns-2 : tie.Need-returns-2
 unfolding popped withNumbers
@@ -40,5 +27,4 @@ returns-2 c =
     (ap (λ (q : Page). q .font) (c .with-numbers .ensures l))
 
 pub pop-spec : {M : Type 1} → statement M
-pop-spec =
-    tie.close (tie.spec returns sub-entry entry-requires with-numbers-requires sub-q returns-2)
+pop-spec = tie.close (tie.spec returns (λ c. search needs) (λ c κs. search needs) (λ c κs. search needs) (λ c. search needs) returns-2)

@@ -4,51 +4,47 @@ use mathlib.Core.Path.{_∙_}
 use borrow.Author.Needs.{needs}
 use mir.Syntax.{w32}
 use mir.Val.{SFits}
-use Rattle.integers.specs.Parts.{plain}
-use Rattle.dvi.specs.Page.{moved, goTo}
-use Rattle.dvi_page.specs.Stack.{numbersOf}
+use Rattle.integers.specs.Bits.{plain}
+use Rattle.dvi.specs.Page.{moved, rightBy, goTo}
+use Rattle.dvi_page.specs.Stack.{pageNumbers}
 use Rattle.dvi_page.specs.Page.{pageOf}
-use Rattle.octets.specs.ReachLaws.{sum-to, sum-off}
-use Rattle.dvi_page.proofs.Pages.{right-to, right-off}
+use Rattle.dvi_page.proofs.Moves.{right-inside, goes, stops}
 use Rattle.dvi_page.proofs.page.right.Statement.{statement}
 use Rattle.dvi_page.proofs.page.right.Tie as tie
 
 -- x, y and the move, in 32 bits
-x-fits : (c : tie.After-struct-told) → SFits w32 (c .before .args .n .x .0)
-x-fits c = search needs
+module _ (c : tie.After-struct-told2) where
+  x-fits : SFits w32 (c .before .before .args .n .x .0)
+  x-fits = search needs
 
-y-fits : (c : tie.After-struct-told) → SFits w32 (c .before .args .n .y .0)
-y-fits c = search needs
+  y-fits : SFits w32 (c .before .before .args .n .y .0)
+  y-fits = search needs
 
-m-fits : (c : tie.After-struct-told2) → SFits w32 (c .before .before .args .m .0)
-m-fits c = search needs
-
-sum-requires : tie.Need-sum-requires
-sum-requires c κs = search needs
-
-enum-known-to : tie.Need-enum-known-to
-enum-known-to c = search needs
-
-with-numbers-requires : tie.Need-with-numbers-requires
-with-numbers-requires c κs = search needs
-
-enum-told : tie.Need-enum-told
-enum-told c = search needs
+  m-fits : SFits w32 (c .before .before .args .m .0)
+  m-fits = search needs
 
 returns : tie.Need-returns
-unfolding goTo
+unfolding goTo rightBy
 returns c l =
-    let a = c .before .before .before .before .before .before .before .args in
-    let g = c .before .before .to .given in
-    let k = sum-to (a .n .x .0) (a .m .0) (c .before .before .before .before .sum .ensures) (x-fits (c .before .before .before .before .before .before)) (m-fits (c .before .before .before .before .before)) (g .1) in
-    right-to moved (pageOf (a .p) l) (numbersOf (a .n)) (a .m .0) (k .0) (plain {w = w32} {z = g .0 .0} (search needs) ∙ k .1) (y-fits (c .before .before .before .before .before .before)) (c .with-numbers .ensures l)
+    let s = c .before .before .before .before .before in
+    let a = s .before .before .args in
+    let m = a .m .0 in
+    let n = pageNumbers (a .n) in
+    let v = c .before .before .to .given in
+    goes moved (pageOf (a .p) l) (rightBy m n) (c .before .before .before .before .sum .ensures)
+    (x-fits s) (m-fits s) (right-inside m n (y-fits s))
+    (v .1) (λ e. c .with-numbers .ensures l ∙ rw (plain {w = w32} {z = v .0 .0} (search needs), e))
 
 returns-2 : tie.Need-returns-2
 unfolding goTo
 returns-2 c l =
-    let a = c .before .before .before .before .before .args in
-    right-off moved (pageOf (a .p) l) (numbersOf (a .n)) (a .m .0) (sum-off (a .n .x .0) (a .m .0) (c .before .before .sum .ensures) (x-fits (c .before .before .before .before)) (m-fits (c .before .before .before)) (c .enum-told .given .1))
+    let s = c .before .before .before in
+    let a = s .before .before .args in
+    let m = a .m .0 in
+    let n = pageNumbers (a .n) in
+    stops moved (pageOf (a .p) l) (rightBy m n) (c .before .before .sum .ensures)
+    (x-fits s) (m-fits s) (right-inside m n (y-fits s))
+    (c .enum-told .given .1)
 
 pub right-spec : {M : Type 1} → statement M
-right-spec =
-    tie.close (tie.spec sum-requires enum-known-to with-numbers-requires enum-told returns returns-2)
+right-spec = tie.close (tie.spec (λ c κs. search needs) (λ c. search needs) (λ c κs. search needs) (λ c. search needs) returns returns-2)

@@ -1,4 +1,4 @@
--- `dvi_page::page::with_numbers` meets its contract.
+-- `dvi_page::page::with_numbers` meets its contract: the numbers are others, the font and the stack as they were.
 -- Assumes nothing.
 use mathlib.Core.Path.{refl}
 use Rattle.dvi.specs.Page.{withNumbers}

@@ -8,7 +8,7 @@ use lib.IntN.{negsuc}
 use lib.ListN.{length, drop}
 use mir.Syntax.{w32}
 use mir.Val.{ofZ}
-use Rattle.integers.specs.Parts.{same-bits}
+use Rattle.integers.specs.Bits.{same-bits}
 use Rattle.dvi.specs.Postamble.{atId, definitions}
 use Rattle.dvi_step.specs.Postamble.{afterName, Within}
 use Rattle.dvi_step.specs.declared.postamble.Found.{Found}
@@ -26,23 +26,11 @@ abbrev μ-loop : tie.MeasureT-loop
 loop-holds : tie.Need-loop-holds Inv-loop μ-loop
 loop-holds c = (omega arith, refl)
 
-sub-if1 : tie.Need-sub-if1 Inv-loop μ-loop
-sub-if1 c = search needs
-
 returns : tie.Need-returns Inv-loop μ-loop
 returns c =
     let a = c .before .before .before .args in
     let i = c .before .loop in
     sym (i .inv .1 ∙ ids-short (a .s .now) (i .j) (a .pst) (c .if1 .taken))
-
-signed4-at-requires : tie.Need-signed4-at-requires Inv-loop μ-loop
-signed4-at-requires c κs = search needs
-
-add-is-trailer : tie.Need-add-is-trailer Inv-loop μ-loop
-add-is-trailer c = search needs
-
-is-trailer-requires : tie.Need-is-trailer-requires Inv-loop μ-loop
-is-trailer-requires c κs = search needs
 
 returns-2 : tie.Need-returns-2 Inv-loop μ-loop
 returns-2 c =
@@ -51,12 +39,6 @@ returns-2 c =
     let n = c .before .before .signed4-at in
     let e = sym (n .ensures) ∙ same-bits {w = w32} {b = negsuc 0} (record { sfits = n .ok }) (record { sfits = omega arith }) (c .before .if2 .taken) in
     c .is-trailer .ensures ∙ sym (i .inv .1 ∙ ids-end (a .s .now) (i .j) (a .pst) (omega arith) e)
-
-past-definition-requires : tie.Need-past-definition-requires Inv-loop μ-loop
-past-definition-requires c κs = search needs
-
-enum-known-d : tie.Need-enum-known-d Inv-loop μ-loop
-enum-known-d c = search needs
 
 -- the next ID lies further on, in the file
 further : (c : tie.After-known-told Inv-loop μ-loop) → Within (c .before .before .before .before .before .before .before .loop .j) (At (c .before .d .given .0 .0)) (length (c .before .before .before .before .before .before .before .before .before .args .s .now))
@@ -79,9 +61,6 @@ loop-again c =
           ∙ ap (λ (r : Found). afterName (a .pst) r s) (c .before .d .given .1)),
     )
 
-enum-told : tie.Need-enum-told Inv-loop μ-loop
-enum-told c = search needs
-
 returns-3 : tie.Need-returns-3 Inv-loop μ-loop
 returns-3 c =
     let a = c .before .before .before .before .before .before .before .before .args in
@@ -96,18 +75,5 @@ pub are-definitions-spec : {M : Type 1} → statement M
 are-definitions-spec =
     tie.close
     (tie.spec
-    Inv-loop
-    μ-loop
-    loop-holds
-    sub-if1
-    returns
-    signed4-at-requires
-    add-is-trailer
-    is-trailer-requires
-    returns-2
-    past-definition-requires
-    enum-known-d
-    loop-less
-    loop-again
-    enum-told
-    returns-3)
+    Inv-loop μ-loop loop-holds (λ c. search needs) returns (λ c κs. search needs) (λ c. search needs) (λ c κs. search needs)
+    returns-2 (λ c κs. search needs) (λ c. search needs) loop-less loop-again (λ c. search needs) returns-3)

@@ -7,14 +7,11 @@ use borrow.Author.Needs.{needs}
 use lib.ListN.{drop, length-drop}
 use mir.Syntax.{w32}
 use mir.Val.{ofZ}
-use Rattle.integers.specs.Parts.{same-bits}
+use Rattle.integers.specs.Bits.{same-bits}
 use Rattle.dvi.specs.Postamble.{atId, definitions}
 use Rattle.dvi_step.proofs.Postambles.{drop-to, postamble-short, postamble-off, postamble-on}
 use Rattle.dvi_step.proofs.postamble.is_postamble.Statement.{statement}
 use Rattle.dvi_step.proofs.postamble.is_postamble.Tie as tie
-
-sub-if1 : tie.Need-sub-if1
-sub-if1 c = search needs
 
 returns : tie.Need-returns
 returns c =
@@ -22,23 +19,11 @@ returns c =
     let n = length-drop (a .pst + 1) (a .s .now) in
     postamble-short (a .last) (a .pst) (drop (a .pst + 1) (a .s .now)) (omega arith)
 
-add-signed4-at : tie.Need-add-signed4-at
-add-signed4-at c = search needs
-
-signed4-at-requires : tie.Need-signed4-at-requires
-signed4-at-requires c κs = search needs
-
 returns-2 : tie.Need-returns-2
 returns-2 c =
     let a = c .before .before .before .before .args in
     let n = length-drop (a .pst + 1) (a .s .now) in
     postamble-off (a .last) (a .pst) (drop (a .pst + 1) (a .s .now)) (omega arith) (λ e. c .if2 .taken (ap (ofZ w32) (c .before .signed4-at .ensures ∙ e)))
-
-add-are-definitions : tie.Need-add-are-definitions
-add-are-definitions c = search needs
-
-are-definitions-requires : tie.Need-are-definitions-requires
-are-definitions-requires c κs = search needs
 
 returns-3 : tie.Need-returns-3
 returns-3 c =
@@ -56,11 +41,5 @@ pub is-postamble-spec : {M : Type 1} → statement M
 is-postamble-spec =
     tie.close
     (tie.spec
-    sub-if1
-    returns
-    add-signed4-at
-    signed4-at-requires
-    returns-2
-    add-are-definitions
-    are-definitions-requires
+    (λ c. search needs) returns (λ c. search needs) (λ c κs. search needs) returns-2 (λ c. search needs) (λ c κs. search needs)
     returns-3)

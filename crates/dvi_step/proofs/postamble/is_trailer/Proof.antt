@@ -8,15 +8,12 @@ use lib.ListN.{drop, length-drop}
 use lib.Seq.{drop-drop, getD-drop}
 use mir.Syntax.{w32}
 use mir.Val.{ofZ}
-use Rattle.integers.specs.Parts.{same-bits}
+use Rattle.integers.specs.Bits.{same-bits}
 use Rattle.octets.specs.Octets.{signedAt}
 use Rattle.dvi.specs.Postamble.{all223}
 use Rattle.dvi_step.proofs.Postambles.{trailer-short, trailer-off, trailer-byte, trailer-fill}
 use Rattle.dvi_step.proofs.postamble.is_trailer.Statement.{statement}
 use Rattle.dvi_step.proofs.postamble.is_trailer.Tie as tie
-
-sub-if1 : tie.Need-sub-if1
-sub-if1 c = search needs
 
 returns : tie.Need-returns
 returns c =
@@ -24,23 +21,11 @@ returns c =
     let n = length-drop (a .i) (a .s .now) in
     trailer-short (a .pst) (drop (a .i) (a .s .now)) (omega arith)
 
-signed4-at-requires : tie.Need-signed4-at-requires
-signed4-at-requires c κs = search needs
-
-cast-right : tie.Need-cast-right
-cast-right c = search needs
-
 returns-2 : tie.Need-returns-2
 returns-2 c =
     let a = c .before .before .before .before .args in
     let n = length-drop (a .i) (a .s .now) in
     trailer-off (a .pst) (drop (a .i) (a .s .now)) (omega arith) (λ e. c .if2 .taken (ap (ofZ w32) (c .before .signed4-at .ensures ∙ e)))
-
-add-if3 : tie.Need-add-if3
-add-if3 c = search needs
-
-shared-slice-read-if3 : tie.Need-shared-slice-read-if3
-shared-slice-read-if3 c = search needs
 
 -- the offset is PST's
 offset-is : (c : tie.Else2) → signedAt 4 (c .before .before .before .before .args .i) (c .before .before .before .before .args .s .now) ≡ pos (c .before .before .before .before .args .pst)
@@ -55,12 +40,6 @@ returns-3 c =
     let n = length-drop (a .i) s in
     trailer-byte (a .pst) (drop (a .i) s) (omega arith) (offset-is (c .before .before)) (λ e. c .if3 .taken (sym (getD-drop (a .i) s 4 0) ∙ e))
 
-add-is-filled : tie.Need-add-is-filled
-add-is-filled c = search needs
-
-is-filled-requires : tie.Need-is-filled-requires
-is-filled-requires c κs = search needs
-
 returns-4 : tie.Need-returns-4
 returns-4 c =
     let a = c .before .before .before .before .before .before .before .args in
@@ -74,14 +53,5 @@ pub is-trailer-spec : {M : Type 1} → statement M
 is-trailer-spec =
     tie.close
     (tie.spec
-    sub-if1
-    returns
-    signed4-at-requires
-    cast-right
-    returns-2
-    add-if3
-    shared-slice-read-if3
-    returns-3
-    add-is-filled
-    is-filled-requires
-    returns-4)
+    (λ c. search needs) returns (λ c κs. search needs) (λ c. search needs) returns-2 (λ c. search needs) (λ c. search needs)
+    returns-3 (λ c. search needs) (λ c κs. search needs) returns-4)

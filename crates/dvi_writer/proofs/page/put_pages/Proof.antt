@@ -2,14 +2,14 @@
 -- Assumes nothing.
 use mathlib.Core.Path.{_≡_, refl, ap, subst, _∙_}
 use mathlib.Core.List.{List}
-use Prim.Native.Nat.{ℕ, _+_, _≤_}
+use Prim.Native.Nat.{ℕ, _+_}
 use native.Mathlib.Omega.{arith}
 use borrow.Author.Needs.{needs}
 use lib.IntN.{ℤ, negsuc}
 use lib.ListN.{length}
 use Rattle.octets.specs.Octets.{bytes, signedBytes}
 use Rattle.octets.specs.Write.{Wrote, then, length-wrote}
-use Rattle.dvi.specs.Writer.{bopBytes, Writing, firstWriting, itemsBytes, writingAfterAll, pagesBytes}
+use Rattle.dvi.specs.Writer.{bopBytes, Writing, pagesBytes}
 use Rattle.dvi.specs.WriterLaws.{length-pages}
 use Rattle.galley_file.specs.declared.form.Form.the-variants.{New}
 use Rattle.galley_file.specs.Galley.{itemsOf}
@@ -41,9 +41,6 @@ put-byte-requires c κs =
     let v = c .before .before .before .put-items .ensures .0 in
     omega (arith, s .pre .1, length-pages (itemsOf New (s .args .g .now)), v .next-is, length-wrote w, length-wrote v)
 
-same-length : tie.Need-same-length
-same-length c = search needs
-
 returns : tie.Need-returns
 unfolding pagesBytes writingOf
 returns c =
@@ -53,4 +50,4 @@ returns c =
     (then b (then (v .0) (c .before .before .put-byte .ensures)), ap (λ (p : Writing). p .bop) (v .1 .writing-is))
 
 pub put-pages-spec : {M : Type 1} → statement M
-put-pages-spec = tie.close (tie.spec put-bop-requires put-items-requires put-byte-requires same-length returns)
+put-pages-spec = tie.close (tie.spec put-bop-requires put-items-requires put-byte-requires (λ c. search needs) returns)

@@ -1,22 +1,20 @@
 -- `galley_file::character::character_at` meets its contract: each part is read by its own rule.
 -- Assumes nothing.
 use mathlib.Core.Path.{_≡_, ap, _∙_}
-use Prim.Native.Nat.{ℕ, _+_, _-_, _≤_}
+use Prim.Native.Nat.{_+_, _-_, _≤_}
 use native.Mathlib.Omega.{arith}
 use borrow.Author.Needs.{needs}
 use lib.IntN.{pos}
 use lib.ListN.{length, getD}
 use mir.Syntax.{w32}
 use mir.Val.{SFits}
-use Rattle.integers.specs.Parts.{integers, plain-pos, returned}
-use Rattle.galley_file.specs.Form.{heightBytes, characterSize}
+use Rattle.integers.specs.Parts.{integers}
+use Rattle.integers.specs.Bits.{plain-pos, returned}
+use Rattle.galley_file.specs.Form.{heightBytes}
 use Rattle.galley_file.specs.FormLaws.{form-sizes}
 use Rattle.galley_file.specs.Character.{characterAt}
 use Rattle.galley_file.proofs.character.character_at.Statement.{statement}
 use Rattle.galley_file.proofs.character.character_at.Tie as tie
-
-character-size-requires : tie.Need-character-size-requires
-character-size-requires c κs = search needs
 
 -- the field's end, and its place in the slice
 module _ (c : tie.After-character-size) where
@@ -79,5 +77,5 @@ returns c =
 pub character-at-spec : {M : Type 1} → statement M
 character-at-spec =
     tie.close
-    (tie.spec character-size-requires add-end add-signed2-at signed2-at-requires add-height-at height-at-requires cast-height sub-t7
+    (tie.spec (λ c κs. search needs) add-end add-signed2-at signed2-at-requires add-height-at height-at-requires cast-height sub-t7
     shared-slice-read-t12 sub-t13 shared-slice-read-t15 returns)

@@ -6,25 +6,19 @@ use native.Mathlib.Omega.{arith}
 use borrow.Author.Needs.{needs}
 use lib.IntN.{pos}
 use lib.Signed.{leZ}
+use mir.Syntax.{w32}
+use mir.Val.{SFits, toZ, ofZ}
 use Rattle.integers.specs.Parts.{integers, false-leZ}
+use Rattle.integers.specs.Bits.{plain}
 use Rattle.octets.specs.Octets.{natAt}
 use Rattle.octets.specs.Field.{startsField}
 use Rattle.octets.specs.FieldLaws.{Starts, starts}
 use Rattle.galley_file.specs.Form.{characterTag, heightBytes, bodyBytes, greatestHeight}
-use Rattle.galley_file.specs.FormLaws.{form-sizes}
+use Rattle.galley_file.specs.FormLaws.{form-sizes, limit-fits, limit-abs}
 use Rattle.galley_file.specs.Character.{characterAt, isCharacter}
 use Rattle.galley_file.specs.CharacterLaws.{too-high}
 use Rattle.galley_file.proofs.character.is_character.Statement.{statement}
 use Rattle.galley_file.proofs.character.is_character.Tie as tie
-
-character-tag-requires : tie.Need-character-tag-requires
-character-tag-requires c κs = search needs
-
-body-bytes-requires : tie.Need-body-bytes-requires
-body-bytes-requires c κs = search needs
-
-starts-field-requires : tie.Need-starts-field-requires
-starts-field-requires c κs = search needs
 
 -- whether the field's head is a character's
 module _ (c : tie.After-starts-field) where
@@ -43,29 +37,35 @@ head c = starts (sym (head-is (c .before)) ∙ c .if1 .taken)
 height-at-requires : tie.Need-height-at-requires
 height-at-requires c κs = let f = form-sizes (start (c .before) .args .f) in omega (arith, head c .long, f .body-is)
 
-height-limit-requires : tie.Need-height-limit-requires
-height-limit-requires c κs = search needs
+-- the limit, as the test has it
+limit-is : (c : tie.After-greatest-height) → toZ w32 (ofZ w32 (c .greatest-height .result .0)) ≡ greatestHeight (start (c .before .before .before) .args .f)
+limit-is c = let f : SFits w32 (c .greatest-height .result .0) = search needs in plain f ∙ c .greatest-height .ensures
+
+cast-if2 : tie.Need-cast-if2
+cast-if2 c = rw (limit-is (c .before .before)) (limit-fits (start (c .before .before .before .before .before) .args .f))
 
 is-valid-first-requires : tie.Need-is-valid-first-requires
 is-valid-first-requires c κs =
-    let t = c .before .before .before in
+    let t = c .before .before .before .before .before in
     let f = form-sizes (start (t .before) .args .f) in
-    (omega (arith, head t .long, f .body-is, f .size-is), omega (integers, c .before .before .height-at .ensures, c .before .height-limit .ensures, c .if2 .taken))
+    let test = rw (limit-is (c .before .before .before)) at (c .if2 .taken) in
+    (omega (arith, head t .long, f .body-is, f .size-is), omega (integers, c .before .before .before .before .height-at .ensures, test, limit-abs (start (t .before) .args .f)))
 
 returns : tie.Need-returns
 unfolding isCharacter
 returns c =
-    let t = c .before .before .before .before in
+    let t = c .before .before .before .before .before .before in
     simp (sym (head-is (t .before)) ∙ t .if1 .taken) (c .is-valid-first .ensures)
 
 returns-2 : tie.Need-returns-2
 unfolding isCharacter characterAt
 returns-2 c =
-    let t = c .before .before .before in
+    let t = c .before .before .before .before .before in
     let a = start (t .before) .args in
     let s = a .s .now in
     let n = natAt (heightBytes (a .f)) 5 s in
-    let h : leZ (pos n) (greatestHeight (a .f)) ≡ false = false-leZ (pos n) (greatestHeight (a .f)) (omega (integers, c .before .before .height-at .ensures, c .before .height-limit .ensures, c .if2 .left)) in
+    let test = rw (limit-is (c .before .before .before)) at (c .if2 .left) in
+    let h : leZ (pos n) (greatestHeight (a .f)) ≡ false = false-leZ (pos n) (greatestHeight (a .f)) (omega (integers, c .before .before .before .before .height-at .ensures, test, limit-abs (a .f))) in
     simp (sym (head-is (t .before)) ∙ t .if1 .taken) (sym (too-high (greatestHeight (a .f)) (characterAt (a .f) s 0) h))
 
 returns-3 : tie.Need-returns-3
@@ -75,5 +75,5 @@ returns-3 c = simp (sym (head-is (c .before)) ∙ c .if1 .left)
 pub is-character-spec : {M : Type 1} → statement M
 is-character-spec =
     tie.close
-    (tie.spec character-tag-requires body-bytes-requires starts-field-requires height-at-requires height-limit-requires is-valid-first-requires
-    returns returns-2 returns-3)
+    (tie.spec (λ c κs. search needs) (λ c κs. search needs) (λ c κs. search needs) height-at-requires (λ c κs. search needs) cast-if2
+    is-valid-first-requires returns returns-2 returns-3)

@@ -22,17 +22,8 @@ use Rattle.galley_file.specs.Character.{validX, valid, characterAt}
 use Rattle.galley_file.proofs.character.is_valid_first.Statement.{statement}
 use Rattle.galley_file.proofs.character.is_valid_first.Tie as tie
 
-character-at-requires : tie.Need-character-at-requires
-character-at-requires c κs = search needs
-
 nat2-at-requires : tie.Need-nat2-at-requires
 nat2-at-requires c κs = let s = c .before .before in omega (arith, s .pre .0, form-sizes (s .args .f) .size-is)
-
-valid-beside-x-requires : tie.Need-valid-beside-x-requires
-valid-beside-x-requires c κs = search needs
-
-valid-but-height-requires : tie.Need-valid-but-height-requires
-valid-but-height-requires c κs = search needs
 
 -- an x of 0 to 3,184 is valid in every size
 every-size : (d : Bool) (n : ℕ) → n ≤ 3184 → validX d (pos n) ≡ true
@@ -66,10 +57,10 @@ module _ (c : tie.After-character-at) where
 returns : tie.Need-returns
 unfolding valid characterAt
 returns c =
-    let k = c .before .before .before in
+    let k = c .before .before .before .before .before in
     let a = start k in
     let s = a .args .s .now in
-    let n = c .before .before .nat2-at in
+    let n = c .before .before .before .before .nat2-at in
     let l : natAt 2 3 s ≤ 3184 = omega (arith, n .ensures .0, c .before .if1 .taken) in
     let x : signedAt 2 3 s ≡ pos (natAt 2 3 s) = signedAt-twos 2 3 s (omega (arith, a .pre .0, form-sizes (a .args .f) .size-is)) ∙ twos-low 65536 (natAt 2 3 s) (omega arith) in
     let e = every-size (isDouble (sizeIndex (getD s (0 + (heightBytes (a .args .f) + 5)) 0))) (natAt 2 3 s) l in
@@ -80,11 +71,12 @@ returns c =
 returns-2 : tie.Need-returns-2
 unfolding valid characterAt
 returns-2 c =
-    let k = c .before .before .before in
+    let k = c .before .before .before .before .before in
     c .valid-but-height .ensures
     ∙ ap (λ (g : Character). ltb (g .font) 120 && leb 1 (g .code) && leb (g .code) 108 && validX (isDouble (sizeIndex (g .font))) (g .x .0)) (k .character-at .ensures)
     ∙ sym (rest-decides k _)
 
 pub is-valid-first-spec : {M : Type 1} → statement M
 is-valid-first-spec =
-    tie.close (tie.spec character-at-requires nat2-at-requires valid-beside-x-requires valid-but-height-requires returns returns-2)
+    tie.close
+    (tie.spec (λ c κs. search needs) nat2-at-requires (λ c. search needs) (λ c κs. search needs) (λ c κs. search needs) returns returns-2)

@@ -1,30 +1,24 @@
 -- `galley_file::character::put_character` meets its contract: one write after the other.
 -- Assumes nothing.
-use mathlib.Core.Path.{_≡_, refl, sym, ap, _∙_}
-use mathlib.Core.List.{List, [], _∷_, _++_}
+use mathlib.Core.Path.{refl, sym, ap}
+use mathlib.Core.List.{_∷_, _++_}
 use Prim.Native.Nat.{ℕ, _+_, _≤_}
 use native.Mathlib.Omega.{arith}
 use borrow.Author.Needs.{needs}
 use lib.ListN.{length}
 use mir.Syntax.{w32}
 use mir.Val.{SFits}
-use Rattle.integers.specs.Parts.{plain}
+use Rattle.integers.specs.Bits.{plain}
 use Rattle.octets.specs.Octets.{bytes, signedBytes}
 use Rattle.octets.specs.OctetsLaws.{length-signedBytes}
 use Rattle.octets.specs.Field.{field}
-use Rattle.octets.specs.Write.{Wrote, room-after, then, named}
-use Rattle.galley_file.specs.Form.{characterTag, heightBytes, bodyBytes, characterSize}
+use Rattle.octets.specs.Write.{room-after, then, named}
+use Rattle.galley_file.specs.Form.{characterTag, heightBytes}
 use Rattle.galley_file.specs.FormLaws.{form-sizes}
 use Rattle.galley_file.specs.Character.{characterBody, characterField}
 use Rattle.galley_file.specs.CharacterLaws.{length-characterBody}
 use Rattle.galley_file.proofs.character.put_character.Statement.{statement}
 use Rattle.galley_file.proofs.character.put_character.Tie as tie
-
-character-tag-requires : tie.Need-character-tag-requires
-character-tag-requires c κs = search needs
-
-body-bytes-requires : tie.Need-body-bytes-requires
-body-bytes-requires c κs = search needs
 
 -- the room for the whole field
 room : (s : tie.Start) → s .args .at + (3 + (2 + (heightBytes (s .args .f) + 2))) ≤ length (s .args .out .now)
@@ -59,9 +53,6 @@ put-byte-requires c κs = omega (arith, after-height (c .before .before .before)
 put-byte-requires-2 : tie.Need-put-byte-requires-2
 put-byte-requires-2 c κs = room-after (c .before .before .before .put-byte .ensures) 1 1 refl (after-height (c .before .before .before .before .before .before .before))
 
-same-length : tie.Need-same-length
-same-length c = search needs
-
 returns : tie.Need-returns
 unfolding characterField characterBody field bytes
 returns c =
@@ -77,13 +68,5 @@ returns c =
 pub put-character-spec : {M : Type 1} → statement M
 put-character-spec =
     tie.close
-    (tie.spec
-    character-tag-requires
-    body-bytes-requires
-    put-head-requires
-    put-signed2-requires
-    put-height-requires
-    put-byte-requires
-    put-byte-requires-2
-    same-length
-    returns)
+    (tie.spec (λ c κs. search needs) (λ c κs. search needs) put-head-requires put-signed2-requires put-height-requires put-byte-requires
+    put-byte-requires-2 (λ c. search needs) returns)

@@ -1,25 +1,12 @@
 -- `galley_file::character::valid_but_height` meets its contract: x is tested by its size, and the rest beside it.
 -- Assumes nothing.
 use mathlib.Core.Path.{_≡_, ap, _∙_}
-use mathlib.Core.Bool.{Bool, _&&_}
+use mathlib.Core.Bool.{Bool}
 use borrow.Author.Needs.{needs}
-use lib.Dec.{leb, ltb}
 use Rattle.galley_file.specs.Font.{sizeIndex, isDouble}
 use Rattle.galley_file.specs.Character.{validX}
 use Rattle.galley_file.proofs.character.valid_but_height.Statement.{statement}
 use Rattle.galley_file.proofs.character.valid_but_height.Tie as tie
-
-size-index-requires : tie.Need-size-index-requires
-size-index-requires c κs = search needs
-
-is-double-requires : tie.Need-is-double-requires
-is-double-requires c κs = search needs
-
-valid-x-requires : tie.Need-valid-x-requires
-valid-x-requires c κs = search needs
-
-valid-beside-x-requires : tie.Need-valid-beside-x-requires
-valid-beside-x-requires c κs = search needs
 
 -- the test of x, in the character's own terms
 across : (c : tie.After-valid-x) → let g = c .before .before .before .args .c in c .valid-x .result ≡ validX (isDouble (sizeIndex (g .font))) (g .x .0)
@@ -32,4 +19,4 @@ returns : tie.Need-returns
 returns c = rw (← across (c .before)) (c .valid-beside-x .ensures)
 
 pub valid-but-height-spec : {M : Type 1} → statement M
-valid-but-height-spec = tie.close (tie.spec size-index-requires is-double-requires valid-x-requires valid-beside-x-requires returns)
+valid-but-height-spec = tie.close (tie.spec (λ c κs. search needs) (λ c κs. search needs) (λ c κs. search needs) (λ c κs. search needs) returns)

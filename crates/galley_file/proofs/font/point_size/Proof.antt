@@ -8,17 +8,8 @@ use Rattle.galley_file.specs.Font.{pointSizes}
 use Rattle.galley_file.proofs.font.point_size.Statement.{statement}
 use Rattle.galley_file.proofs.font.point_size.Tie as tie
 
-size-index-requires : tie.Need-size-index-requires
-size-index-requires c κs = search needs
-
-cast-i : tie.Need-cast-i
-cast-i c = search needs
-
-array-read-result : tie.Need-array-read-result
-array-read-result c = search needs
-
 returns : tie.Need-returns
 returns c = ap (λ (i : ℕ). getD pointSizes i 0) (c .size-index .ensures .0)
 
 pub point-size-spec : {M : Type 1} → statement M
-point-size-spec = tie.close (tie.spec size-index-requires cast-i array-read-result returns)
+point-size-spec = tie.close (tie.spec (λ c κs. search needs) (λ c. search needs) (λ c. search needs) returns)

@@ -4,12 +4,9 @@ use Rattle.galley_file.specs.Item.{isCut}
 use Rattle.galley_file.proofs.item.is_cut.Statement.{statement}
 use Rattle.galley_file.proofs.item.is_cut.Tie as tie
 
-starts-field-requires : tie.Need-starts-field-requires
-starts-field-requires c κs = search needs
-
 returns : tie.Need-returns
 unfolding isCut
 returns c = c .starts-field .ensures
 
 pub is-cut-spec : {M : Type 1} → statement M
-is-cut-spec = tie.close (tie.spec starts-field-requires returns)
+is-cut-spec = tie.close (tie.spec (λ c κs. search needs) returns)

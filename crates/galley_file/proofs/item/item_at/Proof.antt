@@ -1,7 +1,6 @@
 -- `galley_file::item::item_at` meets its contract.
-use mathlib.Core.Path.{ap, _∙_, sym}
+use mathlib.Core.Path.{ap}
 use native.Mathlib.Omega.{arith}
-use borrow.Author.Needs.{needs}
 use borrow.Author.Tests.{eq-eqb, ne-eqb}
 use Rattle.galley_file.specs.declared.item.Item.the-variants.{Placed}
 use Rattle.galley_file.specs.Item.{itemAt}

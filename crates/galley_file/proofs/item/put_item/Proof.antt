@@ -1,5 +1,5 @@
 -- `galley_file::item::put_item` meets its contract.
-use mathlib.Core.Path.{_≡_, refl, sym, ap, _∙_}
+use mathlib.Core.Path.{sym, ap}
 use native.Mathlib.Omega.{arith}
 use borrow.Author.Needs.{needs}
 use Rattle.octets.specs.Write.{named}
@@ -7,17 +7,11 @@ use Rattle.galley_file.specs.Item.{itemField, itemSize}
 use Rattle.galley_file.proofs.item.put_item.Statement.{statement}
 use Rattle.galley_file.proofs.item.put_item.Tie as tie
 
-enum-known-i : tie.Need-enum-known-i
-enum-known-i c = search needs
-
 put-character-requires : tie.Need-put-character-requires
 put-character-requires c κs =
     let f = c .before .before .before .before .before .args .f in
     let e = ap (itemSize f) (c .before .before .i .given .1) in
     omega (arith, e, c .before .before .before .before .before .pre)
-
-enum-told : tie.Need-enum-told
-enum-told c = search needs
 
 put-cut-requires : tie.Need-put-cut-requires
 put-cut-requires c κs =
@@ -25,16 +19,10 @@ put-cut-requires c κs =
     let e = ap (itemSize f) (c .before .enum-told .given .1) in
     omega (arith, e, c .before .before .before .before .pre)
 
-same-length : tie.Need-same-length
-same-length c = search needs
-
 returns : tie.Need-returns
 returns c =
     let f = c .before .before .before .before .before .before .before .before .args .f in
     named (ap (itemField f) (sym (c .before .before .before .before .before .i .given .1))) (c .before .before .put-character .ensures)
-
-same-length-2 : tie.Need-same-length-2
-same-length-2 c = search needs
 
 returns-2 : tie.Need-returns-2
 returns-2 c =
@@ -42,4 +30,7 @@ returns-2 c =
     named (ap (itemField f) (sym (c .before .before .before .before .enum-told .given .1))) (c .before .before .put-cut .ensures)
 
 pub put-item-spec : {M : Type 1} → statement M
-put-item-spec = tie.close (tie.spec enum-known-i put-character-requires enum-told put-cut-requires same-length returns same-length-2 returns-2)
+put-item-spec =
+    tie.close
+    (tie.spec (λ c. search needs) put-character-requires (λ c. search needs) put-cut-requires (λ c. search needs) returns (λ c. search needs)
+    returns-2)

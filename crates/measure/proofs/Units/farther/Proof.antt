@@ -4,7 +4,8 @@ use mathlib.Core.Path.{sym}
 use borrow.Author.Needs.{needs}
 use mir.Syntax.{w32}
 use mir.Val.{SFits}
-use Rattle.integers.specs.Parts.{plain, max-left, max-right}
+use Rattle.integers.specs.Parts.{max-left, max-right}
+use Rattle.integers.specs.Bits.{plain}
 use Rattle.measure.proofs.Units.farther.Statement.{statement}
 use Rattle.measure.proofs.Units.farther.Tie as tie
 

@@ -2,14 +2,15 @@
 -- Assumes nothing.
 use mathlib.Core.Path.{_≡_, ap, _∙_}
 use mathlib.Core.List.{List}
-use Prim.Native.Nat.{ℕ, _≤_, _<_}
+use Prim.Native.Nat.{_≤_, _<_}
 use borrow.Author.Needs.{needs}
 use lib.IntN.{ℤ, pos, negsuc, natAbs, _-ℤ_}
 use lib.ListN.{getD}
 use mir.Syntax.{w32}
 use mir.Val.{SFits, toZ, ofZ}
-use Rattle.integers.specs.Parts.{integers, up, dn, plain, dif-parts, abs-parts, range-parts, nonNeg-by}
-use Rattle.measure.specs.Target.{xTarget, placeOf}
+use Rattle.integers.specs.Parts.{integers, up, dn, dif-parts, abs-parts, range-parts, nonNeg-by}
+use Rattle.integers.specs.Bits.{plain}
+use Rattle.measure.specs.Target.{xTarget, entryX}
 use Rattle.measure.specs.TargetLaws.{target-parts, target-entry}
 use Rattle.measure.proofs.Units.target.Statement.{statement}
 use Rattle.measure.proofs.Units.target.Tie as tie
@@ -34,7 +35,7 @@ module _ (c : tie.After-struct-told) where
   index-below : natAbs index < 3295
   index-below = omega (integers, index-parts, abs-parts index)
 
-  place : placeOf (natAbs index) ≡ x
+  place : entryX (natAbs index) ≡ x
   place = omega (integers, index-parts, abs-parts index, dif-parts x (negsuc 54), dif-parts (pos (natAbs index)) (pos 55))
 
   target-fits : SFits w32 (xTarget x)

@@ -7,15 +7,6 @@ use Rattle.octets.specs.Answer.{outcomeOf, numbersOf}
 use Rattle.octets.proofs.answer.numbers.Statement.{statement}
 use Rattle.octets.proofs.answer.numbers.Tie as tie
 
-enum-known-a : tie.Need-enum-known-a
-enum-known-a c = search needs
-
-enum-known-a-2 : tie.Need-enum-known-a-2
-enum-known-a-2 c = search needs
-
-cast-t6 : tie.Need-cast-t6
-cast-t6 c = search needs
-
 returns : tie.Need-returns
 returns c = sym (ap (λ (a : Answer). numbersOf (outcomeOf a)) (c .before .a .given .1))
 
@@ -23,4 +14,4 @@ returns-2 : tie.Need-returns-2
 returns-2 c = sym (ap (λ (a : Answer). numbersOf (outcomeOf a)) (c .before .a2 .given .1))
 
 pub numbers-spec : {M : Type 1} → statement M
-numbers-spec = tie.close (tie.spec enum-known-a enum-known-a-2 cast-t6 returns returns-2)
+numbers-spec = tie.close (tie.spec (λ c. search needs) (λ c. search needs) (λ c. search needs) returns returns-2)

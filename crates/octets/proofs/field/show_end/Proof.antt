@@ -11,16 +11,10 @@ use Rattle.octets.proofs.field.show_end.Tie as tie
 put-end-requires : tie.Need-put-end-requires
 put-end-requires c κs = c .before .before .before .pre (c .before .if1 .taken)
 
-same-length : tie.Need-same-length
-same-length c = search needs
-
 returns : tie.Need-returns
 returns c =
     let a = c .before .before .before .before .before .before .args in
     c .before .before .put-end .ensures .buffer-is ∙ sym (ap (λ (w : Bool). putIf w (a .out .now) (a .to) (endField (a .count))) (c .before .before .before .before .if1 .taken))
 
-returns-2 : tie.Need-returns-2
-returns-2 c = search needs
-
 pub show-end-spec : {M : Type 1} → statement M
-show-end-spec = tie.close (tie.spec put-end-requires same-length returns returns-2)
+show-end-spec = tie.close (tie.spec put-end-requires (λ c. search needs) returns (λ c. search needs))

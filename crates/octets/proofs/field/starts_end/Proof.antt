@@ -10,14 +10,8 @@ use borrow.Author.Needs.{needs}
 use Rattle.octets.proofs.field.starts_end.Statement.{statement}
 use Rattle.octets.proofs.field.starts_end.Tie as tie
 
-starts-field-requires : tie.Need-starts-field-requires
-starts-field-requires c κs = search needs
-
 nat4-at-requires : tie.Need-nat4-at-requires
 nat4-at-requires c κs = let f = starts (sym (c .before .starts-field .ensures) ∙ c .if1 .taken) in omega (arith, f .long)
-
-cast-result : tie.Need-cast-result
-cast-result c = search needs
 
 returns : tie.Need-returns
 unfolding startsEnd
@@ -30,5 +24,4 @@ unfolding startsEnd
 returns-2 c = simp (sym (c .before .starts-field .ensures) ∙ c .if1 .left)
 
 pub starts-end-spec : {M : Type 1} → statement M
-starts-end-spec =
-    tie.close (tie.spec starts-field-requires nat4-at-requires cast-result returns returns-2)
+starts-end-spec = tie.close (tie.spec (λ c κs. search needs) nat4-at-requires (λ c. search needs) returns returns-2)

@@ -9,22 +9,13 @@ use borrow.Author.Needs.{needs}
 use Rattle.octets.proofs.field.starts_field.Statement.{statement}
 use Rattle.octets.proofs.field.starts_field.Tie as tie
 
-add-if1 : tie.Need-add-if1
-add-if1 c = search needs
-
 returns : tie.Need-returns
 unfolding startsField
 returns c = simp (lt-leb _ _ (c .if1 .taken))
 
-shared-slice-read-if2 : tie.Need-shared-slice-read-if2
-shared-slice-read-if2 c = search needs
-
 returns-2 : tie.Need-returns-2
 unfolding startsField
 returns-2 c = simp (le-leb _ _ (c .before .before .if1 .left), ne-eqb _ _ (c .if2 .taken))
-
-nat2-at-requires : tie.Need-nat2-at-requires
-nat2-at-requires c κs = search needs
 
 returns-3 : tie.Need-returns-3
 unfolding startsField
@@ -33,5 +24,4 @@ returns-3 c =
     simp (le-leb _ _ (c .before .before .before .if1 .left), eq-eqb _ _ (c .before .if2 .left)) (ap (λ (n : ℕ). eqb n (s .args .len)) (c .nat2-at .ensures .0))
 
 pub starts-field-spec : {M : Type 1} → statement M
-starts-field-spec =
-    tie.close (tie.spec add-if1 returns shared-slice-read-if2 returns-2 nat2-at-requires returns-3)
+starts-field-spec = tie.close (tie.spec (λ c. search needs) returns (λ c. search needs) returns-2 (λ c κs. search needs) returns-3)

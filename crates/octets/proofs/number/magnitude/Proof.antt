@@ -1,49 +1,30 @@
--- `octets::number::magnitude` meets its contract: -1 - z of a negative z is its size, and fits.
+-- `octets::number::magnitude` meets its contract: the bits of a negative number are its size, counted down from the largest.
 -- Assumes nothing.
-use lib.IntN.{pos, negsuc, _-ℤ_}
-use lib.Signed.{_<ℤ_, _≤ℤ_}
-use mir.Syntax.{w32}
-use mir.Val.{SFits}
-use Rattle.integers.specs.Parts.{integers, plain, bounds, dif-parts, abs-parts, nonNeg-by}
-use Rattle.octets.specs.OctetsLaws.{mag-negative, mag-natural}
+use mathlib.Core.Path.{_≡_, sym, ap, _∙_}
+use native.Mathlib.Omega.{arith}
+use borrow.Author.Needs.{needs}
+use Rattle.integers.specs.Parts.{integers}
+use Rattle.integers.specs.Bits.{plain}
+use Rattle.octets.specs.Octets.{residue}
+use Rattle.octets.specs.WordLaws.{residue-negative, residue-natural}
 use Rattle.octets.proofs.number.magnitude.Statement.{statement}
 use Rattle.octets.proofs.number.magnitude.Tie as tie
 
-negative : (c : tie.Then1) → c .before .args .z <ℤ pos 0
-negative c = let low = rw (plain (c .before .fits .z)) at (c .if1 .taken) in omega (integers, low)
-
-natural : (c : tie.Else1) → pos 0 ≤ℤ c .before .args .z
-natural c = let high = rw (plain (c .before .fits .z)) at (c .if1 .left) in omega (integers, high)
-
-below-fits : (c : tie.Then1) → SFits w32 (negsuc 0 -ℤ c .before .args .z)
-below-fits c =
-    omega (integers, negative c, bounds (c .before .fits .z), dif-parts (negsuc 0) (c .before .args .z))
-
-sub-result : tie.Need-sub-result
-sub-result c = rw (plain (c .before .fits .z)) (below-fits c)
-
-cast-result : tie.Need-cast-result
-cast-result c =
-    let z = c .before .args .z in
-    let d = dif-parts (negsuc 0) z in
-    rw (plain (c .before .fits .z), plain (below-fits c)) (
-      nonNeg-by (negsuc 0 -ℤ z) (omega (integers, negative c)),
-      omega (integers, bounds (below-fits c), abs-parts (negsuc 0 -ℤ z)),
-    )
-
-cast-result-2 : tie.Need-cast-result-2
-cast-result-2 c =
-    let z = c .before .args .z in
-    rw (plain (c .before .fits .z)) (
-      nonNeg-by z (omega (integers, natural c)),
-      omega (integers, bounds (c .before .fits .z), abs-parts z),
-    )
+bits-are : (c : tie.After-to-bits) → c .to-bits .result ≡ residue 4294967296 (c .before .args .z)
+bits-are c = c .to-bits .ensures ∙ ap (residue 4294967296) (plain (c .before .fits .z))
 
 returns : tie.Need-returns
-returns c = rw (plain (c .before .fits .z), plain (below-fits c)) (mag-negative (c .before .args .z) (negative c))
+returns c =
+    let s = c .before .before in
+    let low = rw (plain (s .fits .z)) at (c .if1 .taken) in
+    let e = residue-negative (s .args .z) (s .fits .z) (omega (integers, low)) in
+    omega (arith, bits-are (c .before), e, s .fits .z .sfits)
 
 returns-2 : tie.Need-returns-2
-returns-2 c = rw (plain (c .before .fits .z)) (mag-natural (c .before .args .z) (natural c))
+returns-2 c =
+    let s = c .before .before in
+    let high = rw (plain (s .fits .z)) at (c .if1 .left) in
+    bits-are (c .before) ∙ sym (residue-natural (s .args .z) (s .fits .z) (omega (integers, high)))
 
 pub magnitude-spec : {M : Type 1} → statement M
-magnitude-spec = tie.close (tie.spec sub-result cast-result cast-result-2 returns returns-2)
+magnitude-spec = tie.close (tie.spec (λ c κs. search needs) (λ c. search needs) returns returns-2)

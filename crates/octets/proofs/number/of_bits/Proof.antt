@@ -1,24 +1,16 @@
 -- `octets::number::of_bits` meets its contract: the upper half of the 32-bit numbers is negative.
 -- Assumes nothing.
-use mathlib.Core.Path.{_≡_, sym, ap, _∙_}
+use mathlib.Core.Path.{_≡_, sym, _∙_}
 use Prim.Native.Nat.{suc, _-_}
 use lib.IntN.{pos, negsuc, _-ℤ_}
 use mir.Syntax.{w32}
 use mir.Val.{SFits}
-use Rattle.integers.specs.Parts.{integers, plain, plain-pos, dif-parts}
+use Rattle.integers.specs.Parts.{integers, dif-parts}
+use Rattle.integers.specs.Bits.{plain, plain-pos}
 use Rattle.octets.specs.OctetsLaws.{twos-low, twos-high}
 use borrow.Author.Needs.{needs}
 use Rattle.octets.proofs.number.of_bits.Statement.{statement}
 use Rattle.octets.proofs.number.of_bits.Tie as tie
-
-cast-result : tie.Need-cast-result
-cast-result c = search needs
-
-sub-result : tie.Need-sub-result
-sub-result c = search needs
-
-cast-result-2 : tie.Need-cast-result-2
-cast-result-2 c = search needs
 
 sub-result-2 : tie.Need-sub-result-2
 sub-result-2 c =
@@ -41,5 +33,4 @@ returns-2 c =
     rw (plain-pos f, plain g) (d ∙ sym (twos-high 4294967296 v (omega integers)))
 
 pub of-bits-spec : {M : Type 1} → statement M
-of-bits-spec =
-    tie.close (tie.spec cast-result sub-result cast-result-2 sub-result-2 returns returns-2)
+of-bits-spec = tie.close (tie.spec (λ c. search needs) (λ c. search needs) (λ c. search needs) sub-result-2 returns returns-2)

@@ -1,29 +1,17 @@
 -- `octets::number::put_signed1` meets its contract: the last of the four bytes.
 -- Assumes nothing.
 use mathlib.Core.Path.{_≡_, ap, _∙_}
-use mathlib.Core.List.{List, [], _∷_}
+use mathlib.Core.List.{[], _∷_}
 use Prim.Native.Nat.{ℕ, _%_}
 use native.Mathlib.Nat.{div-one}
 use native.Mathlib.Omega.{arith}
 use borrow.Author.Needs.{needs}
-use Rattle.integers.specs.Parts.{plain}
+use Rattle.integers.specs.Bits.{plain}
 use Rattle.octets.specs.Octets.{bytes, residue}
 use Rattle.octets.specs.OctetsLaws.{word-bytes}
 use Rattle.octets.specs.Write.{named}
 use Rattle.octets.proofs.number.put_signed1.Statement.{statement}
 use Rattle.octets.proofs.number.put_signed1.Tie as tie
-
-to-bits-requires : tie.Need-to-bits-requires
-to-bits-requires c κs = search needs
-
-cast-put-byte : tie.Need-cast-put-byte
-cast-put-byte c = search needs
-
-put-byte-requires : tie.Need-put-byte-requires
-put-byte-requires c κs = search needs
-
-same-length : tie.Need-same-length
-same-length c = search needs
 
 last-byte : (n : ℕ) → n % 256 ∷ [] ≡ bytes 1 n
 unfolding bytes
@@ -37,4 +25,4 @@ returns c =
     named (last-byte (n .result) ∙ ap (bytes 1) e ∙ word-bytes 1 (s .args .z) (omega arith)) (c .before .before .put-byte .ensures)
 
 pub put-signed1-spec : {M : Type 1} → statement M
-put-signed1-spec = tie.close (tie.spec to-bits-requires cast-put-byte put-byte-requires same-length returns)
+put-signed1-spec = tie.close (tie.spec (λ c κs. search needs) (λ c. search needs) (λ c κs. search needs) (λ c. search needs) returns)

@@ -3,21 +3,12 @@
 use Rattle.octets.specs.Write.{named}
 use mathlib.Core.Path.{_≡_, ap, _∙_}
 use native.Mathlib.Omega.{arith}
-use Rattle.integers.specs.Parts.{plain}
+use Rattle.integers.specs.Bits.{plain}
 use Rattle.octets.specs.Octets.{bytes, residue}
 use Rattle.octets.specs.OctetsLaws.{word-bytes}
 use borrow.Author.Needs.{needs}
 use Rattle.octets.proofs.number.put_signed4.Statement.{statement}
 use Rattle.octets.proofs.number.put_signed4.Tie as tie
-
-to-bits-requires : tie.Need-to-bits-requires
-to-bits-requires c κs = search needs
-
-put-nat4-requires : tie.Need-put-nat4-requires
-put-nat4-requires c κs = search needs
-
-same-length : tie.Need-same-length
-same-length c = search needs
 
 returns : tie.Need-returns
 returns c =
@@ -26,4 +17,4 @@ returns c =
     named (ap (bytes 4) e ∙ word-bytes 4 (s .args .z) (omega arith)) (c .before .before .put-nat4 .ensures)
 
 pub put-signed4-spec : {M : Type 1} → statement M
-put-signed4-spec = tie.close (tie.spec to-bits-requires put-nat4-requires same-length returns)
+put-signed4-spec = tie.close (tie.spec (λ c κs. search needs) (λ c κs. search needs) (λ c. search needs) returns)

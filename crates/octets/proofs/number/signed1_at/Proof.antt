@@ -3,22 +3,10 @@
 use mathlib.Core.Path.{sym, _∙_}
 use Prim.Native.Nat.{_<_}
 use native.Mathlib.Omega.{arith}
-use Rattle.octets.specs.OctetsLaws.{natAt-one, signedAt-shifted}
+use Rattle.octets.specs.WordLaws.{natAt-one, signedAt-shifted}
 use borrow.Author.Needs.{needs}
 use Rattle.octets.proofs.number.signed1_at.Statement.{statement}
 use Rattle.octets.proofs.number.signed1_at.Tie as tie
-
-shared-slice-read-wide : tie.Need-shared-slice-read-wide
-shared-slice-read-wide c = search needs
-
-wide-requires : tie.Need-wide-requires
-wide-requires c κs = search needs
-
-mul-of-bits : tie.Need-mul-of-bits
-mul-of-bits c = search needs
-
-of-bits-requires : tie.Need-of-bits-requires
-of-bits-requires c κs = search needs
 
 returns : tie.Need-returns
 returns c =
@@ -30,5 +18,4 @@ returns c =
     (λ h. (omega arith, omega arith)) (λ h. (omega arith, omega arith))
 
 pub signed1-at-spec : {M : Type 1} → statement M
-signed1-at-spec =
-    tie.close (tie.spec shared-slice-read-wide wide-requires mul-of-bits of-bits-requires returns)
+signed1-at-spec = tie.close (tie.spec (λ c. search needs) (λ c κs. search needs) (λ c. search needs) (λ c κs. search needs) returns)

@@ -2,19 +2,10 @@
 -- Assumes nothing.
 use Prim.Native.Nat.{_<_}
 use native.Mathlib.Omega.{arith}
-use Rattle.octets.specs.OctetsLaws.{signedAt-shifted}
+use Rattle.octets.specs.WordLaws.{signedAt-shifted}
 use borrow.Author.Needs.{needs}
 use Rattle.octets.proofs.number.signed2_at.Statement.{statement}
 use Rattle.octets.proofs.number.signed2_at.Tie as tie
-
-nat2-at-requires : tie.Need-nat2-at-requires
-nat2-at-requires c κs = search needs
-
-mul-of-bits : tie.Need-mul-of-bits
-mul-of-bits c = search needs
-
-of-bits-requires : tie.Need-of-bits-requires
-of-bits-requires c κs = search needs
 
 returns : tie.Need-returns
 returns c =
@@ -25,4 +16,4 @@ returns c =
     (λ h. (omega arith, omega arith)) (λ h. (omega arith, omega arith))
 
 pub signed2-at-spec : {M : Type 1} → statement M
-signed2-at-spec = tie.close (tie.spec nat2-at-requires mul-of-bits of-bits-requires returns)
+signed2-at-spec = tie.close (tie.spec (λ c κs. search needs) (λ c. search needs) (λ c κs. search needs) returns)

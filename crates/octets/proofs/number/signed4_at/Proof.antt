@@ -2,18 +2,12 @@
 -- Assumes nothing.
 use mathlib.Core.Path.{sym, ap, _∙_}
 use mir.Syntax.{w32}
-use Rattle.integers.specs.Parts.{returned}
+use Rattle.integers.specs.Bits.{returned}
 use Rattle.octets.specs.Octets.{twos}
 use Rattle.octets.specs.OctetsLaws.{signedAt-twos}
 use borrow.Author.Needs.{needs}
 use Rattle.octets.proofs.number.signed4_at.Statement.{statement}
 use Rattle.octets.proofs.number.signed4_at.Tie as tie
-
-nat4-at-requires : tie.Need-nat4-at-requires
-nat4-at-requires c κs = search needs
-
-of-bits-requires : tie.Need-of-bits-requires
-of-bits-requires c κs = search needs
 
 returns : tie.Need-returns
 returns c =
@@ -23,4 +17,4 @@ returns c =
     ∙ sym (signedAt-twos 4 (s .args .at) (s .args .s .now) (s .pre))
 
 pub signed4-at-spec : {M : Type 1} → statement M
-signed4-at-spec = tie.close (tie.spec nat4-at-requires of-bits-requires returns)
+signed4-at-spec = tie.close (tie.spec (λ c κs. search needs) (λ c κs. search needs) returns)

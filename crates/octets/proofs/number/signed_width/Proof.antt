@@ -6,13 +6,10 @@ use native.Mathlib.Omega.{arith}
 use borrow.Author.Needs.{needs}
 use borrow.Author.Tests.{lt-ltb, le-ltb}
 use lib.Signed.{mag}
-use Rattle.integers.specs.Parts.{plain}
+use Rattle.integers.specs.Bits.{plain}
 use Rattle.octets.specs.Octets.{widthOf}
 use Rattle.octets.proofs.number.signed_width.Statement.{statement}
 use Rattle.octets.proofs.number.signed_width.Tie as tie
-
-magnitude-requires : tie.Need-magnitude-requires
-magnitude-requires c κs = search needs
 
 size : (c : tie.After-magnitude) → c .magnitude .result ≡ mag (c .before .args .z)
 size c = c .magnitude .ensures ∙ ap mag (plain (c .before .fits .z))
@@ -38,4 +35,4 @@ returns-3 c =
     (rw (le-ltb _ _ l, le-ltb _ _ h), omega arith)
 
 pub signed-width-spec : {M : Type 1} → statement M
-signed-width-spec = tie.close (tie.spec magnitude-requires returns returns-2 returns-3)
+signed-width-spec = tie.close (tie.spec (λ c κs. search needs) returns returns-2 returns-3)

@@ -1,14 +1,14 @@
 -- `octets::number::to_bits` meets its contract: a negative number's bits are counted down from the largest.
 -- Assumes nothing.
-use mathlib.Core.Path.{_≡_, sym, ap, _∙_}
-use Prim.Native.Nat.{_-_}
-use lib.IntN.{pos, negsuc, natAbs, _-ℤ_}
+use mathlib.Core.Path.{ap, _∙_}
+use Prim.Native.Nat.{ℕ, _-_}
+use lib.IntN.{pos, negsuc, _-ℤ_}
 use lib.Signed.{_<ℤ_, _≤ℤ_}
 use mir.Syntax.{w32}
 use mir.Val.{SFits}
-use Rattle.integers.specs.Parts.{integers, plain, bounds, dif-parts, abs-parts, nonNeg-by}
-use Rattle.octets.specs.Octets.{residue}
-use Rattle.octets.specs.OctetsLaws.{residue-negative, residue-natural}
+use Rattle.integers.specs.Parts.{integers, bounds, dif-parts, abs-parts, nonNeg-by}
+use Rattle.integers.specs.Bits.{plain}
+use Rattle.octets.specs.WordLaws.{mag-negative, mag-natural, residue-negative, residue-natural}
 use Rattle.octets.proofs.number.to_bits.Statement.{statement}
 use Rattle.octets.proofs.number.to_bits.Tie as tie
 
@@ -49,11 +49,14 @@ cast-result-2 c =
 
 returns : tie.Need-returns
 returns c =
-    rw (plain (c .before .fits .z), plain (below-fits c)) (residue-negative (c .before .args .z) (c .before .fits .z) (negative c))
+    let z = c .before .args .z in
+    rw (plain (c .before .fits .z), plain (below-fits c))
+    (ap (λ (n : ℕ). 4294967295 - n) (mag-negative z (negative c)) ∙ residue-negative z (c .before .fits .z) (negative c))
 
 returns-2 : tie.Need-returns-2
-returns-2 c = rw (plain (c .before .fits .z)) (residue-natural (c .before .args .z) (c .before .fits .z) (natural c))
+returns-2 c =
+    let z = c .before .args .z in
+    rw (plain (c .before .fits .z)) (mag-natural z (natural c) ∙ residue-natural z (c .before .fits .z) (natural c))
 
 pub to-bits-spec : {M : Type 1} → statement M
-to-bits-spec =
-    tie.close (tie.spec sub-result cast-result sub-result-2 cast-result-2 returns returns-2)
+to-bits-spec = tie.close (tie.spec sub-result cast-result sub-result-2 cast-result-2 returns returns-2)

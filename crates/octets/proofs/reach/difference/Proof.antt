@@ -2,7 +2,7 @@
 -- Assumes nothing.
 use mathlib.Core.Path.{ap, _∙_}
 use borrow.Author.Needs.{needs}
-use Rattle.integers.specs.Parts.{plain, wide, widened, dif-fits, widened-dif}
+use Rattle.integers.specs.Bits.{plain, wide, widened, dif-fits, widened-dif}
 use Rattle.octets.specs.Reach.{reach}
 use Rattle.octets.proofs.reach.difference.Statement.{statement}
 use Rattle.octets.proofs.reach.difference.Tie as tie
@@ -16,11 +16,8 @@ cast-narrowed-2 c = rw (plain (c .fits .b)) (wide (c .fits .b))
 sub-narrowed : tie.Need-sub-narrowed
 sub-narrowed c = rw (widened (c .fits .a), widened (c .fits .b)) (dif-fits (c .fits .a) (c .fits .b))
 
-narrowed-requires : tie.Need-narrowed-requires
-narrowed-requires c κs = search needs
-
 returns : tie.Need-returns
 returns c = let f = c .before .fits in c .narrowed .ensures ∙ ap reach (widened-dif (f .a) (f .b))
 
 pub difference-spec : {M : Type 1} → statement M
-difference-spec = tie.close (tie.spec cast-narrowed cast-narrowed-2 sub-narrowed narrowed-requires returns)
+difference-spec = tie.close (tie.spec cast-narrowed cast-narrowed-2 sub-narrowed (λ c κs. search needs) returns)

@@ -2,7 +2,8 @@
 -- Assumes nothing.
 use mir.Syntax.{w32}
 use mir.Val.{SFits}
-use Rattle.integers.specs.Parts.{integers, plain}
+use Rattle.integers.specs.Parts.{integers}
+use Rattle.integers.specs.Bits.{plain}
 use Rattle.octets.specs.Octets.{fits32}
 use Rattle.octets.specs.Reach.{reach}
 use Rattle.octets.proofs.reach.narrowed.Statement.{statement}

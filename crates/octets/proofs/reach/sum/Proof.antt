@@ -2,7 +2,7 @@
 -- Assumes nothing.
 use mathlib.Core.Path.{ap, _∙_}
 use borrow.Author.Needs.{needs}
-use Rattle.integers.specs.Parts.{plain, wide, widened, sum-fits, widened-sum}
+use Rattle.integers.specs.Bits.{plain, wide, widened, sum-fits, widened-sum}
 use Rattle.octets.specs.Reach.{reach}
 use Rattle.octets.proofs.reach.sum.Statement.{statement}
 use Rattle.octets.proofs.reach.sum.Tie as tie
@@ -16,11 +16,8 @@ cast-narrowed-2 c = rw (plain (c .fits .b)) (wide (c .fits .b))
 add-narrowed : tie.Need-add-narrowed
 add-narrowed c = rw (widened (c .fits .a), widened (c .fits .b)) (sum-fits (c .fits .a) (c .fits .b))
 
-narrowed-requires : tie.Need-narrowed-requires
-narrowed-requires c κs = search needs
-
 returns : tie.Need-returns
 returns c = let f = c .before .fits in c .narrowed .ensures ∙ ap reach (widened-sum (f .a) (f .b))
 
 pub sum-spec : {M : Type 1} → statement M
-sum-spec = tie.close (tie.spec cast-narrowed cast-narrowed-2 add-narrowed narrowed-requires returns)
+sum-spec = tie.close (tie.spec cast-narrowed cast-narrowed-2 add-narrowed (λ c κs. search needs) returns)

@@ -6,9 +6,6 @@ use Rattle.punch_codes.specs.Codes.{flashFor}
 use Rattle.punch_codes.proofs.item.flash_for.Statement.{statement}
 use Rattle.punch_codes.proofs.item.flash_for.Tie as tie
 
-sub-result : tie.Need-sub-result
-sub-result c = search needs
-
 returns : tie.Need-returns
 unfolding flashFor
 returns c = rw (lt-ltb 63 (c .before .args .code) (c .if1 .taken))
@@ -18,4 +15,4 @@ unfolding flashFor
 returns-2 c = rw (le-ltb 63 (c .before .args .code) (c .if1 .left))
 
 pub flash-for-spec : {M : Type 1} → statement M
-flash-for-spec = tie.close (tie.spec sub-result returns returns-2)
+flash-for-spec = tie.close (tie.spec (λ c. search needs) returns returns-2)

@@ -31,9 +31,6 @@ put-moving-requires c κs =
           (space-then (settingCodes (a .s) (a .t)) (movingCodes (a .s) (a .t) ++ (flashFor (a .c .code) ∷ [])) (c .before .before .before .put-setting .ensures) (space-named (character-codes (a .s) (a .t) (a .c) (p .0 .1)) (p .1 .1))),
     )
 
-flash-for-requires : tie.Need-flash-for-requires
-flash-for-requires c κs = search needs
-
 put-code-requires : tie.Need-put-code-requires
 put-code-requires c κs =
     let a = c .before .before .before .before .before .before .before .before .before .before .before .args in
@@ -41,9 +38,6 @@ put-code-requires c κs =
     space-named (ap (λ (b : ℕ). b ∷ []) (sym (c .flash-for .ensures)))
     (space-then (movingCodes (a .s) (a .t)) (flashFor (a .c .code) ∷ []) (c .before .before .before .before .put-moving .ensures)
     (space-then (settingCodes (a .s) (a .t)) (movingCodes (a .s) (a .t) ++ (flashFor (a .c .code) ∷ [])) (c .before .before .before .before .before .before .before .before .put-setting .ensures) (space-named (character-codes (a .s) (a .t) (a .c) (p .0 .1)) (p .1 .1))))
-
-same-length : tie.Need-same-length
-same-length c = search needs
 
 returns : tie.Need-returns
 returns c =
@@ -53,4 +47,6 @@ returns c =
     (put-then (c .before .before .before .before .before .before .before .before .before .before .before .put-setting .ensures) (put-then (c .before .before .before .before .before .before .before .put-moving .ensures) (put-named (ap (λ (b : ℕ). b ∷ []) (c .before .before .before .flash-for .ensures)) (c .before .before .put-code .ensures))))
 
 pub put-character-spec : {M : Type 1} → statement M
-put-character-spec = tie.close (tie.spec put-setting-requires put-moving-requires flash-for-requires put-code-requires same-length returns)
+put-character-spec =
+    tie.close
+    (tie.spec put-setting-requires put-moving-requires (λ c κs. search needs) put-code-requires (λ c. search needs) returns)

@@ -37,12 +37,9 @@ put-switch-requires-3 c κs =
     space-then (mag (a .s) (a .t)) (tilt (a .s) (a .t)) (c .before .before .before .put-switch2 .ensures)
     (space-then (rail (a .s) (a .t)) (mag (a .s) (a .t) ++ tilt (a .s) (a .t)) (c .before .before .before .before .before .before .before .put-switch .ensures) (c .before .before .before .before .before .before .before .before .before .before .pre))
 
-same-length : tie.Need-same-length
-same-length c = search needs
-
 returns : tie.Need-returns
 unfolding fontCodes
 returns c = put-then (c .before .before .before .before .before .before .before .before .before .before .put-switch .ensures) (put-then (c .before .before .before .before .before .before .put-switch2 .ensures) (c .before .before .put-switch3 .ensures))
 
 pub put-font-spec : {M : Type 1} → statement M
-put-font-spec = tie.close (tie.spec put-switch-requires put-switch-requires-2 put-switch-requires-3 same-length returns)
+put-font-spec = tie.close (tie.spec put-switch-requires put-switch-requires-2 put-switch-requires-3 (λ c. search needs) returns)

@@ -11,9 +11,6 @@ use Rattle.octets.specs.Space.{space-named, space-first, space-then}
 use Rattle.punch_codes.proofs.item.put_item.Statement.{statement}
 use Rattle.punch_codes.proofs.item.put_item.Tie as tie
 
-enum-known-i : tie.Need-enum-known-i
-enum-known-i c = search needs
-
 put-character-requires : tie.Need-put-character-requires
 unfolding stateAfter
 put-character-requires c κs =
@@ -21,9 +18,6 @@ put-character-requires c κs =
     let p = c .before .before .before .before .before .pre in
     let e = c .before .before .i .given .1 in
     ((p .0 .0, p .0 .1 ∙ ap (stateAfter (a .s)) e), (sym (ap (validItem heightEnd) e) ∙ p .1 .0, space-named (ap (itemCodes (a .s)) e) (p .1 .1)))
-
-enum-told : tie.Need-enum-told
-enum-told c = search needs
 
 put-code-requires : tie.Need-put-code-requires
 unfolding itemCodes
@@ -33,14 +27,8 @@ put-start-requires : tie.Need-put-start-requires
 unfolding itemCodes
 put-start-requires c κs = space-then (0x4B ∷ []) startCodes (c .before .before .before .put-code .ensures) (space-named (ap (itemCodes (c .before .before .before .before .before .before .before .before .args .s)) (c .before .before .before .before .before .enum-told .given .1)) (c .before .before .before .before .before .before .before .before .pre .1 .1))
 
-same-length : tie.Need-same-length
-same-length c = search needs
-
 returns : tie.Need-returns
 returns c = put-named (ap (itemCodes (c .before .before .before .before .before .before .before .before .args .s)) (sym (c .before .before .before .before .before .i .given .1))) (c .before .before .put-character .ensures)
-
-same-length-2 : tie.Need-same-length-2
-same-length-2 c = search needs
 
 returns-2 : tie.Need-returns-2
 unfolding itemCodes
@@ -49,4 +37,5 @@ returns-2 c = put-named (ap (itemCodes (c .before .before .before .before .befor
 pub put-item-spec : {M : Type 1} → statement M
 put-item-spec =
     tie.close
-    (tie.spec enum-known-i put-character-requires enum-told put-code-requires put-start-requires same-length returns same-length-2 returns-2)
+    (tie.spec (λ c. search needs) put-character-requires (λ c. search needs) put-code-requires put-start-requires (λ c. search needs)
+    returns (λ c. search needs) returns-2)

@@ -5,7 +5,8 @@ use native.Mathlib.Omega.{arith}
 use borrow.Author.Needs.{needs}
 use mir.Syntax.{w32}
 use mir.Val.{SFits}
-use Rattle.integers.specs.Parts.{integers, plain}
+use Rattle.integers.specs.Parts.{integers}
+use Rattle.integers.specs.Bits.{plain}
 use Rattle.punch_codes.specs.declared.put.Axis.{Axis}
 use Rattle.punch_codes.specs.Codes.{escapes, leads, motionCodes, movingCodes}
 use Rattle.octets.specs.Write.{put-named, put-then}
@@ -28,9 +29,6 @@ module _ (s : tie.Start) where
   to-y : SFits w32 (s .args .t .height .0)
   to-y = omega (integers, s .pre .0 .1 .height-in .low, s .pre .0 .1 .height-in .high)
 
-escapes-requires : tie.Need-escapes-requires
-escapes-requires c κs = search needs
-
 put-motion-requires : tie.Need-put-motion-requires
 unfolding movingCodes
 put-motion-requires c κs =
@@ -43,9 +41,6 @@ put-motion-requires c κs =
       space-named (sym (same-motion (a .s .modes .«escape_back») (a .t .modes .«escape_back») e (plain (from-x s)) (plain (to-x s))))
           (space-first (motionCodes escapes (a .s .modes .«escape_back») (a .t .modes .«escape_back») (a .s .carriage .0) (a .t .carriage .0)) (motionCodes leads (a .s .modes .«lead_back») (a .t .modes .«lead_back») (a .s .height .0) (a .t .height .0)) (s .pre .1)),
     )
-
-leads-requires : tie.Need-leads-requires
-leads-requires c κs = search needs
 
 put-motion-requires-2 : tie.Need-put-motion-requires-2
 unfolding movingCodes
@@ -61,9 +56,6 @@ put-motion-requires-2 c κs =
           (space-then (motionCodes escapes (a .s .modes .«escape_back») (a .t .modes .«escape_back») (a .s .carriage .0) (a .t .carriage .0)) (motionCodes leads (a .s .modes .«lead_back») (a .t .modes .«lead_back») (a .s .height .0) (a .t .height .0)) p (s .pre .1)),
     )
 
-same-length : tie.Need-same-length
-same-length c = search needs
-
 returns : tie.Need-returns
 unfolding movingCodes
 returns c =
@@ -73,4 +65,6 @@ returns c =
     (put-named (same-motion (a .s .modes .«lead_back») (a .t .modes .«lead_back») (c .before .before .before .before .before .leads .ensures) (plain (from-y s)) (plain (to-y s))) (c .before .before .put-motion2 .ensures))
 
 pub put-moving-spec : {M : Type 1} → statement M
-put-moving-spec = tie.close (tie.spec escapes-requires put-motion-requires leads-requires put-motion-requires-2 same-length returns)
+put-moving-spec =
+    tie.close
+    (tie.spec (λ c κs. search needs) put-motion-requires (λ c κs. search needs) put-motion-requires-2 (λ c. search needs) returns)

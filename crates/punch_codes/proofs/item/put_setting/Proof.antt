@@ -33,12 +33,9 @@ put-size-requires c κs =
           (space-then (fontCodes (a .s .modes) (a .t .modes)) (half (a .s) (a .t) ++ sizeCodes (a .s .size) (a .t .size)) (c .before .before .before .before .before .before .before .put-font .ensures) (c .before .before .before .before .before .before .before .before .before .before .pre .1)),
     )
 
-same-length : tie.Need-same-length
-same-length c = search needs
-
 returns : tie.Need-returns
 unfolding settingCodes
 returns c = put-then (c .before .before .before .before .before .before .before .before .before .before .put-font .ensures) (put-then (c .before .before .before .before .before .before .put-switch .ensures) (c .before .before .put-size .ensures))
 
 pub put-setting-spec : {M : Type 1} → statement M
-put-setting-spec = tie.close (tie.spec put-font-requires put-switch-requires put-size-requires same-length returns)
+put-setting-spec = tie.close (tie.spec put-font-requires put-switch-requires put-size-requires (λ c. search needs) returns)

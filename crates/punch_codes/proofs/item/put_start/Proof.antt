@@ -13,11 +13,8 @@ put-code-requires c κs = space-first (0x40 ∷ []) (0xEF ∷ []) (c .before .be
 put-code-requires-2 : tie.Need-put-code-requires-2
 put-code-requires-2 c κs = space-then (0x40 ∷ []) (0xEF ∷ []) (c .before .before .before .put-code .ensures) (c .before .before .before .before .before .before .pre)
 
-same-length : tie.Need-same-length
-same-length c = search needs
-
 returns : tie.Need-returns
 returns c = put-then (c .before .before .before .before .before .before .put-code .ensures) (c .before .before .put-code2 .ensures)
 
 pub put-start-spec : {M : Type 1} → statement M
-put-start-spec = tie.close (tie.spec put-code-requires put-code-requires-2 same-length returns)
+put-start-spec = tie.close (tie.spec put-code-requires put-code-requires-2 (λ c. search needs) returns)

@@ -4,7 +4,8 @@ use lib.IntN.{_-ℤ_}
 use lib.Signed.{_<ℤ_, _≤ℤ_}
 use mir.Syntax.{w32}
 use mir.Val.{SFits}
-use Rattle.integers.specs.Parts.{integers, plain, bounds, dif-parts, abs-parts, nonNeg-by}
+use Rattle.integers.specs.Parts.{integers, bounds, dif-parts, abs-parts, nonNeg-by}
+use Rattle.integers.specs.Bits.{plain}
 use Rattle.punch_codes.proofs.Sends.{either-end}
 use Rattle.punch_codes.proofs.put.distance.Statement.{statement}
 use Rattle.punch_codes.proofs.put.distance.Tie as tie

@@ -10,20 +10,8 @@ use Rattle.punch_codes.proofs.put.put_code.Tie as tie
 slice-write-out : tie.Need-slice-write-out
 slice-write-out c = omega (arith, c .before .pre .room (c .if1 .taken))
 
-add-result : tie.Need-add-result
-add-result c = search needs
-
-same-length : tie.Need-same-length
-same-length c = search needs
-
 returns : tie.Need-returns
 returns c = put-written (c .if1 .taken) (record { buffer-is = refl; next-is = refl })
 
-add-result-2 : tie.Need-add-result-2
-add-result-2 c = search needs
-
-returns-2 : tie.Need-returns-2
-returns-2 c = search needs
-
 pub put-code-spec : {M : Type 1} → statement M
-put-code-spec = tie.close (tie.spec slice-write-out add-result same-length returns add-result-2 returns-2)
+put-code-spec = tie.close (tie.spec slice-write-out (λ c. search needs) (λ c. search needs) returns (λ c. search needs) (λ c. search needs))

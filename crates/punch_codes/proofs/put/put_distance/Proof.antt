@@ -25,16 +25,10 @@ put-remainder-requires c κs =
     let a = s .args in
     ((omega (arith, short (c .before)), s .pre .0 .1), space-named (distance-short (a .longest) (a .code) (a .n) (short (c .before))) (s .pre .1))
 
-same-length : tie.Need-same-length
-same-length c = search needs
-
 returns : tie.Need-returns
 returns c =
     let a = c .before .before .before .before .before .before .args in
     put-named (sym (distance-short (a .longest) (a .code) (a .n) (short (c .before .before .before .before)))) (c .before .before .put-remainder .ensures)
-
-div-put-run : tie.Need-div-put-run
-div-put-run c = search needs
 
 cast-put-run : tie.Need-cast-put-run
 cast-put-run c = let a = c .before .before .before .args in omega (arith, div-le-self (a .n) (a .longest))
@@ -44,9 +38,6 @@ unfolding distanceCodes
 put-run-requires c κs =
     let a = c .before .before .before .args in
     space-first (replicate (a .n / a .longest) (a .code)) (remainderCodes (a .longest) (a .code) (a .n % a .longest)) (c .before .before .before .pre .1)
-
-rem-put-remainder : tie.Need-rem-put-remainder
-rem-put-remainder c = search needs
 
 cast-put-remainder-2 : tie.Need-cast-put-remainder-2
 cast-put-remainder-2 c = let s = c .before .before .before .before .before .before .before in omega (arith, mod-lt (s .args .n) (s .pre .0 .0))
@@ -60,9 +51,6 @@ put-remainder-requires-2 c κs =
       space-then (replicate (a .n / a .longest) (a .code)) (remainderCodes (a .longest) (a .code) (a .n % a .longest)) (c .before .before .before .put-run .ensures) (s .pre .1),
     )
 
-same-length-2 : tie.Need-same-length-2
-same-length-2 c = search needs
-
 returns-2 : tie.Need-returns-2
 unfolding distanceCodes
 returns-2 c = put-then (c .before .before .before .before .before .before .put-run .ensures) (c .before .before .put-remainder2 .ensures)
@@ -70,4 +58,5 @@ returns-2 c = put-then (c .before .before .before .before .before .before .put-r
 pub put-distance-spec : {M : Type 1} → statement M
 put-distance-spec =
     tie.close
-    (tie.spec cast-put-remainder put-remainder-requires same-length returns div-put-run cast-put-run put-run-requires rem-put-remainder cast-put-remainder-2 put-remainder-requires-2 same-length-2 returns-2)
+    (tie.spec cast-put-remainder put-remainder-requires (λ c. search needs) returns (λ c. search needs) cast-put-run put-run-requires
+    (λ c. search needs) cast-put-remainder-2 put-remainder-requires-2 (λ c. search needs) returns-2)

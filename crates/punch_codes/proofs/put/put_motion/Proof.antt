@@ -3,7 +3,7 @@
 use mathlib.Core.Path.{_≡_, sym, ap, _∙_}
 use borrow.Author.Needs.{needs}
 use lib.IntN.{natAbs, _-ℤ_}
-use Rattle.integers.specs.Parts.{plain}
+use Rattle.integers.specs.Bits.{plain}
 use Rattle.punch_codes.specs.Codes.{switchCodes, distanceCodes, motionCodes}
 use Rattle.octets.specs.Write.{put-named, put-then}
 use Rattle.octets.specs.Space.{space-named, space-first, space-then}
@@ -15,9 +15,6 @@ unfolding motionCodes
 put-switch-requires c κs =
     let a = c .before .before .args in
     space-first (switchCodes (a .axis .forward) (a .axis .backward) (a .old) (a .new)) (distanceCodes (a .axis .longest) (a .axis .code) (natAbs (a .to -ℤ a .from))) (c .before .before .pre .1)
-
-distance-requires : tie.Need-distance-requires
-distance-requires c κs = search needs
 
 far : (c : tie.After-distance) → c .distance .result ≡ natAbs (c .before .before .before .before .before .before .before .args .to -ℤ c .before .before .before .before .before .before .before .args .from)
 far c = let f = c .before .before .before .before .before .before .before .fits in c .distance .ensures ∙ (λ i. natAbs (plain (f .to) i -ℤ plain (f .from) i))
@@ -31,9 +28,6 @@ put-distance-requires c κs =
           (space-then (switchCodes (a .axis .forward) (a .axis .backward) (a .old) (a .new)) (distanceCodes (a .axis .longest) (a .axis .code) (natAbs (a .to -ℤ a .from))) (c .before .before .before .before .put-switch .ensures) (c .before .before .before .before .before .before .before .pre .1)),
     )
 
-same-length : tie.Need-same-length
-same-length c = search needs
-
 returns : tie.Need-returns
 unfolding motionCodes
 returns c =
@@ -41,4 +35,4 @@ returns c =
     put-then (c .before .before .before .before .before .before .before .put-switch .ensures) (put-named (ap (distanceCodes (a .axis .longest) (a .axis .code)) (far (c .before .before .before))) (c .before .before .put-distance .ensures))
 
 pub put-motion-spec : {M : Type 1} → statement M
-put-motion-spec = tie.close (tie.spec put-switch-requires distance-requires put-distance-requires same-length returns)
+put-motion-spec = tie.close (tie.spec put-switch-requires (λ c κs. search needs) put-distance-requires (λ c. search needs) returns)

@@ -17,9 +17,6 @@ fill-requires c κs =
 add-result : tie.Need-add-result
 add-result c = let s = c .before .before .before .before .before .before in omega (arith, s .pre .counts, length-replicate (s .args .n) (s .args .b))
 
-same-length : tie.Need-same-length
-same-length c = search needs
-
 returns : tie.Need-returns
 returns c =
     let s = c .before .before .before .before .before .before in
@@ -34,4 +31,4 @@ returns-2 c =
     put-counted (c .if1 .left) (ap (λ k. s .args .at + k) (sym (length-replicate (s .args .n) (s .args .b))))
 
 pub put-run-spec : {M : Type 1} → statement M
-put-run-spec = tie.close (tie.spec fill-requires add-result same-length returns add-result-2 returns-2)
+put-run-spec = tie.close (tie.spec fill-requires add-result (λ c. search needs) returns add-result-2 returns-2)

@@ -8,9 +8,6 @@ use Rattle.punch_codes.proofs.Sends.{size-none, size-one}
 use Rattle.punch_codes.proofs.put.put_size.Statement.{statement}
 use Rattle.punch_codes.proofs.put.put_size.Tie as tie
 
-add-put-code : tie.Need-add-put-code
-add-put-code c = search needs
-
 put-code-requires : tie.Need-put-code-requires
 put-code-requires c κs =
     let a = c .before .before .before .args in
@@ -19,13 +16,10 @@ put-code-requires c κs =
 returns : tie.Need-returns
 returns c = let a = c .before .before .args in put-named (sym (size-none (a .old) (a .new) (c .if1 .taken))) (put-none _ _ _)
 
-same-length : tie.Need-same-length
-same-length c = search needs
-
 returns-2 : tie.Need-returns-2
 returns-2 c =
     let a = c .before .before .before .before .before .before .args in
     put-named (sym (size-one (a .old) (a .new) (c .before .before .before .before .if1 .left))) (c .before .before .put-code .ensures)
 
 pub put-size-spec : {M : Type 1} → statement M
-put-size-spec = tie.close (tie.spec add-put-code put-code-requires returns same-length returns-2)
+put-size-spec = tie.close (tie.spec (λ c. search needs) put-code-requires returns (λ c. search needs) returns-2)

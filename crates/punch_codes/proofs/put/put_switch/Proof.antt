@@ -28,18 +28,12 @@ returns c =
     let a = c .before .before .before .args in
     put-named (sym (switch-codes (a .off) (a .on) true true (c .before .if1 .taken) (c .if2 .taken))) (put-none _ _ _)
 
-same-length : tie.Need-same-length
-same-length c = search needs
-
 returns-2 : tie.Need-returns-2
 unfolding switchCodes
 returns-2 c =
     let s = c .before .before .before .before .before in
     let a = s .before .before .args in
     put-named (sym (switch-codes (a .off) (a .on) true false (s .if1 .taken) (c .before .before .before .before .if2 .left))) (c .before .before .put-code .ensures)
-
-same-length-2 : tie.Need-same-length-2
-same-length-2 c = search needs
 
 returns-3 : tie.Need-returns-3
 unfolding switchCodes
@@ -57,4 +51,4 @@ returns-4 c =
 pub put-switch-spec : {M : Type 1} → statement M
 put-switch-spec =
     tie.close
-    (tie.spec put-code-requires put-code-requires-2 returns same-length returns-2 same-length-2 returns-3 returns-4)
+    (tie.spec put-code-requires put-code-requires-2 returns (λ c. search needs) returns-2 (λ c. search needs) returns-3 returns-4)

@@ -6,14 +6,8 @@ use Rattle.punch_codes.specs.Codes.{begunFrom}
 use Rattle.punch_codes.proofs.setting.at_begin.Statement.{statement}
 use Rattle.punch_codes.proofs.setting.at_begin.Tie as tie
 
-at-start-requires : tie.Need-at-start-requires
-at-start-requires c κs = search needs
-
-begun-from-requires : tie.Need-begun-from-requires
-begun-from-requires c κs = search needs
-
 returns : tie.Need-returns
 returns c = c .begun-from .ensures ∙ ap begunFrom (c .before .at-start .ensures)
 
 pub at-begin-spec : {M : Type 1} → statement M
-at-begin-spec = tie.close (tie.spec at-start-requires begun-from-requires returns)
+at-begin-spec = tie.close (tie.spec (λ c κs. search needs) (λ c κs. search needs) returns)

@@ -4,22 +4,10 @@ use mathlib.Core.Path.{_∙_}
 use borrow.Author.Needs.{needs}
 use mir.Syntax.{w32}
 use mir.Val.{SFits}
-use Rattle.integers.specs.Parts.{plain}
+use Rattle.integers.specs.Bits.{plain}
 use Rattle.punch_codes.specs.Codes.{upperRail, upperMag, tiltDown, upperHalf, wayTo}
 use Rattle.punch_codes.proofs.setting.modes_for.Statement.{statement}
 use Rattle.punch_codes.proofs.setting.modes_for.Tie as tie
-
-font-of-requires : tie.Need-font-of-requires
-font-of-requires c κs = search needs
-
-way-to-requires : tie.Need-way-to-requires
-way-to-requires c κs = search needs
-
-way-to-requires-2 : tie.Need-way-to-requires-2
-way-to-requires-2 c κs = search needs
-
-sub-t8 : tie.Need-sub-t8
-sub-t8 c = search needs
 
 module _ (s : tie.Start) where
   across-fits : SFits w32 (s .args .across .0)
@@ -44,4 +32,4 @@ returns c =
     λ i. record { «escape_back» = e i; «lead_back» = l i; «upper_half» = upperHalf (a .c .code); «upper_rail» = upperRail (f i); «upper_mag» = upperMag (f i); «tilt_down» = tiltDown (f i) }
 
 pub modes-for-spec : {M : Type 1} → statement M
-modes-for-spec = tie.close (tie.spec font-of-requires way-to-requires way-to-requires-2 sub-t8 returns)
+modes-for-spec = tie.close (tie.spec (λ c κs. search needs) (λ c κs. search needs) (λ c κs. search needs) (λ c. search needs) returns)

@@ -8,17 +8,8 @@ use Rattle.punch_codes.specs.Codes.{carriageOf, carriageFor, modesFor, s
 use Rattle.punch_codes.proofs.setting.set_for.Statement.{statement}
 use Rattle.punch_codes.proofs.setting.set_for.Tie as tie
 
-size-index-requires : tie.Need-size-index-requires
-size-index-requires c κs = search needs
-
-is-double-requires : tie.Need-is-double-requires
-is-double-requires c κs = search needs
-
 carriage-of-requires : tie.Need-carriage-of-requires
 carriage-of-requires c κs = x-range (valid-parts (c .before .before .pre)) .1
-
-modes-for-requires : tie.Need-modes-for-requires
-modes-for-requires c κs = search needs
 
 -- the carriage goes to the character's place
 across-is : (c : tie.After-carriage-of) → c .carriage-of .result .0 ≡ carriageFor (c .before .before .before .args .c)
@@ -36,4 +27,4 @@ returns c =
     λ i. record { machine = a .s .machine; initialized = a .s .initialized; parked = a .s .parked; stopped = a .s .stopped; cut = a .s .cut; modes = m i; size = n i; carriage = record { 0 = e i }; height = a .c .height }
 
 pub set-for-spec : {M : Type 1} → statement M
-set-for-spec = tie.close (tie.spec size-index-requires is-double-requires carriage-of-requires modes-for-requires returns)
+set-for-spec = tie.close (tie.spec (λ c κs. search needs) (λ c κs. search needs) carriage-of-requires (λ c κs. search needs) returns)

@@ -8,17 +8,8 @@ use Rattle.punch_codes.specs.Codes.{stateAfter}
 use Rattle.punch_codes.proofs.setting.state_after.Statement.{statement}
 use Rattle.punch_codes.proofs.setting.state_after.Tie as tie
 
-enum-known-i : tie.Need-enum-known-i
-enum-known-i c = search needs
-
 set-for-requires : tie.Need-set-for-requires
 set-for-requires c κs = sym (ap (validItem heightEnd) (c .before .i .given .1)) ∙ c .before .before .before .pre
-
-enum-told : tie.Need-enum-told
-enum-told c = search needs
-
-begun-from-requires : tie.Need-begun-from-requires
-begun-from-requires c κs = search needs
 
 returns : tie.Need-returns
 unfolding stateAfter
@@ -29,4 +20,4 @@ unfolding stateAfter
 returns-2 c = c .begun-from .ensures ∙ ap (stateAfter (c .before .before .before .args .s)) (sym (c .before .enum-told .given .1))
 
 pub state-after-spec : {M : Type 1} → statement M
-state-after-spec = tie.close (tie.spec enum-known-i set-for-requires enum-told begun-from-requires returns returns-2)
+state-after-spec = tie.close (tie.spec (λ c. search needs) set-for-requires (λ c. search needs) (λ c κs. search needs) returns returns-2)

@@ -5,9 +5,6 @@ use borrow.Author.Tests.{eq-eqb, ne-eqb}
 use Rattle.spatecanter_running.proofs.words.phase_in.Statement.{statement}
 use Rattle.spatecanter_running.proofs.words.phase_in.Tie as tie
 
-cast-t9 : tie.Need-cast-t9
-cast-t9 c = search needs
-
 returns : tie.Need-returns
 returns c = rw (eq-eqb _ _ (c .if1 .taken))
 
@@ -18,4 +15,4 @@ returns-3 : tie.Need-returns-3
 returns-3 c = rw (ne-eqb _ _ (c .before .if1 .left), ne-eqb _ _ (c .if2 .left))
 
 pub phase-in-spec : {M : Type 1} → statement M
-phase-in-spec = tie.close (tie.spec cast-t9 returns returns-2 returns-3)
+phase-in-spec = tie.close (tie.spec (λ c. search needs) returns returns-2 returns-3)

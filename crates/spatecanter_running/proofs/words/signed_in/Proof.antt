@@ -1,12 +1,12 @@
 -- `spatecanter_running::words::signed_in` meets its contract: the difference is exact in 64 bits, and fits 32.
 -- Assumes nothing.
-use mathlib.Core.Path.{_≡_, refl}
 use Prim.Native.Nat.{_%_}
 use borrow.Author.Needs.{needs}
 use lib.IntN.{pos, _-ℤ_}
 use mir.Syntax.{w64}
 use mir.Val.{SFits}
-use Rattle.integers.specs.Parts.{integers, plain, plain-pos, dif-parts}
+use Rattle.integers.specs.Parts.{integers, dif-parts}
+use Rattle.integers.specs.Bits.{plain, plain-pos}
 use Rattle.spatecanter_running.specs.Words.{signedIn}
 use Rattle.spatecanter_running.specs.WordsLaws.{signed-fits}
 use Rattle.spatecanter_running.proofs.words.signed_in.Statement.{statement}
@@ -17,9 +17,6 @@ low-fits s = omega integers
 
 dif-fits : (s : tie.Start) → SFits w64 (pos (s .args .w % 4294967296) -ℤ pos 2147483648)
 dif-fits s = omega (integers, dif-parts (pos (s .args .w % 4294967296)) (pos 2147483648))
-
-cast-result : tie.Need-cast-result
-cast-result c = search needs
 
 sub-result : tie.Need-sub-result
 sub-result c = rw (plain-pos (low-fits c)) (dif-fits c)
@@ -33,4 +30,4 @@ unfolding signedIn
 returns c = rw (plain-pos (low-fits c), plain (dif-fits c)) (plain (signed-fits (c .args .w)))
 
 pub signed-in-spec : {M : Type 1} → statement M
-signed-in-spec = tie.close (tie.spec cast-result sub-result cast-result-2 returns)
+signed-in-spec = tie.close (tie.spec (λ c. search needs) sub-result cast-result-2 returns)

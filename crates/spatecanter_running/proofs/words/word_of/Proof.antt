@@ -1,10 +1,11 @@
 -- `spatecanter_running::words::word_of` meets its contract: the sum is exact in 64 bits, and not negative.
 -- Assumes nothing.
-use mathlib.Core.Path.{_≡_, refl}
+use mathlib.Core.Path.{refl}
 use lib.IntN.{pos, _+ℤ_}
 use mir.Syntax.{w64}
 use mir.Val.{SFits}
-use Rattle.integers.specs.Parts.{integers, bounds, plain, wide, widened, sum-parts, abs-parts, nonNeg-by}
+use Rattle.integers.specs.Parts.{integers, bounds, sum-parts, abs-parts, nonNeg-by}
+use Rattle.integers.specs.Bits.{plain, wide, widened}
 use Rattle.spatecanter_running.specs.Words.{wordOf}
 use Rattle.spatecanter_running.specs.WordsLaws.{word-back}
 use Rattle.spatecanter_running.proofs.words.word_of.Statement.{statement}

@@ -1,69 +1,11 @@
 -- `spatecanter_running::words::words_of` meets its contract: word by word, and each can be read again.
 -- Assumes nothing.
-use mathlib.Core.Path.{_≡_}
 use mathlib.Core.List.{[], _∷_}
 use borrow.Author.Needs.{needs}
 use Rattle.spatecanter_running.specs.Words.{wordsOf, tapeIn}
 use Rattle.spatecanter_running.specs.WordsLaws.{flag-back, machine-back, phase-back}
 use Rattle.spatecanter_running.proofs.words.words_of.Statement.{statement}
 use Rattle.spatecanter_running.proofs.words.words_of.Tie as tie
-
-phase-word-requires : tie.Need-phase-word-requires
-phase-word-requires c κs = search needs
-
-number-word-requires : tie.Need-number-word-requires
-number-word-requires c κs = search needs
-
-place-word-requires : tie.Need-place-word-requires
-place-word-requires c κs = search needs
-
-machine-word-requires : tie.Need-machine-word-requires
-machine-word-requires c κs = search needs
-
-flag-word-requires : tie.Need-flag-word-requires
-flag-word-requires c κs = search needs
-
-flag-word-requires-2 : tie.Need-flag-word-requires-2
-flag-word-requires-2 c κs = search needs
-
-flag-word-requires-3 : tie.Need-flag-word-requires-3
-flag-word-requires-3 c κs = search needs
-
-flag-word-requires-4 : tie.Need-flag-word-requires-4
-flag-word-requires-4 c κs = search needs
-
-flag-word-requires-5 : tie.Need-flag-word-requires-5
-flag-word-requires-5 c κs = search needs
-
-flag-word-requires-6 : tie.Need-flag-word-requires-6
-flag-word-requires-6 c κs = search needs
-
-flag-word-requires-7 : tie.Need-flag-word-requires-7
-flag-word-requires-7 c κs = search needs
-
-flag-word-requires-8 : tie.Need-flag-word-requires-8
-flag-word-requires-8 c κs = search needs
-
-flag-word-requires-9 : tie.Need-flag-word-requires-9
-flag-word-requires-9 c κs = search needs
-
-flag-word-requires-10 : tie.Need-flag-word-requires-10
-flag-word-requires-10 c κs = search needs
-
-byte-word-requires : tie.Need-byte-word-requires
-byte-word-requires c κs = search needs
-
-units-word-requires : tie.Need-units-word-requires
-units-word-requires c κs = search needs
-
-quanta-word-requires : tie.Need-quanta-word-requires
-quanta-word-requires c κs = search needs
-
-units-word-requires-2 : tie.Need-units-word-requires-2
-units-word-requires-2 c κs = search needs
-
-quanta-word-requires-2 : tie.Need-quanta-word-requires-2
-quanta-word-requires-2 c κs = search needs
 
 returns : tie.Need-returns
 unfolding wordsOf tapeIn
@@ -120,24 +62,7 @@ returns c =
 pub words-of-spec : {M : Type 1} → statement M
 words-of-spec =
     tie.close
-    (tie.spec
-    phase-word-requires
-    number-word-requires
-    place-word-requires
-    machine-word-requires
-    flag-word-requires
-    flag-word-requires-2
-    flag-word-requires-3
-    flag-word-requires-4
-    flag-word-requires-5
-    flag-word-requires-6
-    flag-word-requires-7
-    flag-word-requires-8
-    flag-word-requires-9
-    flag-word-requires-10
-    byte-word-requires
-    units-word-requires
-    quanta-word-requires
-    units-word-requires-2
-    quanta-word-requires-2
-    returns)
+    (tie.spec (λ c κs. search needs) (λ c κs. search needs) (λ c κs. search needs) (λ c κs. search needs) (λ c κs. search needs)
+    (λ c κs. search needs) (λ c κs. search needs) (λ c κs. search needs) (λ c κs. search needs) (λ c κs. search needs) (λ c κs. search needs)
+    (λ c κs. search needs) (λ c κs. search needs) (λ c κs. search needs) (λ c κs. search needs) (λ c κs. search needs) (λ c κs. search needs)
+    (λ c κs. search needs) (λ c κs. search needs) returns)

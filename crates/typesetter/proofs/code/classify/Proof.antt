@@ -2,7 +2,7 @@
 -- Assumes nothing.
 use borrow.Author.Needs.{needs}
 use borrow.Author.Tests.{eq-eqb, ne-eqb}
-use mathlib.Core.Path.{_≡_, refl, ap, _∙_}
+use mathlib.Core.Path.{_≡_, ap, _∙_}
 use Prim.Native.Nat.{ℕ, _<_}
 use lib.Bits.{and-mask}
 use lib.ListN.{getD}
@@ -17,15 +17,6 @@ use Rattle.typesetter.proofs.code.classify.Tie as tie
 
 sorted-as : {x : Code} (machine : Machine) (b : ℕ) → b < 256 → x ≡ sorted machine b → x ≡ codeOf machine b
 sorted-as machine b h e = e ∙ sorted-is machine b h
-
-escape-size-requires : tie.Need-escape-size-requires
-escape-size-requires c κs = search needs
-
-lead-size-requires : tie.Need-lead-size-requires
-lead-size-requires c κs = search needs
-
-control-requires : tie.Need-control-requires
-control-requires c κs = search needs
 
 returns : tie.Need-returns
 returns c = sorted-as (c .before .args .machine) (c .before .args .b) (c .before .fits .b .fits) (simp (eq-eqb _ _ (c .if1 .taken)))
@@ -54,15 +45,5 @@ returns-8 c = ap (λ (k : ℕ). Instructs (Size k)) (and-mask (c .before .before
 pub classify-spec : {M : Type 1} → statement M
 classify-spec =
     tie.close
-    (tie.spec
-    escape-size-requires
-    lead-size-requires
-    control-requires
-    returns
-    returns-2
-    returns-3
-    returns-4
-    returns-5
-    returns-6
-    returns-7
-    returns-8)
+    (tie.spec (λ c κs. search needs) (λ c κs. search needs) (λ c κs. search needs) returns returns-2 returns-3 returns-4 returns-5 returns-6
+    returns-7 returns-8)

@@ -5,15 +5,6 @@ use Rattle.typesetter.proofs.Codes.{rest-illegal}
 use Rattle.typesetter.proofs.code.control.Statement.{statement}
 use Rattle.typesetter.proofs.code.control.Tie as tie
 
-tilt-requires : tie.Need-tilt-requires
-tilt-requires c κs = search needs
-
-tilt-requires-2 : tie.Need-tilt-requires-2
-tilt-requires-2 c κs = search needs
-
-returns : tie.Need-returns
-returns c = search needs
-
 returns-2 : tie.Need-returns-2
 returns-2 c = rw (c .match .keys2)
 
@@ -62,22 +53,5 @@ returns-16 c = rest-illegal (c .before .args .machine) (c .before .args .low) (c
 pub control-spec : {M : Type 1} → statement M
 control-spec =
     tie.close
-    (tie.spec
-    tilt-requires
-    tilt-requires-2
-    returns
-    returns-2
-    returns-3
-    returns-4
-    returns-5
-    returns-6
-    returns-7
-    returns-8
-    returns-9
-    returns-10
-    returns-11
-    returns-12
-    returns-13
-    returns-14
-    returns-15
-    returns-16)
+    (tie.spec (λ c κs. search needs) (λ c κs. search needs) (λ c. search needs) returns-2 returns-3 returns-4 returns-5 returns-6 returns-7
+    returns-8 returns-9 returns-10 returns-11 returns-12 returns-13 returns-14 returns-15 returns-16)

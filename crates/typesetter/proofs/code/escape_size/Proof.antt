@@ -1,4 +1,4 @@
--- `typesetter::code::escape_size` meets its contract.
+-- `typesetter::code::escape_size` meets its contract: the mask takes the low seven bits.
 -- Assumes nothing.
 use Rattle.typesetter.proofs.Codes.{low-seven}
 use Rattle.typesetter.proofs.code.escape_size.Statement.{statement}

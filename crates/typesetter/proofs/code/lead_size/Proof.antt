@@ -1,4 +1,4 @@
--- `typesetter::code::lead_size` meets its contract.
+-- `typesetter::code::lead_size` meets its contract: the mask takes the low five bits.
 -- Assumes nothing.
 use Rattle.typesetter.proofs.Codes.{low-five}
 use Rattle.typesetter.proofs.code.lead_size.Statement.{statement}

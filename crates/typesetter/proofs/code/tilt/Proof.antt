@@ -1,20 +1,11 @@
--- `typesetter::code::tilt` meets its contract.
+-- `typesetter::code::tilt` meets its contract: each arm is given which machine it is.
 -- Assumes nothing.
 use borrow.Author.Needs.{needs}
 use Rattle.typesetter.proofs.code.tilt.Statement.{statement}
 use Rattle.typesetter.proofs.code.tilt.Tie as tie
 
-enum-told : tie.Need-enum-told
-enum-told c = search needs
-
-enum-told-2 : tie.Need-enum-told-2
-enum-told-2 c = search needs
-
-returns : tie.Need-returns
-returns c = search needs
-
 returns-2 : tie.Need-returns-2
 returns-2 c = rw (c .enum-told2 .given .1)
 
 pub tilt-spec : {M : Type 1} → statement M
-tilt-spec = tie.close (tie.spec enum-told enum-told-2 returns returns-2)
+tilt-spec = tie.close (tie.spec (λ c. search needs) (λ c. search needs) (λ c. search needs) returns-2)

@@ -17,8 +17,5 @@ add-result c =
 returns : tie.Need-returns
 returns c = rw (c .if1 .taken)
 
-returns-2 : tie.Need-returns-2
-returns-2 c = search needs
-
 pub code-in-spec : {M : Type 1} → statement M
-code-in-spec = tie.close (tie.spec add-result returns returns-2)
+code-in-spec = tie.close (tie.spec add-result returns (λ c. search needs))

@@ -1,35 +1,11 @@
 -- `typesetter::machine::font_in` meets its contract: the pair of rail and mag is the font of four, and with the tilt one of eight.
 -- Assumes nothing.
-use mathlib.Core.Path.{_≡_, ap}
+use mathlib.Core.Path.{ap}
 use Prim.Native.Nat.{ℕ, _+_, _*_}
 use native.Mathlib.Omega.{arith}
 use borrow.Author.Needs.{needs}
 use Rattle.typesetter.proofs.machine.font_in.Statement.{statement}
 use Rattle.typesetter.proofs.machine.font_in.Tie as tie
-
-pair-in-requires : tie.Need-pair-in-requires
-pair-in-requires c κs = search needs
-
-enum-told : tie.Need-enum-told
-enum-told c = search needs
-
-add-result : tie.Need-add-result
-add-result c = search needs
-
-enum-told-2 : tie.Need-enum-told-2
-enum-told-2 c = search needs
-
-mul-result : tie.Need-mul-result
-mul-result c = search needs
-
-add-result-2 : tie.Need-add-result-2
-add-result-2 c = search needs
-
-mul-result-2 : tie.Need-mul-result-2
-mul-result-2 c = search needs
-
-add-result-3 : tie.Need-add-result-3
-add-result-3 c = search needs
 
 returns : tie.Need-returns
 returns c =
@@ -49,15 +25,5 @@ returns-3 c =
 pub font-in-spec : {M : Type 1} → statement M
 font-in-spec =
     tie.close
-    (tie.spec
-    pair-in-requires
-    enum-told
-    add-result
-    enum-told-2
-    mul-result
-    add-result-2
-    mul-result-2
-    add-result-3
-    returns
-    returns-2
-    returns-3)
+    (tie.spec (λ c κs. search needs) (λ c. search needs) (λ c. search needs) (λ c. search needs) (λ c. search needs) (λ c. search needs)
+    (λ c. search needs) (λ c. search needs) returns returns-2 returns-3)

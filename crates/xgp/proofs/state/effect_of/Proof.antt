@@ -4,53 +4,12 @@ use mathlib.Core.Path.{sym, ap, _∙_}
 use lib.IntN.{ℤ, pos, _+ℤ_}
 use mir.Syntax.{w32}
 use mir.Val.{SFits}
-use Rattle.integers.specs.Parts.{integers, plain-pos}
+use Rattle.integers.specs.Parts.{integers}
+use Rattle.integers.specs.Bits.{plain-pos}
 use Rattle.xgp.specs.State.{withX, withAdjust, withFont, toBaseline, effect}
 use borrow.Author.Needs.{needs}
 use Rattle.xgp.proofs.state.effect_of.Statement.{statement}
 use Rattle.xgp.proofs.state.effect_of.Tie as tie
-
-enum-told : tie.Need-enum-told
-enum-told c = search needs
-
-enum-known-c : tie.Need-enum-known-c
-enum-known-c c = search needs
-
-set-char-requires : tie.Need-set-char-requires
-set-char-requires c κs = search needs
-
-enum-told-2 : tie.Need-enum-told-2
-enum-told-2 c = search needs
-
-cast-t14 : tie.Need-cast-t14
-cast-t14 c = search needs
-
-down-requires : tie.Need-down-requires
-down-requires c κs = search needs
-
-enum-told-3 : tie.Need-enum-told-3
-enum-told-3 c = search needs
-
-next-page-requires : tie.Need-next-page-requires
-next-page-requires c κs = search needs
-
-enum-told-4 : tie.Need-enum-told-4
-enum-told-4 c = search needs
-
-enum-known-c-2 : tie.Need-enum-known-c-2
-enum-known-c-2 c = search needs
-
-enum-known-c-3 : tie.Need-enum-known-c-3
-enum-known-c-3 c = search needs
-
-enum-known-c-4 : tie.Need-enum-known-c-4
-enum-known-c-4 c = search needs
-
-right-requires : tie.Need-right-requires
-right-requires c κs = search needs
-
-enum-known-c-5 : tie.Need-enum-known-c-5
-enum-known-c-5 c = search needs
 
 returns : tie.Need-returns
 unfolding effect
@@ -110,27 +69,6 @@ returns-9 c =
 pub effect-of-spec : {M : Type 1} → statement M
 effect-of-spec =
     tie.close
-    (tie.spec
-    enum-told
-    enum-known-c
-    set-char-requires
-    enum-told-2
-    cast-t14
-    down-requires
-    enum-told-3
-    next-page-requires
-    enum-told-4
-    enum-known-c-2
-    enum-known-c-3
-    enum-known-c-4
-    right-requires
-    enum-known-c-5
-    returns
-    returns-2
-    returns-3
-    returns-4
-    returns-5
-    returns-6
-    returns-7
-    returns-8
-    returns-9)
+    (tie.spec (λ c. search needs) (λ c. search needs) (λ c κs. search needs) (λ c. search needs) (λ c. search needs) (λ c κs. search needs)
+    (λ c. search needs) (λ c κs. search needs) (λ c. search needs) (λ c. search needs) (λ c. search needs) (λ c. search needs)
+    (λ c κs. search needs) (λ c. search needs) returns returns-2 returns-3 returns-4 returns-5 returns-6 returns-7 returns-8 returns-9)

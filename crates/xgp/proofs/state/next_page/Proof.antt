@@ -3,17 +3,12 @@
 use mir.Syntax.{w32}
 use mir.Val.{SFits}
 use lib.IntN.{pos}
-use Rattle.integers.specs.Parts.{integers, plain-pos}
+use Rattle.integers.specs.Parts.{integers}
+use Rattle.integers.specs.Bits.{plain-pos}
 use Rattle.xgp.specs.State.{nextPage}
 use borrow.Author.Needs.{needs}
 use Rattle.xgp.proofs.state.next_page.Statement.{statement}
 use Rattle.xgp.proofs.state.next_page.Tie as tie
-
-cast-t5 : tie.Need-cast-t5
-cast-t5 c = search needs
-
-add-t : tie.Need-add-t
-add-t c = search needs
 
 returns : tie.Need-returns
 unfolding nextPage
@@ -22,4 +17,4 @@ returns c =
     rw (plain-pos f)
 
 pub next-page-spec : {M : Type 1} → statement M
-next-page-spec = tie.close (tie.spec cast-t5 add-t returns)
+next-page-spec = tie.close (tie.spec (λ c. search needs) (λ c. search needs) returns)

@@ -3,23 +3,14 @@
 use mathlib.Core.Path.{_∙_}
 use lib.IntN.{_+ℤ_}
 use mir.Syntax.{w32}
-use Rattle.integers.specs.Parts.{plain}
-use Rattle.octets.specs.OctetsLaws.{true-fits32}
+use Rattle.integers.specs.Bits.{plain}
+use Rattle.octets.specs.WordLaws.{true-fits32}
 use Rattle.octets.specs.ReachLaws.{sum-to, sum-off}
 use Rattle.xgp.specs.State.{afterChar}
 use Rattle.xgp.proofs.States.{char-to, char-off}
 use borrow.Author.Needs.{needs}
 use Rattle.xgp.proofs.state.set_at.Statement.{statement}
 use Rattle.xgp.proofs.state.set_at.Tie as tie
-
-sum-requires : tie.Need-sum-requires
-sum-requires c κs = search needs
-
-enum-known-to : tie.Need-enum-known-to
-enum-known-to c = search needs
-
-enum-told : tie.Need-enum-told
-enum-told c = search needs
 
 returns : tie.Need-returns
 unfolding afterChar
@@ -35,4 +26,4 @@ returns-2 c =
     char-off (a .s) (a .s .x .0 +ℤ a .width .0) (a .c) (a .y .0) (true-fits32 (a .y .0) (search needs)) (sum-off (a .s .x .0) (a .width .0) (c .before .before .sum .ensures) (search needs) (search needs) (c .enum-told .given .1))
 
 pub set-at-spec : {M : Type 1} → statement M
-set-at-spec = tie.close (tie.spec sum-requires enum-known-to enum-told returns returns-2)
+set-at-spec = tie.close (tie.spec (λ c κs. search needs) (λ c. search needs) (λ c. search needs) returns returns-2)

@@ -3,28 +3,13 @@
 use mathlib.Core.Path.{refl, _∙_}
 use lib.IntN.{_+ℤ_}
 use mir.Syntax.{w32}
-use Rattle.integers.specs.Parts.{plain, returned}
+use Rattle.integers.specs.Bits.{plain, returned}
 use Rattle.octets.specs.ReachLaws.{reach-to, reach-off}
 use Rattle.xgp.specs.State.{yIn, widthIn, setChar}
 use Rattle.xgp.proofs.States.{y-off}
 use borrow.Author.Needs.{needs}
 use Rattle.xgp.proofs.state.set_char.Statement.{statement}
 use Rattle.xgp.proofs.state.set_char.Tie as tie
-
-y-in-requires : tie.Need-y-in-requires
-y-in-requires c κs = search needs
-
-enum-known-y : tie.Need-enum-known-y
-enum-known-y c = search needs
-
-width-of-requires : tie.Need-width-of-requires
-width-of-requires c κs = search needs
-
-set-at-requires : tie.Need-set-at-requires
-set-at-requires c κs = search needs
-
-enum-told : tie.Need-enum-told
-enum-told c = search needs
 
 returns : tie.Need-returns
 unfolding widthIn
@@ -43,4 +28,5 @@ returns-2 c =
 
 pub set-char-spec : {M : Type 1} → statement M
 set-char-spec =
-    tie.close (tie.spec y-in-requires enum-known-y width-of-requires set-at-requires enum-told returns returns-2)
+    tie.close
+    (tie.spec (λ c κs. search needs) (λ c. search needs) (λ c κs. search needs) (λ c κs. search needs) (λ c. search needs) returns returns-2)

@@ -3,14 +3,12 @@
 use mir.Syntax.{w32}
 use mir.Val.{SFits}
 use lib.IntN.{pos}
-use Rattle.integers.specs.Parts.{integers, plain-pos}
+use Rattle.integers.specs.Parts.{integers}
+use Rattle.integers.specs.Bits.{plain-pos}
 use Rattle.xgp.specs.State.{start}
 use borrow.Author.Needs.{needs}
 use Rattle.xgp.proofs.state.start.Statement.{statement}
 use Rattle.xgp.proofs.state.start.Tie as tie
-
-cast-t3 : tie.Need-cast-t3
-cast-t3 c = search needs
 
 returns : tie.Need-returns
 unfolding start
@@ -19,4 +17,4 @@ returns c =
     rw (plain-pos f)
 
 pub start-spec : {M : Type 1} → statement M
-start-spec = tie.close (tie.spec cast-t3 returns)
+start-spec = tie.close (tie.spec (λ c. search needs) returns)

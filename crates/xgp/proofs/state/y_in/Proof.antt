@@ -3,15 +3,12 @@
 use mathlib.Core.Path.{_∙_}
 use lib.IntN.{_-ℤ_}
 use mir.Syntax.{w32}
-use Rattle.integers.specs.Parts.{plain}
+use Rattle.integers.specs.Bits.{plain}
 use Rattle.octets.specs.Reach.{reach}
 use Rattle.xgp.specs.State.{yIn}
 use borrow.Author.Needs.{needs}
 use Rattle.xgp.proofs.state.y_in.Statement.{statement}
 use Rattle.xgp.proofs.state.y_in.Tie as tie
-
-difference-requires : tie.Need-difference-requires
-difference-requires c κs = search needs
 
 returns : tie.Need-returns
 unfolding yIn
@@ -22,4 +19,4 @@ returns c =
     c .difference .ensures ∙ (λ i. reach (b i -ℤ a i))
 
 pub y-in-spec : {M : Type 1} → statement M
-y-in-spec = tie.close (tie.spec difference-requires returns)
+y-in-spec = tie.close (tie.spec (λ c κs. search needs) returns)

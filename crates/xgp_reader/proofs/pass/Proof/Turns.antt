@@ -15,11 +15,10 @@ use Rattle.xgp.specs.State.{withX, setMarks}
 use Rattle.xgp.specs.File.{goOn}
 use Rattle.xgp.specs.FileLaws.{due, stepHere}
 use Rattle.xgp.specs.declared.state.State.{State}
-use Rattle.xgp_reader.specs.Step.{stepOf}
-use Rattle.xgp_reader.specs.declared.step.Stepped.{Stepped}
-use Rattle.xgp_reader.specs.declared.stretch.Stretch.{Stretch}
-use Rattle.xgp_reader.proofs.Passes.{Standing, standing-next, standing-few}
-use Rattle.xgp_reader.proofs.Stretches.{standing-stretch}
+use Rattle.xgp_step.specs.Step.{stepOf}
+use Rattle.xgp_step.specs.declared.Stepped.{Stepped}
+use Rattle.xgp_step.specs.declared.stretch.Stretch.{Stretch}
+use Rattle.xgp_reader.proofs.Passes.{Standing, standing-next, standing-few, standing-stretch}
 use Rattle.xgp_reader.proofs.pass.Tie as tie
 
 abbrev pub Inv-loop : tie.InvT-loop

@@ -1,0 +1,2 @@
+mod Fonts
+mod Moves

@@ -1,0 +1,3 @@
+-- The code's position as the format's.
+pub mod Position
+pub mod PositionLaws

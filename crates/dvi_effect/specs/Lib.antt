@@ -1,0 +1,2 @@
+-- The code's widths as those of the format.
+pub mod Width

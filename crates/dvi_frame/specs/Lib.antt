@@ -1,0 +1,3 @@
+-- The postamble, made of extents.
+pub mod Postamble
+pub mod PostambleLaws

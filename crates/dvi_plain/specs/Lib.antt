@@ -1,0 +1,2 @@
+-- What the contract of one page of the plain reader cites.
+pub mod Page
