@@ -36,12 +36,12 @@ Low (between last) = Unit {0}
 Low (inside last p) = length (p .stack) ≤ maxStack
 
 -- a step over at most k bytes to such a state
-abbrev pub Sound : ℕ → Step → Type 0
-Sound k (refuse r) = Unit {0}
-Sound k (goOn q ms n) = (n ≤ k) × Low q
-Sound k finish = Unit {0}
+abbrev pub SoundStep : ℕ → Step → Type 0
+SoundStep k (refuse r) = Unit {0}
+SoundStep k (goOn q ms n) = (n ≤ k) × Low q
+SoundStep k finish = Unit {0}
 
-effect-sound : (k : ℕ) (last : ℤ) (n : ℕ) (e : Effect) → n ≤ k → LowEffect e → Sound k (afterEffect last n e)
+effect-sound : (k : ℕ) (last : ℤ) (n : ℕ) (e : Effect) → n ≤ k → LowEffect e → SoundStep k (afterEffect last n e)
 unfolding afterEffect
 effect-sound k last n (fault r) h g = tt
 effect-sound k last n (moved p) h g = (h, g)
@@ -60,23 +60,23 @@ held (bare c) ps = omega arith
 held (takes n c) ps = by-cond (Held (length ps)) (leb n (length ps)) _ _ (λ e. leb-true n (length ps) e) (λ _. tt)
 held (takesTwo c) ps = by-cond (Held (length ps)) (leb 8 (length ps)) _ _ (λ e. leb-true 8 (length ps) e) (λ _. tt)
 
-page-sound : (ws : List ℤ) (k : ℕ) (last : ℤ) (p : Page) (d : Decoded) → Held k d → length (p .stack) ≤ maxStack → Sound k (inPage ws last p d)
+page-sound : (ws : List ℤ) (k : ℕ) (last : ℤ) (p : Page) (d : Decoded) → Held k d → length (p .stack) ≤ maxStack → SoundStep k (inPage ws last p d)
 unfolding inPage
 page-sound ws k last p noCommand h g = tt
 page-sound ws k last p cutShort h g = tt
 page-sound ws k last p (command c n) h g = effect-sound k last n (effect ws p c) h (effect-stack ws p g c)
 
-sound-if : (k : ℕ) (t : Bool) (e f : Step) → Sound k e → Sound k f → Sound k (cond t e f)
-sound-if k t e f h g = by-cond (Sound k) t e f (λ _. h) (λ _. g)
+sound-if : (k : ℕ) (t : Bool) (e f : Step) → SoundStep k e → SoundStep k f → SoundStep k (cond t e f)
+sound-if k t e f h g = by-cond (SoundStep k) t e f (λ _. h) (λ _. g)
 
-begin-sound : (last : ℤ) (at : ℕ) (ps : List ℕ) → Sound (length ps) (beginPage last at ps)
+begin-sound : (last : ℤ) (at : ℕ) (ps : List ℕ) → SoundStep (length ps) (beginPage last at ps)
 unfolding beginPage newPage
 begin-sound last at ps =
-    by-cond (Sound (length ps)) (leb 8 (length ps)) _ _
+    by-cond (SoundStep (length ps)) (leb 8 (length ps)) _ _
     (λ e. sound-if (length ps) (eqZ (signedAt 4 4 ps) last) _ _ (omega (arith, leb-true 8 (length ps) e), omega arith) tt)
     (λ _. tt)
 
-pub step-sound : (ws : List ℤ) (at : ℕ) (q : State) (op : ℕ) (ps : List ℕ) → Low q → Sound (length ps) (step ws at q op ps)
+pub step-sound : (ws : List ℤ) (at : ℕ) (q : State) (op : ℕ) (ps : List ℕ) → Low q → SoundStep (length ps) (step ws at q op ps)
 unfolding step decode endFile
 step-sound ws at (inside last p) op ps h = page-sound ws (length ps) last p (decode op ps) (held (layoutOf op) ps) h
 step-sound ws at (between last) op ps h =

@@ -2,3 +2,4 @@
 pub mod font_byte;
 pub mod mark;
 pub mod name;
+pub mod opcode;

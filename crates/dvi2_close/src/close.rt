@@ -1,9 +1,11 @@
 // The end of a file: the definitions, post_post, and the bytes 223.
 use crate::expect;
 use crate::expect::Reading;
+use dvi2::opcode;
 use dvi2_page::fonts as page_fonts;
 use extents::fonts;
 use extents::fonts::Fonts;
+use galley_file::font;
 ghost use mathlib.Core.Path.{_≡_};
 ghost use mathlib.Core.Bool.{cond};
 ghost use mathlib.Core.List.{List, _∷_};
@@ -18,10 +20,6 @@ ghost use Rattle.dvi2_reading.specs.Reading.{closing, fill, closingOf};
 ghost use Rattle.dvi2_reading.specs.Standing.{Standing};
 ghost use Rattle.dvi2_close.specs.declared.expect.Reading.the-variants.{To};
 ghost use Rattle.dvi2_close.specs.Reading.{expected, Inside, PastDefinitions, PastFillers, Ended};
-
-const FONTS: u8 = 120;
-
-const FILLER: u8 = 223;
 
 // Past the definition of font f, if it is among the fonts.
 fn marked(dvi: &[u8], at: usize, used: Fonts, f: u8) -> Reading
@@ -42,7 +40,7 @@ fn definitions(dvi: &[u8], at: usize, used: Fonts) -> Reading
 {
     let mut to = at;
     let mut f: u8 = 0;
-    while f < FONTS {
+    while f < font::FONTS {
         let r = marked(dvi, to, used, f);
         match r {
             Reading::To(next) => {
@@ -62,7 +60,7 @@ fn fillers(dvi: &[u8], at: usize) -> Reading
     requires { ⌜ (at ≤ length (now dvi)) × (length (now dvi) ≤ 67108864) ⌝ }
     ensures { λ r. ⌜ Inside (length (now (dvi .entry))) r × PastFillers (now (dvi .entry)) at r ⌝ }
 {
-    let e = [FILLER];
+    let e = [opcode::FILLER];
     let n = 4 + (4 - at % 4) % 4;
     let mut to = at;
     let mut k: usize = 0;

@@ -3,6 +3,7 @@ use crate::font;
 use crate::position;
 use crate::position::Position;
 use crate::put;
+use dvi2::opcode;
 use galley_file::character::Character;
 use octets::number;
 ghost use mathlib.Core.Path.{_≡_};
@@ -16,13 +17,6 @@ ghost use Rattle.galley_file.specs.Character.{valid};
 ghost use Rattle.dvi2.specs.Writer.{parameterWidth, move, commandsOf};
 ghost use Rattle.octets.specs.PutIfRoom.{PutIfRoom};
 ghost use Rattle.dvi2_commands.specs.Position.{positionOf, OnPage};
-
-const PUT1: u8 = 133;
-
-// right2 to right4 follow, and down2 to down4.
-pub const RIGHT1: u8 = 143;
-
-pub const DOWN1: u8 = 157;
 
 // The fewest of 1, 2, 3 and 4 bytes that hold z in two's complement.
 pub fn parameter_width(z: i32) -> usize
@@ -74,7 +68,7 @@ pub fn put_commands(out: &mut [u8], at: usize, known: bool, last: Position, c: C
     let right = position::right_to(last, c);
     let down = position::down_to(last, c);
     let mut to = font::put_font(out, at, known, last.font, c.font);
-    to = put_move(out, to, RIGHT1, right);
-    to = put_move(out, to, DOWN1, down);
-    put::put_two(out, to, PUT1, c.code)
+    to = put_move(out, to, opcode::RIGHT1, right);
+    to = put_move(out, to, opcode::DOWN1, down);
+    put::put_two(out, to, opcode::PUT1, c.code)
 }

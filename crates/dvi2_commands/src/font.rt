@@ -1,6 +1,7 @@
 // Fonts: their definitions, and the commands that select them.
 use crate::put;
 use dvi::name;
+use dvi2::opcode;
 use galley_file::font;
 use octets::number;
 ghost use mathlib.Core.List.{_++_};
@@ -12,18 +13,8 @@ ghost use Rattle.dvi2.specs.Writer.{selects, definition, fontChange};
 ghost use Rattle.octets.specs.PutIfRoom.{PutIfRoom};
 ghost use Rattle.dvi.specs.FontOrNone.{fontOrNone};
 
-// fnt_num_0; those to 63 follow.
-const FNTNUM0: u8 = 171;
-
-// The number of fonts that have a fnt_num.
-const FNTNUMS: u8 = 64;
-
-const FNT1: u8 = 235;
-
-const FNTDEF1: u8 = 243;
-
 // The bytes of a definition.
-const DEFINITION: usize = 20;
+pub const DEFINITION: usize = 20;
 
 // The units of a point.
 const PER_POINT: u32 = 6;
@@ -36,10 +27,10 @@ fn put_select(out: &mut [u8], at: usize, f: u8) -> usize
     requires { ⌜ (at < 4294967296) × (f < 120) ⌝ }
     ensures { λ r. ⌜ PutIfRoom (now (out .entry)) at (selects f) (now (out .exit)) r ⌝ }
 {
-    if f < FNTNUMS {
-        return put::put_byte(out, at, FNTNUM0 + f);
+    if f < opcode::FNTNUMS {
+        return put::put_byte(out, at, opcode::FNTNUM0 + f);
     }
-    put::put_two(out, at, FNT1, f)
+    put::put_two(out, at, opcode::FNT1, f)
 }
 
 // Writes the checksum, 0, and the scaled and the design size.
@@ -61,7 +52,7 @@ pub fn put_definition(out: &mut [u8], at: usize, f: u8) -> usize
         return at + DEFINITION;
     }
     let size = PER_POINT * font::point_size(f) as u32;
-    let mut to = number::put_byte(out, at, FNTDEF1);
+    let mut to = number::put_byte(out, at, opcode::FNTDEF1);
     to = number::put_byte(out, to, f);
     to = put_sizes(out, to, size);
     to = number::put_nat2(out, to, LENGTHS);

@@ -19,9 +19,6 @@ pub struct Position {
     pub height: Quanta,
 }
 
-// A quantum of height is this many units of 1/432 inch.
-pub const PER_QUANTUM: i32 = 3;
-
 // The position at the start of a page.
 pub fn start_position() -> Position
     ensures { λ r. ⌜ PositionIs r startPosition ⌝ }
@@ -60,5 +57,5 @@ pub fn down_to(last: Position, c: Character) -> i32
     requires { ⌜ OnPage (positionOf last) × (valid heightEnd c ≡ true) ⌝ }
     ensures { λ r. ⌜ r ≡ vOf c -ℤ positionOf last .y ⌝ }
 {
-    PER_QUANTUM * (c.height.0 - last.height.0)
+    measure::PER_QUANTUM * (c.height.0 - last.height.0)
 }

@@ -1,4 +1,5 @@
 // The commands around the pages of a file of the second edition (document 02, "The second edition of DVI"): the preamble, bop, post and post_post.
+use dvi2::opcode;
 use extents::Extents;
 use octets::number;
 ghost use mathlib.Core.Path.{_≡_};
@@ -11,14 +12,6 @@ ghost use Rattle.octets.specs.PutIfRoom.{PutIfRoom};
 ghost use Rattle.dvi2.specs.Writer.{unitBytes, preambleBytes, bopBytes};
 ghost use Rattle.dvi2_frame.specs.Frame.{Ranged, postWith, postOf, postPostOf};
 
-const BOP: u8 = 139;
-
-const PRE: u8 = 247;
-
-const POST: u8 = 248;
-
-const POSTPOST: u8 = 249;
-
 const IDENTIFICATION: u8 = 2;
 
 const NUMERATOR: u32 = 254_000;
@@ -27,13 +20,10 @@ const DENOMINATOR: u32 = 432;
 
 const MAGNIFICATION: u32 = 1_000;
 
-// A quantum of height is this many units of 1/432 inch.
-const PER_QUANTUM: i32 = 3;
-
 // The bytes of each command.
-const PRE_LENGTH: usize = 15;
+pub const PRE_LENGTH: usize = 15;
 
-const BOP_LENGTH: usize = 45;
+pub const BOP_LENGTH: usize = 45;
 
 const POST_LENGTH: usize = 29;
 
@@ -56,7 +46,7 @@ pub fn put_preamble(out: &mut [u8]) -> usize
     if out.len() < PRE_LENGTH {
         return PRE_LENGTH;
     }
-    let mut to = number::put_byte(out, 0, PRE);
+    let mut to = number::put_byte(out, 0, opcode::PRE);
     to = number::put_byte(out, to, IDENTIFICATION);
     to = put_unit(out, to);
     number::put_byte(out, to, 0)
@@ -91,7 +81,7 @@ pub fn put_bop(out: &mut [u8], at: usize, page: u32, previous: i32) -> usize
     if out.len() < at + BOP_LENGTH {
         return at + BOP_LENGTH;
     }
-    let mut to = number::put_byte(out, at, BOP);
+    let mut to = number::put_byte(out, at, opcode::BOP);
     to = put_counts(out, to, page);
     number::put_signed4(out, to, previous)
 }
@@ -115,7 +105,7 @@ fn put_numbers(out: &mut [u8], at: usize, last: u32, height: i32, width: i32, pa
     if out.len() < at + POST_LENGTH {
         return at + POST_LENGTH;
     }
-    let mut to = number::put_byte(out, at, POST);
+    let mut to = number::put_byte(out, at, opcode::POST);
     to = number::put_nat4(out, to, last);
     to = put_unit(out, to);
     put_extents(out, to, height, width, pages)
@@ -126,7 +116,7 @@ pub fn put_post(out: &mut [u8], at: usize, last: u32, e: Extents, pages: u32) ->
     requires { ⌜ (at < 4294967296) × Ranged e ⌝ }
     ensures { λ r. ⌜ PutIfRoom (now (out .entry)) at (postOf last e pages) (now (out .exit)) r ⌝ }
 {
-    let height = PER_QUANTUM * e.height.0;
+    let height = measure::PER_QUANTUM * e.height.0;
     let width = e.x.0;
     put_numbers(out, at, last, height, width, pages)
 }
@@ -139,44 +129,44 @@ pub fn put_post_post(out: &mut [u8], at: usize, post: u32) -> usize
     if out.len() < at + POSTPOST_LENGTH {
         return at + POSTPOST_LENGTH;
     }
-    let mut to = number::put_byte(out, at, POSTPOST);
+    let mut to = number::put_byte(out, at, opcode::POSTPOST);
     to = number::put_nat4(out, to, post);
     number::put_byte(out, to, IDENTIFICATION)
 }
 
 // The preamble.
-pub fn preamble() -> [u8; 15]
+pub fn preamble() -> [u8; PRE_LENGTH]
     ensures { λ r. ⌜ r ≡ preambleBytes ⌝ }
 {
-    let mut e = [0u8; 15];
+    let mut e = [0u8; PRE_LENGTH];
     put_preamble(&mut e);
     e
 }
 
 // bop of a page, with the offset of the page before it.
-pub fn bop(page: u32, previous: i32) -> [u8; 45]
+pub fn bop(page: u32, previous: i32) -> [u8; BOP_LENGTH]
     ensures { λ r. ⌜ r ≡ bopBytes page previous ⌝ }
 {
-    let mut e = [0u8; 45];
+    let mut e = [0u8; BOP_LENGTH];
     put_bop(&mut e, 0, page, previous);
     e
 }
 
 // post.
-pub fn post(last: u32, e: Extents, pages: u32) -> [u8; 29]
+pub fn post(last: u32, e: Extents, pages: u32) -> [u8; POST_LENGTH]
     requires { ⌜ Ranged e ⌝ }
     ensures { λ r. ⌜ r ≡ postOf last e pages ⌝ }
 {
-    let mut c = [0u8; 29];
+    let mut c = [0u8; POST_LENGTH];
     put_post(&mut c, 0, last, e, pages);
     c
 }
 
 // post_post, with the offset of post.
-pub fn post_post(post: u32) -> [u8; 6]
+pub fn post_post(post: u32) -> [u8; POSTPOST_LENGTH]
     ensures { λ r. ⌜ r ≡ postPostOf post ⌝ }
 {
-    let mut e = [0u8; 6];
+    let mut e = [0u8; POSTPOST_LENGTH];
     put_post_post(&mut e, 0, post);
     e
 }

@@ -27,7 +27,6 @@ use Rattle.galley_file.specs.declared.item.Item.{Item}
 use Rattle.galley_file.specs.Galley.{maxItems}
 use Rattle.dvi2.specs.Writer.{parameterWidth}
 use Rattle.measure.specs.Target.{entryX}
-use Rattle.dvi2_commands.specs.Position.{positionOf}
 use Rattle.dvi2_reading.specs.PageReading as Page
 use Rattle.dvi2_reading.specs.PageReading.{someBelow, validIn, isDown, across, downward, lowest}
 use Rattle.dvi2_reading.specs.Reading.{step, inPage, go, heightOf, pageStateAfter, places, heights}
@@ -38,7 +37,7 @@ use Rattle.dvi2_reading.specs.WayLaws.{font-there}
 use Rattle.dvi2_state.specs.declared.page_state.PageState.{PageState}
 use Rattle.dvi.specs.FontOrNone.{fontOrNone}
 use Rattle.dvi2_state.specs.declared.page_state.Stepped.the-variants.{Bad, Short, Put}
-use Rattle.dvi2_state.specs.Page.{stageOf, pageStateOf, SoundPage, StepIs, MayMove, rightBegins, downBegins}
+use Rattle.dvi2_state.specs.Page.{stageOf, pageStateOf, pagePosition, SoundPage, StepIs, MayMove, rightBegins, downBegins}
 use Rattle.dvi2_state.proofs.Searches.{false-right, true-right, no-move, a-move}
 use Rattle.dvi2_moves.proofs.CommandKinds.{no-truth}
 use Rattle.dvi2_moves.proofs.MoveSteps.{right-not, right-bad, right-go, right-found, right-none, parts-right, right-parts, down-not, down-bad, down-go, down-found, down-none, parts-down, down-parts}
@@ -104,11 +103,11 @@ valid-fits o t v = let f = font-there o t v in let m = x-mag (isDouble (sizeInde
 
 -- ---- moves
 
-x-near : {h : PageState} → SoundPage h → mag (h .position .x .0) < 4000
-x-near {h} s = between-mag (h .position .x .0) (s .on-page .left, s .on-page .right)
+x-near : {h : PageState} → SoundPage h → mag (h .x .0) < 4000
+x-near {h} s = between-mag (h .x .0) (s .on-page .left, s .on-page .right)
 
-y-near : {h : PageState} → SoundPage h → mag (positionOf (h .position) .y) < 4000000
-y-near {h} s = go (positionOf (h .position) .y) (s .on-page .top) (s .on-page .bottom)
+y-near : {h : PageState} → SoundPage h → mag (pagePosition h .y) < 4000000
+y-near {h} s = go (pagePosition h .y) (s .on-page .top) (s .on-page .bottom)
   where
     go : (y : ℤ) → pos 0 ≤ℤ y → y ≤ℤ pos lowest → mag y < 4000000
     go (pos n) a b = omega integers
@@ -141,24 +140,24 @@ module _ (S : List ℕ) (at op k : ℕ) (h : PageState) (g : MayMove S at op k h
     r-not e = sym (right-not H (getD S at 0) P k (x-near (g .sound)) (g .some-bytes) (g .few-bytes) opcode-right e)
 
     module _ (b : Page.beforeRight (stageOf (h .stage)) ≡ true) (c : length S - at ≤ k) where
-      pub r-found : someBelow places (λ n. rightBegins (drop at S) (positionOf (h .position)) (entryX n)) ≡ true → StepIs S at h is Short
+      pub r-found : someBelow places (λ n. rightBegins (drop at S) (pagePosition h) (entryX n)) ≡ true → StepIs S at h is Short
       r-found e =
           sym (right-found H (getD S at 0) P k (x-near (g .sound)) (g .some-bytes) (g .few-bytes) opcode-right more b (cut-short c)
-          (ap (λ (s : List ℕ). someBelow places (λ n. rightBegins s (positionOf (h .position)) (entryX n))) (sym (drop-here S at (g .inside))) ∙ e))
+          (ap (λ (s : List ℕ). someBelow places (λ n. rightBegins s (pagePosition h) (entryX n))) (sym (drop-here S at (g .inside))) ∙ e))
 
-      pub r-none : someBelow places (λ n. rightBegins (drop at S) (positionOf (h .position)) (entryX n)) ≡ false → StepIs S at h is Bad
+      pub r-none : someBelow places (λ n. rightBegins (drop at S) (pagePosition h) (entryX n)) ≡ false → StepIs S at h is Bad
       r-none e =
           sym (right-none H (getD S at 0) P k (x-near (g .sound)) (g .some-bytes) (g .few-bytes) opcode-right more b (cut-short c)
-          (ap (λ (s : List ℕ). someBelow places (λ n. rightBegins s (positionOf (h .position)) (entryX n))) (sym (drop-here S at (g .inside))) ∙ e))
+          (ap (λ (s : List ℕ). someBelow places (λ n. rightBegins s (pagePosition h) (entryX n))) (sym (drop-here S at (g .inside))) ∙ e))
 
     module _ (c : k < length S - at) where
-      pub r-bad : (parameterWidth m ≡ k → (m ≡ pos 0 → ⊥) → validIn (fontOrNone (h .position .font)) (h .position .x .0 +ℤ m) ≡ true → ⊥) → StepIs S at h is Bad
+      pub r-bad : (parameterWidth m ≡ k → (m ≡ pos 0 → ⊥) → validIn (fontOrNone (h .font)) (h .x .0 +ℤ m) ≡ true → ⊥) → StepIs S at h is Bad
       r-bad f =
           sym (right-bad H (getD S at 0) P k (x-near (g .sound)) (g .some-bytes) (g .few-bytes) opcode-right (whole c)
           (λ w n. let p = right-parts H (getD S at 0) P k m n in f w (not-zero m (p .1 .1 .0)) (p .1 .1 .1)))
 
       pub r-go : Bytes S → Page.beforeRight (stageOf (h .stage)) ≡ true → parameterWidth m ≡ k → (m ≡ pos 0 → ⊥)
-          → validIn (fontOrNone (h .position .font)) (h .position .x .0 +ℤ m) ≡ true → step (inPage H) (getD S at 0) P ≡ go (pageStateAfter H (across m)) k
+          → validIn (fontOrNone (h .font)) (h .x .0 +ℤ m) ≡ true → step (inPage H) (getD S at 0) P ≡ go (pageStateAfter H (across m)) k
       r-go y b w n v =
           right-go H (getD S at 0) P k (x-near (g .sound)) (g .some-bytes) (g .few-bytes) opcode-right (whole c) (bytes-drop (at + 1) S y) w
           (parts-right H (getD S at 0) P k m more b (a-move m n) v)
@@ -167,27 +166,27 @@ module _ (S : List ℕ) (at op k : ℕ) (h : PageState) (g : MayMove S at op k h
     opcode-down : getD S at 0 ≡ 156 + k
     opcode-down = g .opcode-is ∙ o
 
-    pub d-not : (Page.beforeDown (stageOf (h .stage)) ≡ true → validIn (fontOrNone (h .position .font)) (h .position .x .0) ≡ true → ⊥) → StepIs S at h is Bad
+    pub d-not : (Page.beforeDown (stageOf (h .stage)) ≡ true → validIn (fontOrNone (h .font)) (h .x .0) ≡ true → ⊥) → StepIs S at h is Bad
     d-not e = sym (down-not H (getD S at 0) P k (y-near (g .sound)) (g .some-bytes) (g .few-bytes) opcode-down e)
 
-    pub d-bad : k < length S - at → (parameterWidth m ≡ k → (m ≡ pos 0 → ⊥) → isDown (positionOf (h .position) .y +ℤ m) ≡ true → ⊥) → StepIs S at h is Bad
+    pub d-bad : k < length S - at → (parameterWidth m ≡ k → (m ≡ pos 0 → ⊥) → isDown (pagePosition h .y +ℤ m) ≡ true → ⊥) → StepIs S at h is Bad
     d-bad c f =
         sym (down-bad H (getD S at 0) P k (y-near (g .sound)) (g .some-bytes) (g .few-bytes) opcode-down (whole c)
         (λ w n. let p = down-parts H (getD S at 0) P k m n in f w (not-zero m (p .1 .1 .0)) (p .1 .1 .1 .1)))
 
-    module _ (b : Page.beforeDown (stageOf (h .stage)) ≡ true) (v : validIn (fontOrNone (h .position .font)) (h .position .x .0) ≡ true) where
-      pub d-found : length S - at ≤ k → someBelow heights (λ n. downBegins (drop at S) (positionOf (h .position)) (pos (3 * n))) ≡ true → StepIs S at h is Short
+    module _ (b : Page.beforeDown (stageOf (h .stage)) ≡ true) (v : validIn (fontOrNone (h .font)) (h .x .0) ≡ true) where
+      pub d-found : length S - at ≤ k → someBelow heights (λ n. downBegins (drop at S) (pagePosition h) (pos (3 * n))) ≡ true → StepIs S at h is Short
       d-found c e =
           sym (down-found H (getD S at 0) P k (y-near (g .sound)) (g .some-bytes) (g .few-bytes) opcode-down more b v (cut-short c)
-          (ap (λ (s : List ℕ). someBelow heights (λ n. downBegins s (positionOf (h .position)) (pos (3 * n)))) (sym (drop-here S at (g .inside))) ∙ e))
+          (ap (λ (s : List ℕ). someBelow heights (λ n. downBegins s (pagePosition h) (pos (3 * n)))) (sym (drop-here S at (g .inside))) ∙ e))
 
-      pub d-none : length S - at ≤ k → someBelow heights (λ n. downBegins (drop at S) (positionOf (h .position)) (pos (3 * n))) ≡ false → StepIs S at h is Bad
+      pub d-none : length S - at ≤ k → someBelow heights (λ n. downBegins (drop at S) (pagePosition h) (pos (3 * n))) ≡ false → StepIs S at h is Bad
       d-none c e =
           sym (down-none H (getD S at 0) P k (y-near (g .sound)) (g .some-bytes) (g .few-bytes) opcode-down more b v (cut-short c)
-          (ap (λ (s : List ℕ). someBelow heights (λ n. downBegins s (positionOf (h .position)) (pos (3 * n)))) (sym (drop-here S at (g .inside))) ∙ e))
+          (ap (λ (s : List ℕ). someBelow heights (λ n. downBegins s (pagePosition h) (pos (3 * n)))) (sym (drop-here S at (g .inside))) ∙ e))
 
       pub d-go : k < length S - at → Bytes S → parameterWidth m ≡ k → (m ≡ pos 0 → ⊥)
-          → isDown (positionOf (h .position) .y +ℤ m) ≡ true → step (inPage H) (getD S at 0) P ≡ go (pageStateAfter H (downward m)) k
+          → isDown (pagePosition h .y +ℤ m) ≡ true → step (inPage H) (getD S at 0) P ≡ go (pageStateAfter H (downward m)) k
       d-go c y w n d =
           down-go H (getD S at 0) P k (y-near (g .sound)) (g .some-bytes) (g .few-bytes) opcode-down (whole c) (bytes-drop (at + 1) S y) w
           (parts-down H (getD S at 0) P k m more b (a-move m n) v d)
@@ -195,7 +194,7 @@ module _ (S : List ℕ) (at op k : ℕ) (h : PageState) (g : MayMove S at op k h
 -- ---- put
 
 module _ (S : List ℕ) (at : ℕ) (h : PageState) (a : at < length S) (o : getD S at 0 ≡ 133) (is : List Item) (l : length is < maxItems) where
-  pub p-not : (Page.beforePut (stageOf (h .stage)) ≡ true → validIn (fontOrNone (h .position .font)) (h .position .x .0) ≡ true → ⊥) → StepIs S at h is Bad
+  pub p-not : (Page.beforePut (stageOf (h .stage)) ≡ true → validIn (fontOrNone (h .font)) (h .x .0) ≡ true → ⊥) → StepIs S at h is Bad
   p-not f = sym (put-not (pageStateOf is h) (getD S at 0) (drop (at + 1) S) o f)
 
   next-here : at + 1 < length S → drop (at + 1) S ≡ getD S (at + 1) 0 ∷ drop (suc (at + 1)) S
@@ -204,7 +203,7 @@ module _ (S : List ℕ) (at : ℕ) (h : PageState) (a : at < length S) (o : getD
   pub p-bad : at + 1 < length S → (1 ≤ getD S (at + 1) 0 → getD S (at + 1) 0 ≤ 108 → ⊥) → StepIs S at h is Bad
   p-bad n f = sym (put-bad (pageStateOf is h) (getD S at 0) (drop (at + 1) S) o (getD S (at + 1) 0) (drop (suc (at + 1)) S) (next-here n) f)
 
-  module _ (b : Page.beforePut (stageOf (h .stage)) ≡ true) (v : validIn (fontOrNone (h .position .font)) (h .position .x .0) ≡ true) where
+  module _ (b : Page.beforePut (stageOf (h .stage)) ≡ true) (v : validIn (fontOrNone (h .font)) (h .x .0) ≡ true) where
     pub p-short : length S - at < 2 → StepIs S at h is Short
     p-short n = sym (put-short (pageStateOf is h) (getD S at 0) (drop (at + 1) S) o (lt-ltb (length is) maxItems l) b v (drop-of-length-le S {i = at + 1} (omega arith)))
 

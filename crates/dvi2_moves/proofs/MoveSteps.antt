@@ -21,7 +21,7 @@ use Rattle.dvi2.specs.Writer.{parameterWidth, shortest}
 use Rattle.dvi2_reading.specs.PageReading.{begins, across, downward, inBytes, PageState, beforeRight, beforeDown, isMore, validIn, isDown, mayCome, someBelow, lowest}
 use Rattle.dvi2_reading.specs.Reading.{inPage, pageStateAfter, refuse, short, go, step, places, heights}
 use Rattle.dvi2_reading.specs.BytesLaws.{both-true, begins-is, some-found, found-some}
-use Rattle.dvi2_reading.specs.PieceLaws.{there-and-back, x-mag}
+use Rattle.dvi2_reading.specs.PieceLaws.{move-between, x-mag}
 use Rattle.dvi2_reading.specs.WayLaws.{font-there}
 use Rattle.dvi2_reading.specs.CharacterPath.{mag-dif, down-mag}
 use Rattle.dvi2_reading.specs.MayLaws.{way₃, way₄, as-such, counted, down-counted}
@@ -41,7 +41,7 @@ unfolding inBytes
 down-bytes m = refl
 
 near-move : (a m : ℤ) → mag a < 4000000 → mag (a +ℤ m) < 4000000 → mag m < 2147483648
-near-move a m h k = subst (λ (z : ℤ). mag z < 2147483648) (there-and-back a m) (mag-dif (a +ℤ m) a k h)
+near-move a m h k = subst (λ (z : ℤ). mag z < 2147483648) (move-between a m) (mag-dif (a +ℤ m) a k h)
 
 module _ (h : PageState) (b : ℕ) (ps : List ℕ) (k : ℕ) where
   pub right-parts : (m : ℤ) → mayCome h (across m) ≡ true
@@ -114,7 +114,7 @@ module _ (h : PageState) (b : ℕ) (ps : List ℕ) (k : ℕ) where
           let w = right-parts m c in
           let t = font-there (h .position .font) (h .position .x +ℤ m) (w .1 .1 .1) in
           let n = counted (isDouble (sizeIndex (t .font))) (h .position .x +ℤ m) (t .x-valid) in
-          let q : entryX (n .count) -ℤ h .position .x ≡ m = ap (λ (a : ℤ). a -ℤ h .position .x) (n .place-is) ∙ there-and-back (h .position .x) m in
+          let q : entryX (n .count) -ℤ h .position .x ≡ m = ap (λ (a : ℤ). a -ℤ h .position .x) (n .place-is) ∙ move-between (h .position .x) m in
           let y : rightBegins (b ∷ ps) (h .position) (entryX (n .count)) ≡ true =
           both-true (begins (b ∷ ps) (shortest RIGHT1 (entryX (n .count) -ℤ h .position .x))) _
           (subst (λ (a : ℤ). begins (b ∷ ps) (shortest RIGHT1 a) ≡ true) (sym q) g)
@@ -199,7 +199,7 @@ module _ (h : PageState) (b : ℕ) (ps : List ℕ) (k : ℕ) where
           (λ m c g.
           let w = down-parts m c in
           let n = down-counted (h .position .y +ℤ m) (w .1 .1 .1 .1) in
-          let q : pos (3 * n .count) -ℤ h .position .y ≡ m = ap (λ (a : ℤ). a -ℤ h .position .y) (n .place-is) ∙ there-and-back (h .position .y) m in
+          let q : pos (3 * n .count) -ℤ h .position .y ≡ m = ap (λ (a : ℤ). a -ℤ h .position .y) (n .place-is) ∙ move-between (h .position .y) m in
           let z : downBegins (b ∷ ps) (h .position) (pos (3 * n .count)) ≡ true =
           both-true (begins (b ∷ ps) (shortest DOWN1 (pos (3 * n .count) -ℤ h .position .y))) (not (eqZ (pos (3 * n .count) -ℤ h .position .y) (pos 0)))
           (subst (λ (a : ℤ). begins (b ∷ ps) (shortest DOWN1 a) ≡ true) (sym q) g)

@@ -1,19 +1,17 @@
 // The moves of a page, and put1.
 use dvi2_commands::command;
-use dvi2_commands::position;
-use dvi2_commands::position::Position;
 use dvi2_state::begin;
 use dvi2_state::page_state;
 use dvi2_state::page_state::PageState;
 use dvi2_state::page_state::Stage;
 use dvi2_state::page_state::Stepped;
+use galley_file::character;
 use measure::Quanta;
 use measure::Units;
 use octets::number;
 ghost use mathlib.Core.Bool.{true};
 ghost use mathlib.Core.Path.{_≡_};
 ghost use Prim.Native.Nat.{_+_, _≤_, _<_};
-ghost use lib.IntN.{_+ℤ_};
 ghost use lib.ListN.{length, getD};
 ghost use Rattle.octets.specs.Octets.{signedAt};
 ghost use Rattle.dvi.specs.FontOrNone.{fontOrNone};
@@ -22,14 +20,12 @@ ghost use Rattle.dvi2_reading.specs.Reading as R;
 ghost use Rattle.dvi2_state.specs.Page.{StepsAs, MayMove};
 
 // The first and the last x of any size.
-const FIRST_X: i64 = -55;
+const FIRST_X: i64 = measure::FIRST_X.0 as i64;
 
-const LAST_X: i64 = 3_239;
+const LAST_X: i64 = measure::CARRIAGE_END.0 as i64;
 
 // Three times the greatest height.
-const LOWEST: i64 = 3_000_000;
-
-const LAST_CODE: u8 = 108;
+const LOWEST: i64 = measure::PER_QUANTUM as i64 * measure::HEIGHT_END.0 as i64;
 
 // The number in the k bytes from `at`.
 fn signed_at(s: &[u8], at: usize, k: usize) -> i32
@@ -46,13 +42,6 @@ fn signed_at(s: &[u8], at: usize, k: usize) -> i32
         return number::signed3_at(s, at);
     }
     number::signed4_at(s, at)
-}
-
-// The exact sum.
-fn sum(a: i32, b: i32) -> i64
-    ensures { λ r. ⌜ r ≡ a +ℤ b ⌝ }
-{
-    a as i64 + b as i64
 }
 
 // Whether a character of font f may stand at t.
@@ -95,10 +84,9 @@ pub fn right(s: &[u8], at: usize, k: usize, h: PageState) -> Stepped
     ensures { λ r. ⌜ StepsAs (now (s .entry)) at h r ⌝ }
 {
     let stage = h.stage;
-    let p = h.position;
     if page_state::before_right(stage) {
         if s.len() - at <= k {
-            if begin::may_begin_right(s, at, p) {
+            if begin::may_begin_right(s, at, h) {
                 return Stepped::Short;
             }
             return Stepped::Bad;
@@ -110,18 +98,15 @@ pub fn right(s: &[u8], at: usize, k: usize, h: PageState) -> Stepped
         if m == 0 {
             return Stepped::Bad;
         }
-        let t = sum(p.x.0, m);
-        if valid_at(p.font, t) {
-            let height = p.height;
-            let to = Position {
-                font: p.font,
-                x: Units(t as i32),
-                height: height,
-            };
+        let t = measure::moved(h.x.0, m);
+        if valid_at(h.font, t) {
+            let height = h.height;
             return Stepped::Go(
                 PageState {
                     stage: Stage::Moved,
-                    position: to,
+                    font: h.font,
+                    x: Units(t as i32),
+                    height: height,
                 },
                 k,
             );
@@ -137,12 +122,11 @@ pub fn down(s: &[u8], at: usize, k: usize, h: PageState) -> Stepped
     ensures { λ r. ⌜ StepsAs (now (s .entry)) at h r ⌝ }
 {
     let stage = h.stage;
-    let p = h.position;
-    let x = p.x;
+    let x = h.x;
     if page_state::before_down(stage) {
-        if page_state::valid_in(p.font, x) {
+        if page_state::valid_in(h.font, x) {
             if s.len() - at <= k {
-                if begin::may_begin_down(s, at, p) {
+                if begin::may_begin_down(s, at, h) {
                     return Stepped::Short;
                 }
                 return Stepped::Bad;
@@ -154,17 +138,14 @@ pub fn down(s: &[u8], at: usize, k: usize, h: PageState) -> Stepped
             if m == 0 {
                 return Stepped::Bad;
             }
-            let t = sum(position::PER_QUANTUM * p.height.0, m);
+            let t = measure::moved(measure::PER_QUANTUM * h.height.0, m);
             if is_down(t) {
-                let to = Position {
-                    font: p.font,
-                    x: x,
-                    height: height_at(t),
-                };
                 return Stepped::Go(
                     PageState {
                         stage: Stage::Lowered,
-                        position: to,
+                        font: h.font,
+                        x: x,
+                        height: height_at(t),
                     },
                     k,
                 );
@@ -182,9 +163,9 @@ pub fn put(s: &[u8], at: usize, h: PageState) -> Stepped
     ensures { λ r. ⌜ StepsAs (now (s .entry)) at h r ⌝ }
 {
     let stage = h.stage;
-    let x = h.position.x;
+    let x = h.x;
     if page_state::before_put(stage) {
-        if page_state::valid_in(h.position.font, x) {
+        if page_state::valid_in(h.font, x) {
             if s.len() - at < 2 {
                 return Stepped::Short;
             }
@@ -192,7 +173,7 @@ pub fn put(s: &[u8], at: usize, h: PageState) -> Stepped
             if c < 1 {
                 return Stepped::Bad;
             }
-            if LAST_CODE < c {
+            if character::LAST_CODE < c {
                 return Stepped::Bad;
             }
             return Stepped::Put(c);

@@ -50,7 +50,7 @@ module _ (S : List ℕ) (at : ℕ) (h : PageState) (sound : SoundPage h) (is : L
   P = drop (at + 1) S
 
   abbrev chooses : ℕ → Bool
-  chooses f = mayChoose (stageOf (h .stage)) (charactersOf is) (fontOrNone (h .position .font)) f
+  chooses f = mayChoose (stageOf (h .stage)) (charactersOf is) (fontOrNone (h .font)) f
 
   select-is : (f : ℕ) → mayCome H (selecting f) ≡ chooses f
   unfolding mayCome
@@ -66,14 +66,14 @@ module _ (S : List ℕ) (at : ℕ) (h : PageState) (sound : SoundPage h) (is : L
     none-here : length S - at < 2 → P ≡ []
     none-here n = drop-of-length-le S {i = at + 1} (omega arith)
 
-    pub s-short : length S - at < 2 → someBelow 120 (choosesHigh (stageOf (h .stage)) (charactersOf is) (fontOrNone (h .position .font))) ≡ true → short ≡ step (inPage H) B P
+    pub s-short : length S - at < 2 → someBelow 120 (choosesHigh (stageOf (h .stage)) (charactersOf is) (fontOrNone (h .font))) ≡ true → short ≡ step (inPage H) B P
     unfolding choosesHigh
     s-short n e =
-        let f = some-found 120 (choosesHigh (stageOf (h .stage)) (charactersOf is) (fontOrNone (h .position .font))) e in
+        let f = some-found 120 (choosesHigh (stageOf (h .stage)) (charactersOf is) (fontOrNone (h .font))) e in
         let b = both (leb 64 (f .found)) (chooses (f .found)) (f .holds) in
         sym (high-some H B P o (none-here n) (f .found) (leb-true 64 (f .found) (b .0)) (f .is-below) (select-is (f .found) ∙ b .1))
 
-    pub s-none : length S - at < 2 → someBelow 120 (choosesHigh (stageOf (h .stage)) (charactersOf is) (fontOrNone (h .position .font))) ≡ false → refuse ≡ step (inPage H) B P
+    pub s-none : length S - at < 2 → someBelow 120 (choosesHigh (stageOf (h .stage)) (charactersOf is) (fontOrNone (h .font))) ≡ false → refuse ≡ step (inPage H) B P
     s-none n e =
         sym (high-none H B P o (none-here n)
         (λ f a b. select-is f ∙ off f (chooses f) refl a b)
@@ -81,11 +81,11 @@ module _ (S : List ℕ) (at : ℕ) (h : PageState) (sound : SoundPage h) (is : L
       where
         off : (f : ℕ) (t : Bool) → chooses f ≡ t → 64 ≤ f → f < 120 → t ≡ false
         off f true q a b =
-            absurd (no-truth _ (found-some 120 (choosesHigh (stageOf (h .stage)) (charactersOf is) (fontOrNone (h .position .font))) f b (chooses-high (stageOf (h .stage)) (charactersOf is) (fontOrNone (h .position .font)) f a ∙ q)) e)
+            absurd (no-truth _ (found-some 120 (choosesHigh (stageOf (h .stage)) (charactersOf is) (fontOrNone (h .font))) f b (chooses-high (stageOf (h .stage)) (charactersOf is) (fontOrNone (h .font)) f a ∙ q)) e)
         off f false q a b = refl
 
         small : (f : ℕ) (t : Bool) → leb 120 f ≡ t → chooses f ≡ true → f < 120
-        small f true q c = absurd (no-truth (chooses f) c (sym (choose-big (h .position .font) f low high is k (stageOf (h .stage)) (leb-true 120 f q) (sound .font-valid))))
+        small f true q c = absurd (no-truth (chooses f) c (sym (choose-big (h .font) f low high is k (stageOf (h .stage)) (leb-true 120 f q) (sound .font-valid))))
         small f false q c = leb-false 120 f q
 
     module _ (n : at + 1 < length S) where

@@ -1,6 +1,7 @@
 // The fonts of a page: their definitions, and the commands that select them.
 use crate::matching;
 use crate::matching::Match;
+use dvi2::opcode;
 use dvi2_commands::font;
 use dvi2_state::page_state;
 use dvi2_state::page_state::PageState;
@@ -22,16 +23,12 @@ ghost use Rattle.dvi2_reading.specs.PageReading as Page;
 ghost use Rattle.dvi2_state.specs.Page.{stageOf, SoundPage};
 ghost use Rattle.dvi2_page.specs.Fonts.{Known, StepsWith, choosesHigh, isFree};
 
-const FNTNUM0: u8 = 171;
-
-const FONTS: u8 = 120;
-
 // Whether font f may be chosen at a stage, after the font `last`.
 fn may_choose(stage: Stage, last: u8, used: Fonts, f: u8) -> bool
     requires { ⌜ ((g : ℕ) → fontOrNone last ≡ some g → g < 120) ⌝ }
     ensures { λ r. ⌜ ((is : List Item) → Known (used .low) (used .high) is → r ≡ Page.mayChoose (stageOf stage) (charactersOf is) (fontOrNone last) f) ⌝ }
 {
-    if FONTS <= f {
+    if galley_file::font::FONTS <= f {
         return false;
     }
     match stage {
@@ -53,8 +50,8 @@ fn may_begin_font(stage: Stage, last: u8, used: Fonts) -> bool
     requires { ⌜ ((g : ℕ) → fontOrNone last ≡ some g → g < 120) ⌝ }
     ensures { λ r. ⌜ ((is : List Item) → Known (used .low) (used .high) is → r ≡ Page.someBelow 120 (choosesHigh (stageOf stage) (charactersOf is) (fontOrNone last))) ⌝ }
 {
-    let mut f: u8 = 64;
-    while f < FONTS {
+    let mut f: u8 = opcode::FNTNUMS;
+    while f < galley_file::font::FONTS {
         if may_choose(stage, last, used, f) {
             return true;
         }
@@ -68,7 +65,7 @@ fn some_free(used: Fonts) -> bool
     ensures { λ r. ⌜ ((is : List Item) → Known (used .low) (used .high) is → r ≡ Page.someBelow 120 (isFree (charactersOf is))) ⌝ }
 {
     let mut f: u8 = 0;
-    while f < FONTS {
+    while f < galley_file::font::FONTS {
         if fonts::has_font(used, f) {
             f += 1;
         } else {
@@ -83,9 +80,9 @@ pub fn select_low(s: &[u8], at: usize, h: PageState, used: Fonts) -> Stepped
     requires { ⌜ ((at < length (now s)) × ((171 ≤ getD (now s) at 0) × (getD (now s) at 0 ≤ 234))) × SoundPage h ⌝ }
     ensures { λ r. ⌜ StepsWith (now (s .entry)) at h used r ⌝ }
 {
-    let f = s[at] - FNTNUM0;
+    let f = s[at] - opcode::FNTNUM0;
     let stage = h.stage;
-    if may_choose(stage, h.position.font, used, f) {
+    if may_choose(stage, h.font, used, f) {
         let g = page_state::with_font(h, Stage::Chosen, f);
         return Stepped::Go(g, 0);
     }
@@ -98,7 +95,7 @@ pub fn select_high(s: &[u8], at: usize, h: PageState, used: Fonts) -> Stepped
     ensures { λ r. ⌜ StepsWith (now (s .entry)) at h used r ⌝ }
 {
     let stage = h.stage;
-    let last = h.position.font;
+    let last = h.font;
     if s.len() - at < 2 {
         if may_begin_font(stage, last, used) {
             return Stepped::Short;
@@ -106,7 +103,7 @@ pub fn select_high(s: &[u8], at: usize, h: PageState, used: Fonts) -> Stepped
         return Stepped::Bad;
     }
     let f = s[at + 1];
-    if f < 64 {
+    if f < opcode::FNTNUMS {
         return Stepped::Bad;
     }
     if may_choose(stage, last, used, f) {
@@ -117,11 +114,11 @@ pub fn select_high(s: &[u8], at: usize, h: PageState, used: Fonts) -> Stepped
 }
 
 // The definition of font f.
-pub fn definition(f: u8) -> [u8; 20]
+pub fn definition(f: u8) -> [u8; font::DEFINITION]
     requires { ⌜ f < 120 ⌝ }
     ensures { λ r. ⌜ r ≡ W.definition f ⌝ }
 {
-    let mut e = [0u8; 20];
+    let mut e = [0u8; font::DEFINITION];
     font::put_definition(&mut e, 0, f);
     e
 }
@@ -131,7 +128,7 @@ fn define_font(s: &[u8], at: usize, h: PageState, used: Fonts, f: u8) -> Stepped
     requires { ⌜ ((at + 1 < length (now s)) × ((getD (now s) at 0 ≡ 243) × (getD (now s) (at + 1) 0 ≡ f))) × (Page.isReady (stageOf (h .stage)) ≡ true) ⌝ }
     ensures { λ r. ⌜ StepsWith (now (s .entry)) at h used r ⌝ }
 {
-    if FONTS <= f {
+    if galley_file::font::FONTS <= f {
         return Stepped::Bad;
     }
     if fonts::has_font(used, f) {

@@ -2,11 +2,13 @@
 pub mod fonts;
 pub mod matching;
 
+use dvi2::opcode;
 use dvi2_moves::moves;
 use dvi2_state::page_state;
 use dvi2_state::page_state::PageState;
 use dvi2_state::page_state::Stepped;
 use extents::fonts::Fonts;
+use galley_file::item;
 ghost use mathlib.Core.Path.{_≡_};
 ghost use mathlib.Core.List.{List};
 ghost use Prim.Native.Nat.{_+_, _≤_, _<_};
@@ -15,43 +17,22 @@ ghost use Rattle.galley_file.specs.declared.item.Item.{Item};
 ghost use Rattle.dvi2_state.specs.Page.{SoundPage, StepIs, StepsAs};
 ghost use Rattle.dvi2_page.specs.Fonts.{Known, StepsWith};
 
-pub const MAX_ITEMS: usize = 1_048_576;
-
-const PUT1: u8 = 133;
-
-const EOP: u8 = 140;
-
-// right1 to right4, and down1 to down4.
-const RIGHT1: u8 = 143;
-
-const RIGHT4: u8 = 146;
-
-const DOWN1: u8 = 157;
-
-const DOWN4: u8 = 160;
-
-const FNTNUM0: u8 = 171;
-
-const FNT1: u8 = 235;
-
-const FNTDEF1: u8 = 243;
-
 // A command of a font.
 fn font_step(s: &[u8], at: usize, h: PageState, used: Fonts) -> Stepped
     requires { ⌜ ((at < length (now s)) × (161 ≤ getD (now s) at 0)) × SoundPage h ⌝ }
     ensures { λ r. ⌜ StepsWith (now (s .entry)) at h used r ⌝ }
 {
     let op = s[at];
-    if op < FNTNUM0 {
+    if op < opcode::FNTNUM0 {
         return Stepped::Bad;
     }
-    if op < FNT1 {
+    if op < opcode::FNT1 {
         return fonts::select_low(s, at, h, used);
     }
-    if op == FNT1 {
+    if op == opcode::FNT1 {
         return fonts::select_high(s, at, h, used);
     }
-    if op == FNTDEF1 {
+    if op == opcode::FNTDEF1 {
         return fonts::define(s, at, h, used);
     }
     Stepped::Bad
@@ -63,19 +44,19 @@ fn move_step(s: &[u8], at: usize, h: PageState) -> Stepped
     ensures { λ r. ⌜ StepsAs (now (s .entry)) at h r ⌝ }
 {
     let op = s[at];
-    if op == PUT1 {
+    if op == opcode::PUT1 {
         return moves::put(s, at, h);
     }
-    if op < RIGHT1 {
+    if op < opcode::RIGHT1 {
         return Stepped::Bad;
     }
-    if op <= RIGHT4 {
-        return moves::right(s, at, (op - RIGHT1) as usize + 1, h);
+    if op <= opcode::RIGHT4 {
+        return moves::right(s, at, (op - opcode::RIGHT1) as usize + 1, h);
     }
-    if op < DOWN1 {
+    if op < opcode::DOWN1 {
         return Stepped::Bad;
     }
-    moves::down(s, at, (op - DOWN1) as usize + 1, h)
+    moves::down(s, at, (op - opcode::DOWN1) as usize + 1, h)
 }
 
 // The command at `at`, after `count` items with these fonts.
@@ -84,17 +65,17 @@ pub fn step(s: &[u8], at: usize, h: PageState, count: usize, used: Fonts) -> Ste
     ensures { λ r. ⌜ ((is : List Item) → length is ≡ count → Known (used .low) (used .high) is → StepIs (now (s .entry)) at h is r) ⌝ }
 {
     let op = s[at];
-    if op == EOP {
+    if op == opcode::EOP {
         let stage = h.stage;
         if page_state::is_ready(stage) {
             return Stepped::End;
         }
         return Stepped::Bad;
     }
-    if MAX_ITEMS <= count {
+    if item::MAX_ITEMS <= count {
         return Stepped::Bad;
     }
-    if op <= DOWN4 {
+    if op <= opcode::DOWN4 {
         return move_step(s, at, h);
     }
     font_step(s, at, h, used)

@@ -15,7 +15,7 @@ use Rattle.galley_file.specs.declared.form.Form.the-variants.{New}
 use Rattle.galley_file.specs.declared.item.Item.{Item}
 use Rattle.galley_file.specs.Galley.{galley}
 use Rattle.dvi2.specs.File.{maxDvi2}
-use Rattle.dvi2_reading.specs.Reading.{gives, bad, readFile, readResult, read2Result}
+use Rattle.dvi2_reading.specs.Reading.{gives, bad, readFile, galleyResult, read2Result}
 use Rattle.dvi2_close.specs.declared.expect.Reading.{Reading}
 use Rattle.dvi2_close.specs.declared.expect.Reading.the-variants.{To, Fault}
 use Rattle.dvi2_reader.specs.Pass.{Given, Passed}
@@ -32,11 +32,11 @@ module _ (s : List ℕ) where
   module _ (l : length s ≤ maxDvi2) where
     -- 46
     pub fault-gives : (buffer : List ℕ) (place : ℕ) → readFile s ≡ bad place → Gives (refused notOurs place) (read2Result s) buffer buffer
-    unfolding read2Result readResult ifRoom
+    unfolding read2Result galleyResult ifRoom
     fault-gives buffer place e = outcome-gives {r = refusal notOurs place} (rw (le-ltb maxDvi2 (length s) l, e)) refl refl
 
     result-is : (room : ℕ) (is : List Item) → readFile s ≡ gives is → read2Result s room ≡ ifRoom noGalleyRoom room (written (galley New is))
-    unfolding read2Result readResult
+    unfolding read2Result galleyResult
     result-is room is e = rw (le-ltb maxDvi2 (length s) l, e)
 
     module _ (scrap scrap′ buffer : List ℕ) (n : ℕ) (g : Given s scrap scrap′ n) where

@@ -10,7 +10,7 @@ use lib.ListN.{length, take, drop, take-append-drop}
 use lib.Seq.{drop-cons, take-all, take-take}
 use Rattle.octets.specs.OctetsLaws.{by-test}
 use Rattle.galley_file.specs.declared.item.Item.{Item}
-use Rattle.dvi2_reading.specs.Beginning.{Made, Begins, commandSize, CommandAt, first, next, Refused, badCommand, endsEarly}
+use Rattle.dvi2_reading.specs.Beginning.{FileOf, Begins, commandSize, CommandAt, first, next, Refused, badCommand, endsEarly}
 
 -- ---- beginnings
 
@@ -28,7 +28,7 @@ begins-take n m s h b =
     begins-part (take n s) (drop n (take m s))
     (subst Begins (sym (ap (λ (l : List ℕ). l ++ drop n (take m s)) (sym (take-take n m s h)) ∙ take-append-drop n (take m s))) b)
 
-made-begins : (s : List ℕ) (is : List Item) → Made s is → Begins s
+made-begins : (s : List ℕ) (is : List Item) → FileOf s is → Begins s
 made-begins s is m = record { items = is; rest = []; made = record { writable = m .writable; file-is = append-nil s ∙ m .file-is } }
 
 -- ---- the place is the only one
@@ -66,6 +66,6 @@ refused-once s p q (badCommand c l b n) (endsEarly e o m) = absurd (n (whole-par
 refused-once s p q (endsEarly e o m) (badCommand c l b n) = absurd (n (whole-part s (q + commandSize (drop q s)) o))
 refused-once s p q (endsEarly e o m) (endsEarly d k n) = e ∙ sym d
 
-pub refused-none : (s : List ℕ) (p : ℕ) (is : List Item) → Refused s p → Made s is → ⊥
+pub refused-none : (s : List ℕ) (p : ℕ) (is : List Item) → Refused s p → FileOf s is → ⊥
 refused-none s p is (badCommand c l b n) m = n (whole-part s (p + commandSize (drop p s)) (made-begins s is m))
 refused-none s p is (endsEarly e b n) m = n is m

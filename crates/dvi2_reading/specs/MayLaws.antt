@@ -31,10 +31,10 @@ use Rattle.dvi2_reading.specs.Reading.{State, start, opened, inPage, bet
 use Rattle.dvi2_reading.specs.BytesLaws.{both-true, either, left-true, right-true, Longer, begins-is, is-begins, some-found, found-some}
 use Rattle.dvi2_reading.specs.CommandLaws.{MoveFits, page-next, next-page, only-is, is-only}
 use Rattle.dvi2_reading.specs.Reached.{writingOf, PageReached, Reached}
-use Rattle.dvi2_reading.specs.PieceLaws.{there-and-back, between-mag}
+use Rattle.dvi2_reading.specs.PieceLaws.{move-between, between-mag}
 use Rattle.dvi2_reading.specs.WayLaws.{font-there}
 use Rattle.dvi2_reading.specs.PageLaws.{page-reached}
-use Rattle.dvi2_reading.specs.StateLaws.{Onward, to-post, to-page, onward}
+use Rattle.dvi2_reading.specs.StateLaws.{AfterEop, to-post, to-page, onward}
 use Rattle.dvi2_reading.specs.CharacterPath.{mag-dif, down-mag}
 use Rattle.dvi2_reading.specs.PathLaws.{post-path, page-path, start-path, opened-path}
 
@@ -181,7 +181,7 @@ module _ (h : PageState) (bs : List ℕ) (k : PageReached h bs) (s : List ℕ) w
       let b₃ = both (not (eqZ m (pos 0))) (validIn (h .position .font) (h .position .x +ℤ m)) (b₂ .1) in
       let t = font-there (h .position .font) (h .position .x +ℤ m) (b₃ .1) in
       let n = counted (isDouble (sizeIndex (t .font))) (h .position .x +ℤ m) (t .x-valid) in
-      let q : entryX (n .count) -ℤ h .position .x ≡ m = ap (λ (a : ℤ). a -ℤ h .position .x) (n .place-is) ∙ there-and-back (h .position .x) m in
+      let q : entryX (n .count) -ℤ h .position .x ≡ m = ap (λ (a : ℤ). a -ℤ h .position .x) (n .place-is) ∙ move-between (h .position .x) m in
       way₃ h s (n .count) (n .is-below) (subst (λ (a : ℤ). mayBeginAs h s (across a) ≡ true) (sym q) (as-such h s (across m) z b e))
   lead-page (downward m) z b e p l =
       let T₄ = validIn (h .position .font) (h .position .x) && isDown (h .position .y +ℤ m) in
@@ -190,7 +190,7 @@ module _ (h : PageState) (bs : List ℕ) (k : PageReached h bs) (s : List ℕ) w
       let b₃ = both (not (eqZ m (pos 0))) T₄ (b₂ .1) in
       let b₄ = both (validIn (h .position .font) (h .position .x)) (isDown (h .position .y +ℤ m)) (b₃ .1) in
       let n = down-counted (h .position .y +ℤ m) (b₄ .1) in
-      let q : pos (3 * n .count) -ℤ h .position .y ≡ m = ap (λ (a : ℤ). a -ℤ h .position .y) (n .place-is) ∙ there-and-back (h .position .y) m in
+      let q : pos (3 * n .count) -ℤ h .position .y ≡ m = ap (λ (a : ℤ). a -ℤ h .position .y) (n .place-is) ∙ move-between (h .position .y) m in
       way₄ h s (n .count) (n .is-below) (subst (λ (a : ℤ). mayBeginAs h s (downward a) ≡ true) (sym q) (as-such h s (downward m) z b e))
   lead-page (putting c) z b e p l =
       let T₃ = validIn (h .position .font) (h .position .x) && (leb 1 c && leb c 108) in
@@ -237,7 +237,7 @@ lead-may (inPage h) r bs s z c k n b p l =
     lead-page h bs k s (w .which) z (sym (w .bytes-are) ∙ b) (w .may) p (subst (λ (d : List ℕ). length s < length d) (w .bytes-are) l)
 lead-may (between is) r bs s z c k n b p l = go (onward is c r n)
   where
-    go : Onward is c r → (begins s (postOf is) || isMore is && begins s (furtherBop (writingOf is))) ≡ true
+    go : AfterEop is c r → (begins s (postOf is) || isMore is && begins s (furtherBop (writingOf is))) ≡ true
     go (to-post e q) = left-true (begins s (postOf is)) (isMore is && begins s (furtherBop (writingOf is))) (is-begins s (postOf is) z (sym e ∙ b))
     go (to-page e m q) =
         right-true (begins s (postOf is)) (isMore is && begins s (furtherBop (writingOf is)))

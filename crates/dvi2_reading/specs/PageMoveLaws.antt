@@ -21,7 +21,7 @@ use Rattle.dvi2.specs.Writer.{fontChange, shortest, move}
 use Rattle.dvi2_reading.specs.PageReading.{across, downward, inBytes, PageState, beforeRight, beforeDown, isMore, validIn, isDown, mayCome}
 use Rattle.dvi2_reading.specs.Reading.{pageStateAfter}
 use Rattle.dvi2_reading.specs.Reached.{writingOf, openBytes, wayTo, PageReached, Reached}
-use Rattle.dvi2_reading.specs.PieceLaws.{more-bytes, there-and-back, move-some, x-between}
+use Rattle.dvi2_reading.specs.PieceLaws.{more-bytes, move-between, move-some, x-between}
 use Rattle.dvi2_reading.specs.WayLaws.{way-across, way-here, font-there, right-put, right-down, down-put, staged-way, staged-x, staged-y, font-same}
 
 module _ (h : PageState) (bs : List ℕ) (k : PageReached h bs) where
@@ -41,7 +41,7 @@ module _ (h : PageState) (bs : List ℕ) (k : PageReached h bs) where
       subst (λ (f : ℕ). validX (isDouble (sizeIndex f)) (h .position .x +ℤ m) ≡ true) (font-same w t) (t .x-valid) in
       let s : move RIGHT1 (h .position .x +ℤ m -ℤ P .position .x) ≡ shortest RIGHT1 m =
       ap (λ (a : ℤ). move RIGHT1 ((h .position .x +ℤ m) -ℤ a)) (sym x-is)
-      ∙ ap (move RIGHT1) (there-and-back (h .position .x) m)
+      ∙ ap (move RIGHT1) (move-between (h .position .x) m)
       ∙ move-some RIGHT1 m (not-true (eqZ m (pos 0)) (b₃ .0)) in
       record {
         writable = k .writable;
@@ -84,7 +84,7 @@ module _ (h : PageState) (bs : List ℕ) (k : PageReached h bs) where
       subst (λ (f : ℕ). validX (isDouble (sizeIndex f)) (h .position .x) ≡ true) (font-same w t) (t .x-valid) in
       let s : move DOWN1 ((h .position .y +ℤ m) -ℤ P .position .y) ≡ shortest DOWN1 m =
       ap (λ (a : ℤ). move DOWN1 ((h .position .y +ℤ m) -ℤ a)) (sym y-is)
-      ∙ ap (move DOWN1) (there-and-back (h .position .y) m)
+      ∙ ap (move DOWN1) (move-between (h .position .y) m)
       ∙ move-some DOWN1 m (not-true (eqZ m (pos 0)) (b₃ .0)) in
       record {
         writable = k .writable;

@@ -87,8 +87,8 @@ file-open is =
 
 -- ---- numbers
 
-pub there-and-back : (a m : ℤ) → (a +ℤ m) -ℤ a ≡ m
-there-and-back a m = omega (integers, sum-parts a m, dif-parts (a +ℤ m) a)
+pub move-between : (a m : ℤ) → (a +ℤ m) -ℤ a ≡ m
+move-between a m = omega (integers, sum-parts a m, dif-parts (a +ℤ m) a)
 
 pub nowhere : (a b : ℤ) → a ≡ b → a -ℤ b ≡ pos 0
 nowhere a b e = omega (integers, dif-parts a b)

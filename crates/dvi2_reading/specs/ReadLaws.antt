@@ -14,7 +14,7 @@ use lib.ListN.{length, take, drop, take-append-drop, length-append, length-drop}
 use lib.Seq.{take-at, drop-at, take-all, take-append-add, length-take-le}
 use Rattle.octets.specs.OctetsLaws.{by-test}
 use Rattle.galley_file.specs.declared.item.Item.{Item}
-use Rattle.dvi2_reading.specs.Beginning.{Made, Begins, parameters, commandSize, CommandAt, first, next, through, Refused, badCommand, endsEarly}
+use Rattle.dvi2_reading.specs.Beginning.{FileOf, Begins, parameters, commandSize, CommandAt, first, next, through, Refused, badCommand, endsEarly}
 use Rattle.dvi2_reading.specs.Reading.{State, start, opened, inPage, between, closing, mayBegin, Read, gives, bad, atEnd, refuse, short, go, wholeStep, step, follow, read, readFile}
 use Rattle.dvi2_reading.specs.Reading as R
 use Rattle.dvi2_reading.specs.BytesLaws.{cut-first, cut-before}
@@ -31,7 +31,7 @@ use Rattle.dvi2_reading.specs.BeginningLaws.{begins-part}
 
 -- each file that begins so goes on from this state
 record Ahead (q : State) (bs : List ℕ) : Type 0 where
-  pub goes-on : (is : List Item) (u : List ℕ) → Made (bs ++ u) is → Path q u (closing is [])
+  pub goes-on : (is : List Item) (u : List ℕ) → FileOf (bs ++ u) is → Path q u (closing is [])
 
 ahead-start : Ahead start []
 ahead-start =
@@ -48,7 +48,7 @@ ahead-next q r bs c a d n =
 
 -- what the reading of the file s comes to
 pub data Comes (s : List ℕ) : Read → Type 0 where
-  comes-items : {is : List Item} → Made s is → Comes s (gives is)
+  comes-items : {is : List Item} → FileOf s is → Comes s (gives is)
   comes-fault : {place : ℕ} → Refused s place → Comes s (bad place)
 
 -- how a reader stands that has read bs and has s before it

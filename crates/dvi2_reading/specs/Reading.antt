@@ -184,10 +184,10 @@ read q at zero (b ∷ bs) = follow at (at + suc (length bs)) (step q b bs) (λ r
 abbrev pub readFile : List ℕ → Read
 readFile s = read start 0 0 s
 
-unfoldable pub readResult : Read → Result
-readResult (gives is) = written (galley New is)
-readResult (bad place) = refusal notOurs place
+unfoldable pub galleyResult : Read → Result
+galleyResult (gives is) = written (galley New is)
+galleyResult (bad place) = refusal notOurs place
 
 -- 20, 46, 12
 unfoldable pub read2Result : List ℕ → ℕ → Result
-read2Result dvi room = cond (ltb maxDvi2 (length dvi)) (refusal fileTooLong 0) (ifRoom noGalleyRoom room (readResult (readFile dvi)))
+read2Result dvi room = cond (ltb maxDvi2 (length dvi)) (refusal fileTooLong 0) (ifRoom noGalleyRoom room (galleyResult (readFile dvi)))

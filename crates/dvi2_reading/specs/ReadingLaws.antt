@@ -1,10 +1,10 @@
 -- The reader and the statement agree: a file is read as `gives is` exactly where the writer makes it of the items `is`, and as `bad place` exactly where 46 at that place
 -- is the refusal.
---     gives-exactly      the reader gives back the items of the writer's files, and accepts no other
---     bad-exactly        and refuses the others where `Refused` says
---     made-once          a file is that of one list of items only
+--     gives-exactly                   the reader gives back the items of the writer's files, and accepts no other
+--     bad-exactly                     and refuses the others where `Refused` says
+--     made-once                       a file is that of one list of items only
 --     result-made, result-refused     what the reader gives
---     accepts-exactly    it gives bytes exactly for the writer's files, and they are the galley
+--     accepts-exactly                 it gives bytes exactly for the writer's files, and they are the galley
 -- Assumes nothing.
 use mathlib.Core.Path.{_≡_, refl, sym, ap, subst, _∙_}
 use mathlib.Core.Bool.{Bool, true, false, cond}
@@ -26,8 +26,8 @@ use Rattle.galley_file.specs.Galley.{galley}
 use Rattle.dvi2.specs.File.{maxDvi2}
 use Rattle.dvi2.specs.Writer.{dvi2File}
 use Rattle.dvi2.specs.WriterLaws.{file-fits}
-use Rattle.dvi2_reading.specs.Beginning.{Writable, Made, parameters, commandSize, next, Refused}
-use Rattle.dvi2_reading.specs.Reading.{State, mayBegin, Read, gives, bad, atEnd, refuse, short, go, wholeStep, step, follow, read, readFile, readResult, read2Result}
+use Rattle.dvi2_reading.specs.Beginning.{Writable, FileOf, parameters, commandSize, next, Refused}
+use Rattle.dvi2_reading.specs.Reading.{State, mayBegin, Read, gives, bad, atEnd, refuse, short, go, wholeStep, step, follow, read, readFile, galleyResult, read2Result}
 use Rattle.dvi2_reading.specs.Reading as R
 use Rattle.dvi2_reading.specs.SizeLaws.{Command}
 use Rattle.dvi2_reading.specs.Path.{Path, stop, step as R-step}
@@ -74,11 +74,11 @@ items-same e = cc
 place-same : {p q : ℕ} → bad p ≡ bad q → p ≡ q
 place-same e = cc
 
-pub gives-exactly : (s : List ℕ) (is : List Item) → (readFile s ≡ gives is) ↔ Made s is
+pub gives-exactly : (s : List ℕ) (is : List Item) → (readFile s ≡ gives is) ↔ FileOf s is
 gives-exactly s is = (λ e. there (readFile s) (reads s) e, λ m. ap readFile (m .file-is) ∙ reads-back is (m .writable))
   where
-    there : (r : Read) → Comes s r → r ≡ gives is → Made s is
-    there r (comes-items {is = js} m) e = subst (Made s) (items-same e) m
+    there : (r : Read) → Comes s r → r ≡ gives is → FileOf s is
+    there r (comes-items {is = js} m) e = subst (FileOf s) (items-same e) m
     there r (comes-fault f) e = no-items e
 
 pub bad-exactly : (s : List ℕ) (place : ℕ) → (readFile s ≡ bad place) ↔ Refused s place
@@ -93,14 +93,14 @@ bad-exactly s place = (λ e. there (readFile s) (reads s) e, λ m. back (readFil
     back r (comes-fault {place = p} g) f = ap bad (refused-once s p place g f)
 
 -- the same file is the file of one list of items only
-pub made-once : (s : List ℕ) (is js : List Item) → Made s is → Made s js → is ≡ js
+pub made-once : (s : List ℕ) (is js : List Item) → FileOf s is → FileOf s js → is ≡ js
 made-once s is js m n = items-same (sym (gives-exactly s is .1 m) ∙ gives-exactly s js .1 n)
 
 -- ---- what the reader gives
 
 -- for a file of the writer's, which is within the limit: its galley
-pub result-made : (s : List ℕ) (is : List Item) (room : ℕ) → Made s is → read2Result s room ≡ ifRoom noGalleyRoom room (written (galley New is))
-unfolding read2Result readResult
+pub result-made : (s : List ℕ) (is : List Item) (room : ℕ) → FileOf s is → read2Result s room ≡ ifRoom noGalleyRoom room (written (galley New is))
+unfolding read2Result galleyResult
 result-made s is room m =
     let l = file-fits is (m .writable .few) in
     let e = ap length (m .file-is) in
@@ -108,22 +108,22 @@ result-made s is room m =
 
 -- for any other file within the limit: 46 at the place
 pub result-refused : (s : List ℕ) (place room : ℕ) → length s ≤ maxDvi2 → Refused s place → read2Result s room ≡ refusal notOurs place
-unfolding read2Result readResult ifRoom
+unfolding read2Result galleyResult ifRoom
 result-refused s place room l f = rw (le-ltb maxDvi2 (length s) l, bad-exactly s place .1 f)
 
 -- what is given back for a file
 pub record GivenBack (s g : List ℕ) (room : ℕ) : Type 0 where
   pub items : List Item
-  pub made : Made s items
+  pub made : FileOf s items
   pub galley-is : g ≡ galley New items
   pub fits : length g ≤ room
 
 -- bytes are given exactly for the writer's files, and they are the galley
 pub accepts-exactly : (s g : List ℕ) (room : ℕ) → (read2Result s room ≡ written g) ↔ GivenBack s g room
-unfolding read2Result readResult
+unfolding read2Result galleyResult
 accepts-exactly s g room = (λ e. there (ltb maxDvi2 (length s)) e, λ k. back k)
   where
-    given : (r : Read) → readFile s ≡ r → ifRoom noGalleyRoom room (readResult r) ≡ written g → GivenBack s g room
+    given : (r : Read) → readFile s ≡ r → ifRoom noGalleyRoom room (galleyResult r) ≡ written g → GivenBack s g room
     given (gives is) q e =
         let w = room-made noGalleyRoom room (written (galley New is)) g e in
         let b : g ≡ galley New is = cc in
@@ -135,7 +135,7 @@ accepts-exactly s g room = (λ e. there (ltb maxDvi2 (length s)) e, λ k. back k
         }
     given (bad place) q e = let w = room-made noGalleyRoom room (refusal notOurs place) g e in absurd (suc-ne-zero 0 cc)
 
-    there : (t : Bool) → cond t (refusal fileTooLong 0) (ifRoom noGalleyRoom room (readResult (readFile s))) ≡ written g → GivenBack s g room
+    there : (t : Bool) → cond t (refusal fileTooLong 0) (ifRoom noGalleyRoom room (galleyResult (readFile s))) ≡ written g → GivenBack s g room
     there true e = absurd (suc-ne-zero 0 cc)
     there false e = given (readFile s) refl e
 

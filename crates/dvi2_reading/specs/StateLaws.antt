@@ -77,11 +77,11 @@ closing-commands is =
 
 -- ---- what leads on between pages
 
-pub data Onward (is : List Item) (c : List ℕ) (r : State) : Type 0 where
-  to-post : c ≡ postOf is → closing is (closingOf is) ≡ r → Onward is c r
-  to-page : c ≡ furtherBop (writingOf is) → length is < maxItems → inPage (newPageState (is ++ (Cut ∷ []))) ≡ r → Onward is c r
+pub data AfterEop (is : List Item) (c : List ℕ) (r : State) : Type 0 where
+  to-post : c ≡ postOf is → closing is (closingOf is) ≡ r → AfterEop is c r
+  to-page : c ≡ furtherBop (writingOf is) → length is < maxItems → inPage (newPageState (is ++ (Cut ∷ []))) ≡ r → AfterEop is c r
 
-pub onward : (is : List Item) (c : List ℕ) (r : State) → next (between is) c ≡ some r → Onward is c r
+pub onward : (is : List Item) (c : List ℕ) (r : State) → next (between is) c ≡ some r → AfterEop is c r
 unfolding next
 onward is c r = go (same c (postOf is)) refl (isMore is) refl
   where
@@ -90,7 +90,7 @@ onward is c r = go (same c (postOf is)) refl (isMore is) refl
 
     go : (t : Bool) → same c (postOf is) ≡ t → (u : Bool) → isMore is ≡ u
         → cond t (some (closing is (closingOf is))) (cond u (only c (furtherBop (writingOf is)) (inPage (newPageState (is ++ (Cut ∷ []))))) none) ≡ some r
-        → Onward is c r
+        → AfterEop is c r
     go true p u q e = to-post (same-is c (postOf is) p) cc
     go false p true q e =
         let o = only-is c (furtherBop (writingOf is)) (inPage (newPageState (is ++ (Cut ∷ [])))) r e in
@@ -118,7 +118,7 @@ next-command opened r bs c k e = subst Command (sym (only-is c firstBop (inPage 
 next-command (inPage h) r bs c k e = let n = next-page h c r e in subst Command (sym (n .bytes-are)) (inBytes-command (n .which))
 next-command (between is) r bs c k e = go (onward is c r e)
   where
-    go : Onward is c r → Command c
+    go : AfterEop is c r → Command c
     go (to-post b l) = subst Command (sym b) (of-post is)
     go (to-page b m l) = subst Command (sym b) (further-command (writingOf is))
 next-command (closing is []) r bs c k e = absurd (suc-ne-zero 0 cc)
@@ -208,7 +208,7 @@ module _ (bs c : List ℕ) where
       to (pageStateAfter h (n .which)) r (inBytes (n .which)) (n .bytes-are) (n .leads) (page-reached h bs k (n .which) (n .may))
   next-reached (between is) r k e = go (onward is c r e)
     where
-      go : Onward is c r → Reached r (bs ++ c)
+      go : AfterEop is c r → Reached r (bs ++ c)
       go (to-post b l) = to (closing is (closingOf is)) r (postOf is) b l (post-closing is bs k)
       go (to-page b m l) = to (inPage (newPageState (is ++ (Cut ∷ [])))) r (furtherBop (writingOf is)) b l (cut-page is bs k m)
   next-reached (closing is []) r k e = absurd (suc-ne-zero 0 cc)

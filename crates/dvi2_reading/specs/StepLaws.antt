@@ -1,9 +1,9 @@
 -- The three kinds of a step, by how the bytes lie to the commands that may come.
---     Alike                                        of two lists, one begins the other
---     step-go                                      a command that leads on stands first
---     step-short                                   the bytes end inside one
+--     Alike                                                                        of two lists, one begins the other
+--     step-go                                                                      a command that leads on stands first
+--     step-short                                                                   the bytes end inside one
 --     page-refuse, start-refuse, opened-refuse, closing-refuse, between-refuse     they are like none
---     page-may                                     a command of a page that they begin may come
+--     page-may                                                                     a command of a page that they begin may come
 -- Assumes nothing.
 use mathlib.Core.Path.{_≡_, refl, sym, ap, _∙_}
 use mathlib.Core.Bool.{Bool, true, false, cond, _&&_}
@@ -30,7 +30,7 @@ use Rattle.dvi2_reading.specs.SizeLaws.{Command}
 use Rattle.dvi2_reading.specs.StableLaws.{parameters-kept}
 use Rattle.dvi2_reading.specs.CommandLaws.{next-page, only-is}
 use Rattle.dvi2_reading.specs.Reached.{writingOf}
-use Rattle.dvi2_reading.specs.StateLaws.{Onward, to-post, to-page, onward}
+use Rattle.dvi2_reading.specs.StateLaws.{AfterEop, to-post, to-page, onward}
 
 pub data Alike (s c : List ℕ) : Type 0 where
   begins-it : (z : List ℕ) → c ≡ s ++ z → Alike s c
@@ -160,6 +160,6 @@ between-refuse is b ps f g =
     let l = begins-is (b ∷ ps) (furtherBop (writingOf is)) (t .1) in
     g (ltb-true (length is) maxItems (t .0)) (begins-it (l .more) (l .whole-is))))
   where
-    on : (c w : List ℕ) (r : State) → b ∷ ps ≡ c ++ w → Onward is c r → ⊥
+    on : (c w : List ℕ) (r : State) → b ∷ ps ≡ c ++ w → AfterEop is c r → ⊥
     on c w r e (to-post k l) = f (holds-it w (e ∙ ap (λ (t : List ℕ). t ++ w) k))
     on c w r e (to-page k m l) = g m (holds-it w (e ∙ ap (λ (t : List ℕ). t ++ w) k))

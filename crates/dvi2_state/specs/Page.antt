@@ -1,5 +1,6 @@
 -- The code's types as those of the definitions, and what a step is.
 --     stageOf, pageStateOf        a state of a page, after some items
+--     pagePosition                its position
 --     SoundPage                   its position is on the page, and its font is one of the 120
 --     stepOf                      a step
 --     StepIs                      a step is that of the command at a place, after these items
@@ -11,7 +12,7 @@ use mathlib.Core.Path.{_≡_}
 use mathlib.Core.Bool.{Bool, not, _&&_}
 use mathlib.Core.List.{List, [], _∷_, _++_}
 use mathlib.Core.Option.{some}
-use lib.IntN.{ℤ, pos, _-ℤ_}
+use lib.IntN.{ℤ, pos, _-ℤ_, _*ℤ_}
 use lib.ListN.{length, getD, drop}
 use Rattle.integers.specs.Equality.{eqZ}
 use Rattle.galley_file.specs.declared.item.Item.{Item}
@@ -21,7 +22,7 @@ use Rattle.dvi.specs.Writer.{Position}
 use Rattle.dvi.specs.FontOrNone.{fontOrNone}
 use Rattle.dvi2.specs.Command.{RIGHT1, DOWN1}
 use Rattle.dvi2.specs.Writer.{shortest}
-use Rattle.dvi2_commands.specs.Position.{positionOf, OnPage}
+use Rattle.dvi2_commands.specs.Position.{OnPage}
 use Rattle.dvi2_reading.specs.PageReading as Page
 use Rattle.dvi2_reading.specs.Reading as R
 use Rattle.dvi2_state.specs.declared.page_state.Stage.{Stage}
@@ -37,19 +38,23 @@ stageOf Chosen = Page.chosen
 stageOf Moved = Page.moved
 stageOf Lowered = Page.lowered
 
+-- a quantum is three units
+abbrev pub pagePosition : PageState → Position
+pagePosition h = record { font = fontOrNone (h .font); x = h .x .0; y = pos 3 *ℤ h .height .0 }
+
 abbrev pub pageStateOf : List Item → PageState → Page.PageState
-pageStateOf is h = record { items = is; stage = stageOf (h .stage); position = positionOf (h .position) }
+pageStateOf is h = record { items = is; stage = stageOf (h .stage); position = pagePosition h }
 
 pub record SoundPage (h : PageState) : Type 0 where
-  pub on-page : OnPage (positionOf (h .position))
-  pub font-valid : (f : ℕ) → fontOrNone (h .position .font) ≡ some f → f < 120
+  pub on-page : OnPage (pagePosition h)
+  pub font-valid : (f : ℕ) → fontOrNone (h .font) ≡ some f → f < 120
 
 abbrev pub stepOf : List Item → PageState → Stepped → R.Step
 stepOf is h Bad = R.refuse
 stepOf is h Short = R.short
 stepOf is h End = R.go (R.between is) 0
 stepOf is h (Put c) =
-    R.go (R.inPage (record { items = is ++ (Placed (R.characterOf (positionOf (h .position)) c) ∷ []); stage = Page.ready; position = positionOf (h .position) })) 1
+    R.go (R.inPage (record { items = is ++ (Placed (R.characterOf (pagePosition h) c) ∷ []); stage = Page.ready; position = pagePosition h })) 1
 stepOf is h (Go g n) = R.go (R.inPage (pageStateOf is g)) n
 
 abbrev pub StepIs : List ℕ → ℕ → PageState → List Item → Stepped → Type 0

@@ -1,8 +1,8 @@
 // Moves that are cut short: whether one that may come begins so.
 use crate::page_state;
+use crate::page_state::PageState;
+use dvi2::opcode;
 use dvi2_commands::command;
-use dvi2_commands::position;
-use dvi2_commands::position::Position;
 use measure::Quanta;
 use measure::Units;
 use octets::number;
@@ -14,16 +14,16 @@ ghost use lib.Signed.{_≤ℤ_};
 ghost use Rattle.measure.specs.Place.{carriageEnd, heightEnd};
 ghost use Rattle.measure.specs.Target.{entryX};
 ghost use Rattle.dvi2.specs.Writer as W;
-ghost use Rattle.dvi2_commands.specs.Position.{positionOf, OnPage};
+ghost use Rattle.dvi2_commands.specs.Position.{OnPage};
 ghost use Rattle.dvi2_reading.specs.PageReading as Page;
 ghost use Rattle.dvi2_reading.specs.Reading as R;
-ghost use Rattle.dvi2_state.specs.Page.{rightBegins, downBegins};
+ghost use Rattle.dvi2_state.specs.Page.{pagePosition, rightBegins, downBegins};
 
-// The places across, from -DOUBLE_SHIFT to CARRIAGE_END.
-const PLACES: u32 = 3_295;
+// The places across, from FIRST_X to CARRIAGE_END.
+const PLACES: u32 = (measure::CARRIAGE_END.0 - measure::FIRST_X.0) as u32 + 1;
 
 // The heights, from 0 to HEIGHT_END.
-const HEIGHTS: u32 = 1_000_001;
+const HEIGHTS: u32 = measure::HEIGHT_END.0 as u32 + 1;
 
 // Whether s, from `at` to its end, begins what stands in e from `from` on.
 fn begins_from(s: &[u8], at: usize, e: &[u8], from: usize) -> bool
@@ -59,29 +59,29 @@ fn begins_move(s: &[u8], at: usize, op: u8, m: i32) -> bool
     begins_from(s, at + 1, &e, 4 - w)
 }
 
-// Whether s, from `at` to its end, begins a move right from p to a place where a character of its font may stand.
-fn right_begins(s: &[u8], at: usize, p: Position, to: Units) -> bool
-    requires { ⌜ (at < length (now s)) × (OnPage (positionOf p) × ((negsuc 54 ≤ℤ to .0) × (to .0 ≤ℤ carriageEnd))) ⌝ }
-    ensures { λ r. ⌜ r ≡ rightBegins (drop at (now (s .entry))) (positionOf p) (to .0) ⌝ }
+// Whether s, from `at` to its end, begins a move right from the place of h to a place where a character of its font may stand.
+fn right_begins(s: &[u8], at: usize, h: PageState, to: Units) -> bool
+    requires { ⌜ (at < length (now s)) × (OnPage (pagePosition h) × ((negsuc 54 ≤ℤ to .0) × (to .0 ≤ℤ carriageEnd))) ⌝ }
+    ensures { λ r. ⌜ r ≡ rightBegins (drop at (now (s .entry))) (pagePosition h) (to .0) ⌝ }
 {
-    let m = to.0 - p.x.0;
+    let m = to.0 - h.x.0;
     if m == 0 {
         return false;
     }
-    if !page_state::valid_in(p.font, to) {
+    if !page_state::valid_in(h.font, to) {
         return false;
     }
-    begins_move(s, at, command::RIGHT1, m)
+    begins_move(s, at, opcode::RIGHT1, m)
 }
 
 // The same of any such place.
-pub fn may_begin_right(s: &[u8], at: usize, p: Position) -> bool
-    requires { ⌜ (at < length (now s)) × OnPage (positionOf p) ⌝ }
-    ensures { λ r. ⌜ r ≡ Page.someBelow R.places (λ k. rightBegins (drop at (now (s .entry))) (positionOf p) (entryX k)) ⌝ }
+pub fn may_begin_right(s: &[u8], at: usize, h: PageState) -> bool
+    requires { ⌜ (at < length (now s)) × OnPage (pagePosition h) ⌝ }
+    ensures { λ r. ⌜ r ≡ Page.someBelow R.places (λ k. rightBegins (drop at (now (s .entry))) (pagePosition h) (entryX k)) ⌝ }
 {
     let mut k: u32 = 0;
     while k < PLACES {
-        if right_begins(s, at, p, Units(k as i32 - measure::DOUBLE_SHIFT.0)) {
+        if right_begins(s, at, h, Units(k as i32 - measure::DOUBLE_SHIFT.0)) {
             return true;
         }
         k += 1;
@@ -89,26 +89,26 @@ pub fn may_begin_right(s: &[u8], at: usize, p: Position) -> bool
     false
 }
 
-// Whether s, from `at` to its end, begins a move down from p to another height.
-fn down_begins(s: &[u8], at: usize, p: Position, to: Quanta) -> bool
-    requires { ⌜ (at < length (now s)) × (OnPage (positionOf p) × ((pos 0 ≤ℤ to .0) × (to .0 ≤ℤ heightEnd))) ⌝ }
-    ensures { λ r. ⌜ r ≡ downBegins (drop at (now (s .entry))) (positionOf p) (pos 3 *ℤ to .0) ⌝ }
+// Whether s, from `at` to its end, begins a move down from the place of h to another height.
+fn down_begins(s: &[u8], at: usize, h: PageState, to: Quanta) -> bool
+    requires { ⌜ (at < length (now s)) × (OnPage (pagePosition h) × ((pos 0 ≤ℤ to .0) × (to .0 ≤ℤ heightEnd))) ⌝ }
+    ensures { λ r. ⌜ r ≡ downBegins (drop at (now (s .entry))) (pagePosition h) (pos 3 *ℤ to .0) ⌝ }
 {
-    let m = position::PER_QUANTUM * (to.0 - p.height.0);
+    let m = measure::PER_QUANTUM * (to.0 - h.height.0);
     if m == 0 {
         return false;
     }
-    begins_move(s, at, command::DOWN1, m)
+    begins_move(s, at, opcode::DOWN1, m)
 }
 
 // The same of any height.
-pub fn may_begin_down(s: &[u8], at: usize, p: Position) -> bool
-    requires { ⌜ (at < length (now s)) × OnPage (positionOf p) ⌝ }
-    ensures { λ r. ⌜ r ≡ Page.someBelow R.heights (λ k. downBegins (drop at (now (s .entry))) (positionOf p) (pos (3 * k))) ⌝ }
+pub fn may_begin_down(s: &[u8], at: usize, h: PageState) -> bool
+    requires { ⌜ (at < length (now s)) × OnPage (pagePosition h) ⌝ }
+    ensures { λ r. ⌜ r ≡ Page.someBelow R.heights (λ k. downBegins (drop at (now (s .entry))) (pagePosition h) (pos (3 * k))) ⌝ }
 {
     let mut k: u32 = 0;
     while k < HEIGHTS {
-        if down_begins(s, at, p, Quanta(k as i32)) {
+        if down_begins(s, at, h, Quanta(k as i32)) {
             return true;
         }
         k += 1;

@@ -1,8 +1,8 @@
 // What is there of the next character of a page, and what a command leads to.
 use dvi::font_byte;
-use dvi2_commands::position::Position;
 use galley_file::character;
 use galley_file::font;
+use measure::Quanta;
 use measure::Units;
 ghost use mathlib.Core.Path.{_≡_};
 ghost use Rattle.dvi.specs.FontOrNone.{fontOrNone};
@@ -18,10 +18,14 @@ pub enum Stage {
     Lowered,
 }
 
-// That, and the font and the place to which the commands so far lead.
+// The font and the place to which the commands so far lead, and what is there of the next character, side by side: a value inside a
+// value is packed and unpacked at each command.
 pub struct PageState {
+    // The font number, or NO_FONT.
+    pub font: u8,
     pub stage: Stage,
-    pub position: Position,
+    pub height: Quanta,
+    pub x: Units,
 }
 
 pub enum Stepped {
@@ -96,16 +100,14 @@ pub fn valid_in(f: u8, x: Units) -> bool
 }
 
 pub fn with_font(h: PageState, stage: Stage, f: u8) -> PageState
-    ensures { λ r. ⌜ r ≡ record { stage = stage; position = record { font = f; x = h .position .x; height = h .position .height } } ⌝ }
+    ensures { λ r. ⌜ r ≡ record { stage = stage; font = f; x = h .x; height = h .height } ⌝ }
 {
-    let x = h.position.x;
-    let height = h.position.height;
+    let x = h.x;
+    let height = h.height;
     PageState {
         stage: stage,
-        position: Position {
-            font: f,
-            x: x,
-            height: height,
-        },
+        font: f,
+        x: x,
+        height: height,
     }
 }

@@ -30,9 +30,7 @@ use Rattle.dvi2_reading.specs.Reading.{withFont, firstBop, heightOf, characterO
 use Rattle.dvi2_reading.specs.Reached.{writingOf, openBytes, Staged}
 use Rattle.dvi2_reading.specs.Standing.{Standing}
 use Rattle.dvi2_state.specs.declared.page_state.PageState.{PageState}
-use Rattle.dvi2_commands.specs.declared.position.Position as C
-use Rattle.dvi2_commands.specs.Position.{positionOf}
-use Rattle.dvi2_state.specs.Page.{stageOf, pageStateOf, SoundPage}
+use Rattle.dvi2_state.specs.Page.{stageOf, pageStateOf, pagePosition, SoundPage}
 
 length-open : (is : List Item) → length (openBytes is) ≡ writingOf is .at
 unfolding openBytes preambleBytes firstBop unitBytes bopBytes bytes signedBytes firstWriting
@@ -80,16 +78,16 @@ down-between (pos n) e = let b = both (eqb (n % 3) 0) (leb n lowest) e in let l 
 down-between (negsuc n) e = absurd (suc-ne-zero 0 cc)
 
 module _ (s : List ℕ) (is : List Item) (h : PageState) (at : ℕ) (k : Standing s (inPage (pageStateOf is h)) at) where
-  pub is-down : isDown (positionOf (h .position) .y) ≡ true
+  pub is-down : isDown (pagePosition h .y) ≡ true
   is-down = k .reached .y-down
 
   pub sound : SoundPage h
   sound =
       let x = k .reached .x-between in
-      let y = down-between (positionOf (h .position) .y) is-down in
+      let y = down-between (pagePosition h .y) is-down in
       record {
         on-page = record { left = x .0; right = x .1; top = y .0; bottom = y .1 };
-        font-valid = λ f e. staged-font (stageOf (h .stage)) is (positionOf (h .position)) (k .reached .rest) (k .reached .staged) f e;
+        font-valid = λ f e. staged-font (stageOf (h .stage)) is (pagePosition h) (k .reached .rest) (k .reached .staged) f e;
       }
 
 -- ---- the character that is put
@@ -99,12 +97,12 @@ unfolding heightOf
 height-is (pos n) e = ap pos (omega arith)
 height-is (negsuc n) e = let b = down-between (pos 3 *ℤ negsuc n) e in absurd (omega (integers, b .0, scale-parts 3 (negsuc n)))
 
-pub character-is : (p : C.Position) (code f : ℕ) → isDown (positionOf p .y) ≡ true → fontOrNone (p .font) ≡ some f
-    → _≡_ {A = Character} (record { x = p .x; height = p .height; font = p .font; code = code }) (characterOf (positionOf p) code)
+pub character-is : (h : PageState) (code f : ℕ) → isDown (pagePosition h .y) ≡ true → fontOrNone (h .font) ≡ some f
+    → _≡_ {A = Character} (record { x = h .x; height = h .height; font = h .font; code = code }) (characterOf (pagePosition h) code)
 unfolding characterOf
-character-is p code f d e =
-    let n : p .font ≡ Option·getD (fontOrNone (p .font)) 0 = font-is (p .font) f e ∙ sym (ap (λ (o : Option ℕ). Option·getD o 0) e) in
-    (λ i. record { x = p .x; height = record { 0 = height-is (p .height .0) d i }; font = n i; code = code })
+character-is h code f d e =
+    let n : h .font ≡ Option·getD (fontOrNone (h .font)) 0 = font-is (h .font) f e ∙ sym (ap (λ (o : Option ℕ). Option·getD o 0) e) in
+    (λ i. record { x = h .x; height = record { 0 = height-is (h .height .0) d i }; font = n i; code = code })
 
 -- ---- the items
 

@@ -20,9 +20,6 @@ pub struct Tally {
     pub bop: usize,
 }
 
-// The bytes of a bop.
-const BOP: usize = 45;
-
 // Of no item.
 pub fn none() -> Tally
     ensures { λ r. ⌜ TallyIs r [] ⌝ }
@@ -32,7 +29,7 @@ pub fn none() -> Tally
         characters: 0,
         cuts: 0,
         extents: extents,
-        bop: 15,
+        bop: dvi2_frame::PRE_LENGTH,
     }
 }
 
@@ -53,7 +50,7 @@ pub fn with_item(t: Tally, i: Item, at: usize) -> Tally
             characters: t.characters,
             cuts: t.cuts + 1,
             extents: extents,
-            bop: at - BOP,
+            bop: at - dvi2_frame::BOP_LENGTH,
         },
     }
 }

@@ -1,15 +1,19 @@
 // One turn: a command of a page, or what stands between two pages and after the last.
 use crate::tally::Tally;
+use dvi::font_byte;
+use dvi2::opcode;
 use dvi2_close::close;
 use dvi2_close::expect;
 use dvi2_close::expect::Reading;
-use dvi2_commands::position;
-use dvi2_commands::position::Position;
+use dvi2_state::page_state;
 use dvi2_state::page_state::PageState;
 use dvi2_state::page_state::Stage;
 use dvi2_state::page_state::Stepped;
 use galley_file::character::Character;
+use galley_file::item;
 use galley_file::item::Item;
+use measure::Quanta;
+use measure::Units;
 ghost use mathlib.Core.Path.{_≡_};
 ghost use mathlib.Core.Bool.{true};
 ghost use mathlib.Core.List.{List, [], _∷_, _++_};
@@ -23,13 +27,10 @@ ghost use Rattle.dvi.specs.FontOrNone.{fontOrNone};
 ghost use Rattle.dvi2_reading.specs.PageReading.{isDown};
 ghost use Rattle.dvi2_reading.specs.Reading.{characterOf, inPage, between, newPageState};
 ghost use Rattle.dvi2_reading.specs.Standing.{Standing};
-ghost use Rattle.dvi2_commands.specs.Position.{positionOf};
-ghost use Rattle.dvi2_state.specs.Page.{pageStateOf, SoundPage};
+ghost use Rattle.dvi2_state.specs.Page.{pageStateOf, pagePosition, SoundPage};
 ghost use Rattle.dvi2_turn.specs.Tally.{TallyIs, TallyRanged};
 ghost use Rattle.dvi2_close.specs.Reading.{ReadsTo, Ended};
 ghost use Rattle.dvi2_turn.specs.Turn.{Turning, Turned};
-
-const POST: u8 = 248;
 
 pub enum Turn {
     // No file goes on so.
@@ -48,21 +49,23 @@ pub fn new_page() -> PageState
 {
     PageState {
         stage: Stage::Ready,
-        position: position::start_position(),
+        font: font_byte::NO_FONT,
+        x: Units(0),
+        height: Quanta(0),
     }
 }
 
-// The character that is put at p.
-fn character(p: Position, code: u8) -> Character
-    requires { ⌜ isDown (positionOf p .y) ≡ true ⌝ }
-    ensures { λ r. ⌜ ((f : ℕ) → fontOrNone (p .font) ≡ some f → r ≡ characterOf (positionOf p) code) ⌝ }
+// The character that is put at the place of h.
+fn character(h: PageState, code: u8) -> Character
+    requires { ⌜ isDown (pagePosition h .y) ≡ true ⌝ }
+    ensures { λ r. ⌜ ((f : ℕ) → fontOrNone (h .font) ≡ some f → r ≡ characterOf (pagePosition h) code) ⌝ }
 {
-    let x = p.x;
-    let height = p.height;
+    let x = h.x;
+    let height = h.height;
     Character {
         x: x,
         height: height,
-        font: p.font,
+        font: h.font,
         code: code,
     }
 }
@@ -97,14 +100,14 @@ fn ended(dvi: &[u8], at: usize, t: Tally) -> Turn
     if dvi.len() <= at {
         return Turn::Bad(dvi.len());
     }
-    if dvi[at] == POST {
+    if dvi[at] == opcode::POST {
         let r = to_post(dvi, at, t);
         return match r {
             Reading::To(_) => Turn::Whole,
             Reading::Fault(place) => Turn::Bad(place),
         };
     }
-    if dvi2_page::MAX_ITEMS <= t.characters + t.cuts {
+    if item::MAX_ITEMS <= t.characters + t.cuts {
         return Turn::Bad(at);
     }
     let r = to_page(dvi, at, t);
@@ -128,12 +131,8 @@ pub fn take_turn(dvi: &[u8], at: usize, h: PageState, t: Tally) -> Turn
         Stepped::Short => Turn::Bad(dvi.len()),
         Stepped::End => ended(dvi, at + 1, t),
         Stepped::Put(code) => {
-            let p = h.position;
-            let c = character(p, code);
-            let g = PageState {
-                stage: Stage::Ready,
-                position: p,
-            };
+            let c = character(h, code);
+            let g = page_state::with_font(h, Stage::Ready, h.font);
             Turn::Set(Item::Placed(c), g, at + 2)
         }
         Stepped::Go(g, n) => Turn::On(g, at + 1 + n),

@@ -1,6 +1,7 @@
 // The preamble and the pages: bop, the commands of characters, eop.
 use crate::writing;
 use crate::writing::Writing;
+use dvi2::opcode;
 use dvi2_commands::command;
 use dvi2_commands::position;
 use dvi2_commands::put;
@@ -25,8 +26,6 @@ ghost use Rattle.dvi2.specs.Writer.{firstWriting, itemsBytes, pagesBytes};
 ghost use Rattle.octets.specs.PutIfRoom.{PutIfRoom};
 ghost use Rattle.dvi2_writer.specs.Writing.{Tallied, WritingIs, Ready, PutsItem};
 
-const EOP: u8 = 140;
-
 // Writes the commands of c.
 fn put_character(out: &mut [u8], p: Writing, c: Character) -> Writing
     requires { ⌜ Ready p × (valid heightEnd c ≡ true) ⌝ }
@@ -42,7 +41,7 @@ fn put_cut(out: &mut [u8], p: Writing) -> Writing
     requires { ⌜ Ready p ⌝ }
     ensures { λ r. ⌜ PutsItem (now (out .entry)) p Cut (now (out .exit)) r ⌝ }
 {
-    let bop = put::put_byte(out, p.at, EOP);
+    let bop = put::put_byte(out, p.at, opcode::EOP);
     let page = p.page + 1;
     let to = dvi2_frame::put_bop(out, bop, page, p.bop as i32);
     let position = position::start_position();
@@ -90,6 +89,6 @@ pub fn put_pages(g: &[u8], count: usize, out: &mut [u8]) -> Writing
     let bop = dvi2_frame::put_preamble(out);
     dvi2_frame::put_bop(out, bop, 1, -1);
     let mut p = put_items(g, count, out);
-    p.at = put::put_byte(out, p.at, EOP);
+    p.at = put::put_byte(out, p.at, opcode::EOP);
     p
 }

@@ -1,10 +1,10 @@
 // The postamble: post, the font definitions, post_post, and bytes 223.
 use crate::writing::Writing;
+use dvi2::opcode;
 use dvi2_commands::font;
 use dvi2_commands::put;
 use extents::fonts;
 use extents::fonts::Fonts;
-use octets::number;
 ghost use mathlib.Core.Bool.{cond};
 ghost use mathlib.Core.List.{[], _∷_};
 ghost use Prim.Native.Nat.{_+_, _%_, _<_};
@@ -12,10 +12,6 @@ ghost use Rattle.extents.specs.FontMarks.{isMarked, markedFonts};
 ghost use Rattle.dvi2.specs.Writer.{definitionBytes, fillers, bytes223};
 ghost use Rattle.octets.specs.PutIfRoom.{PutIfRoom};
 ghost use Rattle.dvi2_writer.specs.Postamble.{Sized, postambleOf};
-
-const FONTS: u8 = 120;
-
-const FILLER: u8 = 223;
 
 // Writes the definition of font f, if it is among the fonts.
 fn put_marked(out: &mut [u8], at: usize, fonts: Fonts, f: u8) -> usize
@@ -36,7 +32,7 @@ fn put_definitions(out: &mut [u8], at: usize, fonts: Fonts) -> usize
 {
     let mut to = at;
     let mut f: u8 = 0;
-    while f < FONTS {
+    while f < galley_file::font::FONTS {
         to = put_marked(out, to, fonts, f);
         f += 1;
     }
@@ -62,7 +58,7 @@ pub fn put_fillers(out: &mut [u8], at: usize) -> usize
     let end = at + 4 + (4 - at % 4) % 4;
     let mut to = at;
     while to < end {
-        to = put::put_byte(out, to, FILLER);
+        to = put::put_byte(out, to, opcode::FILLER);
     }
     to
 }

@@ -11,6 +11,11 @@ ghost use Rattle.measure.specs.Place.{heightEnd};
 ghost use Rattle.galley_file.specs.Character.{valid};
 ghost use Rattle.dvi2_writer.specs.Writing.{WritingIs, Advanced};
 
+// Where the first bop stands, and the first command after it.
+const FIRST_BOP: u32 = dvi2_frame::PRE_LENGTH as u32;
+
+const FIRST_COMMAND: usize = dvi2_frame::PRE_LENGTH + dvi2_frame::BOP_LENGTH;
+
 pub struct Writing {
     pub position: Position,
     // Those of the characters so far, whose fonts are defined.
@@ -33,8 +38,8 @@ pub fn first_writing() -> Writing
         position: position,
         extents: extents,
         page: 1,
-        bop: 15,
-        at: 60,
+        bop: FIRST_BOP,
+        at: FIRST_COMMAND,
     }
 }
 

@@ -2,6 +2,7 @@
 mod tally;
 
 use dvi_galley::item;
+use dvi_page::stack;
 use dvi_step::State;
 use dvi_step::Stepped;
 use measure::target_table;
@@ -27,7 +28,7 @@ fn pass(dvi: &[u8], widths: &[i32], out: &mut [u8], writing: bool) -> Reading
     ensures { λ r. ⌜ Passed (shownGalley (readPlaced (now (widths .entry)) (now (dvi .entry)))) writing (now (out .entry)) r (now (out .exit)) ⌝ }
 {
     let targets = target_table::targets();
-    let mut stack = [0i32; 1200];
+    let mut stack = [0i32; stack::STACK_SIZE];
     let mut q = State::Between(-1);
     let mut at: usize = 0;
     let mut g = Tally::Nothing;

@@ -18,7 +18,7 @@ ghost use Rattle.dvi_galley.specs.Back as B;
 ghost use Rattle.dvi_galley.specs.Taken.{takenOf};
 ghost use Rattle.dvi_back.specs.Tally.{tallyOf, pagesIn, placeIn, fieldOf, addedBy, endOf, tallyReading};
 
-const MAX_ITEMS: u64 = 1_048_576;
+const MAX_ITEMS: u64 = item::MAX_ITEMS as u64;
 
 // No page yet; the cuts and the characters so far; or the place of the first command that breaks a condition.
 pub enum Tally {

@@ -21,7 +21,7 @@ use Rattle.dvi_page.specs.Page.{pageOf}
 use Rattle.dvi_page.specs.declared.page.Page.{Page}
 use Rattle.dvi_brackets.specs.Brackets.{badItem, pastItem, pageEnd, badRun, toPop, toEop, first, run, itemHere}
 use Rattle.dvi_brackets.specs.Brackets as B
-use Rattle.dvi_brackets.specs.Reading.{Within, GoodItem, RoomyItem, ItemDone, runMarks, GoodRun, RoomyRun, RunDone}
+use Rattle.dvi_brackets.specs.Reading.{InFile, GoodItem, RoomyItem, ItemDone, runMarks, GoodRun, RoomyRun, RunDone}
 use Rattle.dvi_brackets.specs.declared.Item.{Item}
 use Rattle.dvi_brackets.specs.declared.Item.the-variants as I
 use Rattle.dvi_brackets.specs.declared.Run.{Run}
@@ -109,7 +109,7 @@ module _ (ws : List ℤ) (d at : ℕ) (p : S.Page) (s : List ℕ) (w : Bool) (be
       }
 
   module _ {q : S.Page} {i : ℕ} {ms : List Mark} {out : List ℕ} {t c : ℕ} (g : Going q i ms out t c) where
-    pub going-within : Within at to count → at + length s ≤ maxFile → Within (at + i) t c
+    pub going-within : InFile at to count → at + length s ≤ maxFile → InFile (at + i) t c
     going-within h l =
         let k = fields-most ms in
         record {

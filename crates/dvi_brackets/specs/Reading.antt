@@ -1,5 +1,5 @@
 -- The code's items and runs as those of the definition, and what the private contracts cite; nothing here is part of what a call promises.
---     Within                                   the place in the sheet and the count of marks, where a file is read up to a place
+--     InFile                                   the place in the sheet and the count of marks, where a file is read up to a place
 --     itemMarks, runMarks                      what an item or a run shows
 --     GoodItem, GoodRun                        no refusal
 --     bracketItem, bracketRun                  the code's item or run, with its marks, as the definition's
@@ -16,7 +16,7 @@ use Rattle.octets.specs.Answer.{entriesLeft}
 use Rattle.dvi.specs.Page as S
 use Rattle.sheet.specs.Sheet.{Mark, markFields}
 use Rattle.sheet.specs.Readable.{maxFile}
-use Rattle.dvi_page.specs.Stack.{pageNumbers}
+use Rattle.dvi_page.specs.Stack.{sixNumbers}
 use Rattle.dvi_page.specs.Page.{pageOf}
 use Rattle.dvi_page.specs.declared.page.Page.{Page}
 use Rattle.octets.specs.Write.{Put}
@@ -28,7 +28,7 @@ use Rattle.dvi_brackets.specs.declared.Run.{Run}
 use Rattle.dvi_brackets.specs.declared.Run.the-variants as R
 
 -- the place in the sheet and the count of marks are within those of a file read up to `at`
-pub record Within (at to count : ℕ) : Type 0 where
+pub record InFile (at to count : ℕ) : Type 0 where
   pub low : at ≤ maxFile
   pub near : to ≤ 20 * at
   pub few : count ≤ at
@@ -119,5 +119,5 @@ LeavesAt at (R.Eop n t c) = at + 1 + n < maxFile
 -- the item that a group is which was entered on the page p
 abbrev pub LeftBy : ℕ → Page → Run → Item → Type 0
 LeftBy at p (R.Fault k i) r = r ≡ I.Fault k i
-LeftBy at p (R.Pop q n t c) r = (o : Page) × ((pageOf o [] ≡ S.withNumbers (pageOf q []) (pageNumbers (p .numbers))) × (r ≡ I.Past o (n + 1) t c))
+LeftBy at p (R.Pop q n t c) r = (o : Page) × ((pageOf o [] ≡ S.withNumbers (pageOf q []) (sixNumbers (p .numbers))) × (r ≡ I.Past o (n + 1) t c))
 LeftBy at p (R.Eop n t c) r = r ≡ I.Fault entriesLeft (at + 1 + n)

@@ -1,6 +1,7 @@
 // PUSH and POP inside a page of a DVI file of 1980 (002), read as brackets: a run is made of items, and an item is a command or a group.
 // The readers of a run and of an item call each other.
 use dvi::mark;
+use dvi::opcode;
 use dvi_command::Decoded;
 use dvi_page::page;
 use dvi_page::page::Effect;
@@ -15,11 +16,7 @@ ghost use Rattle.dvi.specs.Command.{PUSH as Push, POP as Pop, decode as decodeO
 ghost use Rattle.sheet.specs.Readable.{maxFile};
 ghost use Rattle.dvi_page.specs.Page.{pageOf, effectOf};
 ghost use Rattle.dvi_brackets.specs.Brackets.{effectItem, commandItem, run, itemHere};
-ghost use Rattle.dvi_brackets.specs.Reading.{Within, RoomyItem, ItemDone, RoomyRun, RunDone, LeavesAt, LeftBy};
-
-const PUSH: u8 = 132;
-
-const POP: u8 = 133;
+ghost use Rattle.dvi_brackets.specs.Reading.{InFile, RoomyItem, ItemDone, RoomyRun, RunDone, LeavesAt, LeftBy};
 
 // A refusal at a place; the page after the item, the number of its bytes after the first, the place in the sheet and the marks so far; or EOP.
 pub enum Item {
@@ -46,7 +43,7 @@ fn effect_item(
     count: u32,
     writing: bool,
 ) -> Item
-    requires { ⌜ Within at to count ⌝ }
+    requires { ⌜ InFile at to count ⌝ }
     requires { ⌜ (writing ≡ true → RoomyItem (effectItem at n (effectOf e [])) to (length (now out))) ⌝ }
     ensures { λ r. ⌜ ItemDone (effectItem at n (effectOf e [])) writing (now (out .entry)) to count r (now (out .exit)) ⌝ }
 {
@@ -72,7 +69,7 @@ fn command_item(
     count: u32,
     writing: bool,
 ) -> Item
-    requires { ⌜ (0 < length (now s)) × Within at to count ⌝ }
+    requires { ⌜ (0 < length (now s)) × InFile at to count ⌝ }
     requires { ⌜ (getD (now s) 0 0 ≡ Push → ⊥) × (getD (now s) 0 0 ≡ Pop → ⊥) ⌝ }
     requires { ⌜ (writing ≡ true → RoomyItem (commandItem (now widths) at (pageOf p []) (decodeOf (getD (now s) 0 0) (drop 1 (now s)))) to (length (now out))) ⌝ }
     ensures { λ r. ⌜ ItemDone (commandItem (now (widths .entry)) at (pageOf p []) (decodeOf (getD (now (s .entry)) 0 0) (drop 1 (now (s .entry))))) writing (now (out .entry)) to count r (now (out .exit)) ⌝ }
@@ -116,11 +113,11 @@ fn read_item(
     count: u32,
     writing: bool,
 ) -> Item
-    requires { ⌜ (0 < length (now s)) × ((getD (now s) 0 0 ≡ Pop → ⊥) × ((at + length (now s) ≤ maxFile) × Within at to count)) ⌝ }
+    requires { ⌜ (0 < length (now s)) × ((getD (now s) 0 0 ≡ Pop → ⊥) × ((at + length (now s) ≤ maxFile) × InFile at to count)) ⌝ }
     requires { ⌜ (writing ≡ true → RoomyItem (itemHere (now widths) depth at (pageOf p []) (now s)) to (length (now out))) ⌝ }
     ensures { λ r. ⌜ ItemDone (itemHere (now (widths .entry)) depth at (pageOf p []) (now (s .entry))) writing (now (out .entry)) to count r (now (out .exit)) ⌝ }
 {
-    if s[0] != PUSH {
+    if s[0] != opcode::PUSH {
         return command_item(s, widths, out, at, p, to, count, writing);
     }
     if depth == 0 {
@@ -143,7 +140,7 @@ pub fn read_run(
     count: u32,
     writing: bool,
 ) -> Run
-    requires { ⌜ (at + length (now s) ≤ maxFile) × Within at to count ⌝ }
+    requires { ⌜ (at + length (now s) ≤ maxFile) × InFile at to count ⌝ }
     requires { ⌜ (writing ≡ true → RoomyRun (run (now widths) depth at (pageOf p []) 0 (now s)) to (length (now out))) ⌝ }
     ensures { λ r. ⌜ RunDone (run (now (widths .entry)) depth at (pageOf p []) 0 (now (s .entry))) writing (now (out .entry)) to count r (now (out .exit)) ⌝ }
 {
@@ -152,7 +149,7 @@ pub fn read_run(
     let mut t = to;
     let mut c = count;
     while i < s.len() {
-        if s[i] == POP {
+        if s[i] == opcode::POP {
             return Run::Pop(q, i, t, c);
         }
         let rest = &s[i..];

@@ -1,5 +1,6 @@
 // The commands that set a character: a font, if it changes, the moves, and HORZCHAR.
 use crate::position::Position;
+use dvi::opcode;
 use galley_file::character::Character;
 use measure::Rsu;
 use octets::number;
@@ -10,21 +11,6 @@ ghost use Rattle.dvi.specs.Writer.{fontChange, move, commandsOf};
 ghost use Rattle.dvi.specs.FontOrNone.{fontOrNone};
 ghost use Rattle.dvi_characters.specs.Position.{positionOf, OnPage, PositionAt};
 
-const HORZCHAR: u8 = 136;
-
-const FONT: u8 = 137;
-
-// X3 and X2 follow, and Y3 and Y2.
-const X4: u8 = 142;
-
-const Y4: u8 = 146;
-
-// FONTNUM 0; those to 63 follow.
-const FONTNUM: u8 = 154;
-
-// The number of fonts that have a FONTNUM.
-pub const FONTNUMS: u8 = 64;
-
 // Writes a font command, if the font differs from the last.
 fn put_font(out: &mut [u8], at: usize, last: u8, font: u8) -> usize
     requires { ⌜ (at + length (fontChange (fontOrNone last) font) ≤ length (now out)) × (font < 120) ⌝ }
@@ -32,10 +18,10 @@ fn put_font(out: &mut [u8], at: usize, last: u8, font: u8) -> usize
 {
     if last == font {
         at
-    } else if font < FONTNUMS {
-        number::put_byte(out, at, FONTNUM + font)
+    } else if font < opcode::FONTNUMS {
+        number::put_byte(out, at, opcode::FONTNUM + font)
     } else {
-        let to = number::put_byte(out, at, FONT);
+        let to = number::put_byte(out, at, opcode::FONT);
         number::put_nat4(out, to, font as u32)
     }
 }
@@ -74,8 +60,8 @@ pub fn put_commands(
     let x = next.x.less(last.x);
     let y = next.y.less(last.y);
     let mut to = put_font(out, at, last.font, c.font);
-    to = put_move(out, to, X4, x);
-    to = put_move(out, to, Y4, y);
-    to = number::put_byte(out, to, HORZCHAR);
+    to = put_move(out, to, opcode::X4, x);
+    to = put_move(out, to, opcode::Y4, y);
+    to = number::put_byte(out, to, opcode::HORZCHAR);
     number::put_byte(out, to, c.code)
 }

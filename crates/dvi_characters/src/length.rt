@@ -1,6 +1,6 @@
 // The length of the commands that set a character.
-use crate::command;
 use crate::position::Position;
+use dvi::opcode;
 use galley_file::character::Character;
 use measure::Rsu;
 use octets::number;
@@ -21,7 +21,7 @@ fn font_length(last: u8, font: u8) -> usize
 {
     if last == font {
         0
-    } else if font < command::FONTNUMS {
+    } else if font < opcode::FONTNUMS {
         1
     } else {
         5

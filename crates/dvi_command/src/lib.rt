@@ -1,4 +1,5 @@
 // The commands inside a page of a DVI file of 1980 (002), read from bytes.
+use dvi::opcode;
 use measure::Rsu;
 use octets::number;
 ghost use mathlib.Core.Path.{_≡_};
@@ -7,6 +8,15 @@ ghost use Prim.Native.Nat.{ℕ, _+_, _≤_, _<_};
 ghost use lib.ListN.{length, drop};
 ghost use Rattle.dvi.specs.Command.{decode as decodeOf, withParameters, takes};
 ghost use Rattle.dvi_command.specs.Command.{commandOf, decodedOf, parameterOf, stillOf, movingOf};
+
+// The amounts of moves.
+const W: u8 = 0;
+
+const X: u8 = 1;
+
+const Y: u8 = 2;
+
+const Z: u8 = 3;
 
 pub enum Command {
     SetChar(u8),
@@ -61,9 +71,9 @@ fn still(amount: u8) -> Command
     ensures { λ r. ⌜ commandOf r ≡ stillOf amount ⌝ }
 {
     match amount {
-        0 => Command::MoveW0,
-        1 => Command::MoveX0,
-        2 => Command::MoveY0,
+        W => Command::MoveW0,
+        X => Command::MoveX0,
+        Y => Command::MoveY0,
         _ => Command::MoveZ0,
     }
 }
@@ -73,9 +83,9 @@ fn moving(amount: u8, m: Rsu) -> Command
     ensures { λ r. ⌜ commandOf r ≡ movingOf amount (m .0) ⌝ }
 {
     match amount {
-        0 => Command::MoveW(m),
-        1 => Command::MoveX(m),
-        2 => Command::MoveY(m),
+        W => Command::MoveW(m),
+        X => Command::MoveX(m),
+        Y => Command::MoveY(m),
         _ => Command::MoveZ(m),
     }
 }
@@ -102,7 +112,7 @@ fn decode_rule(s: &[u8], at: usize, op: u8) -> Decoded
     }
     let h = number::signed4_at(s, at);
     let w = number::signed4_at(s, at + 4);
-    if op == 134 {
+    if op == opcode::VERTRULE {
         return Decoded::Whole(Command::VertRule(Rsu(h), Rsu(w)), 8);
     }
     Decoded::Whole(Command::HorzRule(Rsu(h), Rsu(w)), 8)
@@ -113,7 +123,7 @@ fn decode_set(s: &[u8], at: usize, op: u8) -> Decoded
     requires { ⌜ (at ≤ length (now s)) × ((136 ≤ op) × (op < 138)) ⌝ }
     ensures { λ r. ⌜ decodedOf r ≡ decodeOf op (drop at (now (s .entry))) ⌝ }
 {
-    if op == 136 {
+    if op == opcode::HORZCHAR {
         let p = parameter_at(s, at, 1);
         match p {
             Parameter::Value(c) => Decoded::Whole(Command::HorzChar(c), 1),
@@ -134,10 +144,10 @@ fn decode_bare(op: u8) -> Decoded
     ensures { λ r. ⌜ ((ps : List ℕ) → decodedOf r ≡ decodeOf op ps) ⌝ }
 {
     match op {
-        128 => Decoded::Whole(Command::Nop, 0),
-        130 => Decoded::Whole(Command::Eop, 0),
-        132 => Decoded::Whole(Command::Push, 0),
-        133 => Decoded::Whole(Command::Pop, 0),
+        opcode::NOP => Decoded::Whole(Command::Nop, 0),
+        opcode::EOP => Decoded::Whole(Command::Eop, 0),
+        opcode::PUSH => Decoded::Whole(Command::Push, 0),
+        opcode::POP => Decoded::Whole(Command::Pop, 0),
         _ => Decoded::NoCommand,
     }
 }
@@ -147,10 +157,10 @@ fn decode_other(op: u8) -> Decoded
     requires { ⌜ 154 ≤ op ⌝ }
     ensures { λ r. ⌜ ((ps : List ℕ) → decodedOf r ≡ decodeOf op ps) ⌝ }
 {
-    if 218 <= op {
+    if opcode::UNDEFINED <= op {
         return Decoded::NoCommand;
     }
-    Decoded::Whole(Command::SetFont((op - 154) as i32), 0)
+    Decoded::Whole(Command::SetFont((op - opcode::FONTNUM) as i32), 0)
 }
 
 // The command with first byte op from 128 on, before the bytes from `at`. One match with single keys makes one jump.
@@ -159,26 +169,27 @@ fn decode_high(s: &[u8], at: usize, op: u8) -> Decoded
     ensures { λ r. ⌜ decodedOf r ≡ decodeOf op (drop at (now (s .entry))) ⌝ }
 {
     match op {
-        128 | 129 | 130 | 131 | 132 | 133 => decode_bare(op),
-        134 | 135 => decode_rule(s, at, op),
-        136 => decode_set(s, at, op),
-        137 => decode_set(s, at, op),
-        138 => decode_move(s, at, 0, 4),
-        139 => decode_move(s, at, 0, 3),
-        140 => decode_move(s, at, 0, 2),
-        141 => Decoded::Whole(still(0), 0),
-        142 => decode_move(s, at, 1, 4),
-        143 => decode_move(s, at, 1, 3),
-        144 => decode_move(s, at, 1, 2),
-        145 => Decoded::Whole(still(1), 0),
-        146 => decode_move(s, at, 2, 4),
-        147 => decode_move(s, at, 2, 3),
-        148 => decode_move(s, at, 2, 2),
-        149 => Decoded::Whole(still(2), 0),
-        150 => decode_move(s, at, 3, 4),
-        151 => decode_move(s, at, 3, 3),
-        152 => decode_move(s, at, 3, 2),
-        153 => Decoded::Whole(still(3), 0),
+        opcode::NOP | opcode::BOP | opcode::EOP | opcode::PST | opcode::PUSH | opcode::POP =>
+            decode_bare(op),
+        opcode::VERTRULE | opcode::HORZRULE => decode_rule(s, at, op),
+        opcode::HORZCHAR => decode_set(s, at, op),
+        opcode::FONT => decode_set(s, at, op),
+        opcode::W4 => decode_move(s, at, W, 4),
+        opcode::W3 => decode_move(s, at, W, 3),
+        opcode::W2 => decode_move(s, at, W, 2),
+        opcode::W0 => Decoded::Whole(still(W), 0),
+        opcode::X4 => decode_move(s, at, X, 4),
+        opcode::X3 => decode_move(s, at, X, 3),
+        opcode::X2 => decode_move(s, at, X, 2),
+        opcode::X0 => Decoded::Whole(still(X), 0),
+        opcode::Y4 => decode_move(s, at, Y, 4),
+        opcode::Y3 => decode_move(s, at, Y, 3),
+        opcode::Y2 => decode_move(s, at, Y, 2),
+        opcode::Y0 => Decoded::Whole(still(Y), 0),
+        opcode::Z4 => decode_move(s, at, Z, 4),
+        opcode::Z3 => decode_move(s, at, Z, 3),
+        opcode::Z2 => decode_move(s, at, Z, 2),
+        opcode::Z0 => Decoded::Whole(still(Z), 0),
         _ => decode_other(op),
     }
 }
@@ -188,7 +199,7 @@ pub fn decode(s: &[u8], at: usize, op: u8) -> Decoded
     requires { ⌜ at ≤ length (now s) ⌝ }
     ensures { λ r. ⌜ decodedOf r ≡ decodeOf op (drop at (now (s .entry))) ⌝ }
 {
-    if op < 128 {
+    if op < opcode::NOP {
         return Decoded::Whole(Command::SetChar(op), 0);
     }
     decode_high(s, at, op)

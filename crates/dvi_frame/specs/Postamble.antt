@@ -2,7 +2,7 @@
 --     markedFont      a font, if it is marked
 --     headBytes       what stands before the definitions
 --     postambleOf     the postamble of a file with these extents: its height and width are their targets
---     Held            extents that a file can hold
+--     HeldExtents     extents that a file can hold
 use Prim.Native.Nat.{ℕ}
 use mathlib.Core.Bool.{cond}
 use mathlib.Core.List.{List, [], _∷_, _++_}
@@ -28,7 +28,7 @@ postambleOf last pst e =
     headBytes last (yTarget (e .height .0)) (xTarget (e .x .0))
     ++ (definitionBytes (markedFonts 120 (e .fonts .low) (e .fonts .high)) ++ trailerBytes pst)
 
-pub record Held (e : Extents) : Type 0 where
+pub record HeldExtents (e : Extents) : Type 0 where
   pub x-least : pos 0 ≤ℤ e .x .0
   pub x-most : e .x .0 ≤ℤ pos 3239
   pub height-least : pos 0 ≤ℤ e .height .0

@@ -21,7 +21,7 @@ use Rattle.extents.specs.Extents.{largest, xIn, heightIn, ExtentsAre}
 use Rattle.extents.specs.ExtentsLaws.{largest-target, largest-least, largest-most}
 use Rattle.extents.specs.FontMarksLaws.{fonts-marked}
 use Rattle.dvi.specs.Writer.{xTargetOf, yTargetOf, postambleBytes}
-use Rattle.dvi_frame.specs.Postamble.{headBytes, postambleOf, Held}
+use Rattle.dvi_frame.specs.Postamble.{headBytes, postambleOf, HeldExtents}
 
 -- the largest target is the target of the largest
 x-keeps : (a b : ℤ) → a ≤ℤ b → xTarget a ≤ℤ xTarget b
@@ -44,8 +44,8 @@ post-is last pst e cs a =
     rw (width-is cs, tallness-is cs, a .x-is, a .height-is, fonts-marked (e .fonts .low) (e .fonts .high) cs (a .fonts-are) 120 (omega arith))
 
 -- a file holds the extents of items of low heights
-pub held : (e : Extents) (is : List Item) → AllValid lowEnd is → ExtentsAre e (charactersOf is) → Held e
-held e is v a =
+pub extents-held : (e : Extents) (is : List Item) → AllValid lowEnd is → ExtentsAre e (charactersOf is) → HeldExtents e
+extents-held e is v a =
     let cs = charactersOf is in
     record {
       x-least = rw (a .x-is) (largest-least (map xIn cs));

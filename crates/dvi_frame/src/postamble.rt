@@ -1,8 +1,10 @@
 // The postamble: the last BOP's offset, height and width, the font definitions, the trailer.
 use dvi::name;
+use dvi::opcode;
 use extents::Extents;
 use extents::fonts;
 use extents::fonts::Fonts;
+use galley_file::font;
 use measure::Rsu;
 use measure::target_table;
 use octets::number;
@@ -13,7 +15,7 @@ ghost use Rattle.octets.specs.Write.{Wrote};
 ghost use Rattle.measure.specs.Target.{xTarget, yTarget};
 ghost use Rattle.extents.specs.FontMarks.{markedFonts};
 ghost use Rattle.dvi.specs.Writer.{definition, definitionBytes, trailerBytes};
-ghost use Rattle.dvi_frame.specs.Postamble.{markedFont, headBytes, postambleOf, Held};
+ghost use Rattle.dvi_frame.specs.Postamble.{markedFont, headBytes, postambleOf, HeldExtents};
 
 // The bytes of a postamble without definitions.
 pub const FRAME: usize = 26;
@@ -21,12 +23,8 @@ pub const FRAME: usize = 26;
 // The bytes of a definition.
 pub const DEFINITION: usize = 14;
 
-const FONTS: u8 = 120;
-
-const PST: u8 = 131;
-
 // Four bytes 223 end the file.
-const FOUR_223: u32 = 3_755_991_007;
+const FOUR_223: u32 = 0x0101_0101 * opcode::FILLER as u32;
 
 // The width and the height of a file.
 pub struct Sizes {
@@ -36,7 +34,7 @@ pub struct Sizes {
 
 // The targets of the farthest x and the greatest height.
 fn sizes_of(e: Extents) -> Sizes
-    requires { ⌜ Held e ⌝ }
+    requires { ⌜ HeldExtents e ⌝ }
     ensures { λ r. ⌜ (r .x .0 ≡ xTarget (e .x .0)) × (r .y .0 ≡ yTarget (e .height .0)) ⌝ }
 {
     let targets = target_table::targets();
@@ -50,7 +48,7 @@ fn put_head(out: &mut [u8], at: usize, last: u32, y: Rsu, x: Rsu) -> usize
     requires { ⌜ at + 13 ≤ length (now out) ⌝ }
     ensures { λ r. ⌜ Wrote (now (out .entry)) at (headBytes last (y .0) (x .0)) (now (out .exit)) r ⌝ }
 {
-    let mut to = number::put_byte(out, at, PST);
+    let mut to = number::put_byte(out, at, opcode::PST);
     to = number::put_nat4(out, to, last);
     to = number::put_signed4(out, to, y.0);
     number::put_signed4(out, to, x.0)
@@ -87,7 +85,7 @@ fn put_definitions(out: &mut [u8], at: usize, fonts: Fonts) -> usize
 {
     let mut to = at;
     let mut f: u8 = 0;
-    while f < FONTS {
+    while f < font::FONTS {
         to = put_marked(out, to, fonts, f);
         f += 1;
     }
@@ -107,7 +105,7 @@ fn put_trailer(out: &mut [u8], at: usize, pst: u32) -> usize
 
 // Writes the postamble of a file with these extents, and with its last BOP at `last`.
 pub fn put_postamble(out: &mut [u8], at: usize, last: u32, e: Extents) -> usize
-    requires { ⌜ Held e × ((at + length (postambleOf last at e) ≤ length (now out)) × (at < 4294967296)) ⌝ }
+    requires { ⌜ HeldExtents e × ((at + length (postambleOf last at e) ≤ length (now out)) × (at < 4294967296)) ⌝ }
     ensures { λ r. ⌜ Wrote (now (out .entry)) at (postambleOf last at e) (now (out .exit)) r ⌝ }
 {
     let sizes = sizes_of(e);

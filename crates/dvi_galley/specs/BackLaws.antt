@@ -41,7 +41,7 @@ use Rattle.dvi.specs.WriterLaws.{file-fits}
 use Rattle.dvi.proofs.Shown.{file-shows}
 use Rattle.dvi.specs.Demand3.{marksOf}
 use Rattle.dvi_galley.specs.Back.{itemShown, Made, nothing, made, broken, withItem, withMark, makes, madeResult, shownGalley, backResult, GalleyOf}
-use Rattle.dvi_galley.specs.MarkLaws.{markAt, marksOf-next, item-is, is-item}
+use Rattle.dvi_galley.specs.MarkLaws.{itemMark, marksOf-next, item-is, is-item}
 
 -- ---- marks and items
 
@@ -75,7 +75,7 @@ next-more p ms is js i e l r =
       are = r .are ∙ append-assoc is (i ∷ []) (r .items);
       marks-are =
           (λ k. d .0 k ∷ r .marks-are k)
-          ∙ ap (λ (n : ℕ). markAt (suc (cutsOf is)) i ∷ marksOf n (r .items)) (pages-more is i)
+          ∙ ap (λ (n : ℕ). itemMark (suc (cutsOf is)) i ∷ marksOf n (r .items)) (pages-more is i)
           ∙ sym (marksOf-next (suc (cutsOf is)) i (r .items));
       all-valid = more (d .1) (r .all-valid);
       few = λ h. r .few (omega (arith, length-append is (i ∷ [])));
@@ -108,8 +108,8 @@ more-made [] is (p ∷ ps) v l e = cc
 more-made (k ∷ ks) is [] v l e = let d = e ∙ marksOf-next (suc (cutsOf is)) k ks in cc
 more-made (k ∷ ks) is (p ∷ ps) (more v vs) l e =
     let n = suc (cutsOf is) in
-    let d : p .mark ∷ map markIn ps ≡ markAt n k ∷ marksOf (n + cutsOf (k ∷ [])) ks = e ∙ marksOf-next n k ks in
-    let m : p .mark ≡ markAt n k = cc in
+    let d : p .mark ∷ map markIn ps ≡ itemMark n k ∷ marksOf (n + cutsOf (k ∷ [])) ks = e ∙ marksOf-next n k ks in
+    let m : p .mark ≡ itemMark n k = cc in
     let r : map markIn ps ≡ marksOf (n + cutsOf (k ∷ [])) ks = cc in
     let s : map markIn ps ≡ marksOf (suc (cutsOf (is ++ (k ∷ [])))) ks = r ∙ ap (λ (j : ℕ). marksOf j ks) (sym (pages-more is k)) in
     ap (λ (o : Option Item). makes (withItem (made is) (p .place) o) ps) (ap (itemShown n) m ∙ is-item n k v)

@@ -1,5 +1,5 @@
 -- The item of a mark is the one whose target it shows.
---     markAt           the mark that shows an item, after n pages
+--     itemMark         the mark that shows an item, after n pages
 --     marksOf-next     the marks of a list of items, by its first
 --     item-is          the item that a mark shows is valid, and the mark is its mark
 --     is-item          the mark of a valid item shows that item
@@ -29,11 +29,11 @@ use Rattle.dvi_galley.specs.TargetLaws.{xOfTarget-xTarget, xTarget-xOfTa
 use Rattle.dvi_galley.specs.Back.{ifValid, characterShown, placedItem, itemShown}
 
 -- the mark that shows an item, after n pages
-abbrev pub markAt : ℕ → Item → Mark
-markAt n (Placed c) = characterMark c
-markAt n Cut = pageMark (pos (suc n))
+abbrev pub itemMark : ℕ → Item → Mark
+itemMark n (Placed c) = characterMark c
+itemMark n Cut = pageMark (pos (suc n))
 
-pub marksOf-next : (n : ℕ) (i : Item) (is : List Item) → marksOf n (i ∷ is) ≡ markAt n i ∷ marksOf (n + cutsOf (i ∷ [])) is
+pub marksOf-next : (n : ℕ) (i : Item) (is : List Item) → marksOf n (i ∷ is) ≡ itemMark n i ∷ marksOf (n + cutsOf (i ∷ [])) is
 unfolding marksOf cutsOf
 marksOf-next n (Placed c) is = ap (λ (k : ℕ). characterMark c ∷ marksOf k is) (omega arith)
 marksOf-next n Cut is = ap (λ (k : ℕ). pageMark (pos (suc n)) ∷ marksOf k is) (omega arith)
@@ -58,27 +58,27 @@ character-is X Y (negsuc f) k (some x) (some h) c p q e = absurd (suc-ne-zero 0 
 character-is X Y F k (some x) none c p q e = absurd (suc-ne-zero 0 cc)
 character-is X Y F k none oh c p q e = absurd (suc-ne-zero 0 cc)
 
-pub item-is : (n : ℕ) (m : Mark) (i : Item) → itemShown n m ≡ some i → (m ≡ markAt n i) × (validItem heightEnd i ≡ true)
+pub item-is : (n : ℕ) (m : Mark) (i : Item) → itemShown n m ≡ some i → (m ≡ itemMark n i) × (validItem heightEnd i ≡ true)
 unfolding itemShown
 item-is n (pageMark z) i f =
-    by-cond (λ (o : Option Item). o ≡ some i → (pageMark z ≡ markAt n i) × (validItem heightEnd i ≡ true)) (eqZ z (pos (suc n))) (some Cut) none
+    by-cond (λ (o : Option Item). o ≡ some i → (pageMark z ≡ itemMark n i) × (validItem heightEnd i ≡ true)) (eqZ z (pos (suc n))) (some Cut) none
     (λ q e.
     let s : Cut ≡ i = cc in
-    (ap pageMark (eqZ-true z (pos (suc n)) q) ∙ ap (markAt n) s, ap (validItem heightEnd) (sym s)))
+    (ap pageMark (eqZ-true z (pos (suc n)) q) ∙ ap (itemMark n) s, ap (validItem heightEnd) (sym s)))
     (λ q e. absurd (suc-ne-zero 0 cc))
     f
 item-is n (charMark X Y F k) i e = go (characterShown (xOfTarget X) (heightOfTarget Y) F k) refl e
   where
     go : (o : Option Character) → characterShown (xOfTarget X) (heightOfTarget Y) F k ≡ o → placedItem o ≡ some i
-        → (charMark X Y F k ≡ markAt n i) × (validItem heightEnd i ≡ true)
+        → (charMark X Y F k ≡ itemMark n i) × (validItem heightEnd i ≡ true)
     go (some c) q d =
         let s : Placed c ≡ i = cc in
         let r = character-is X Y F k (xOfTarget X) (heightOfTarget Y) c (xTarget-xOfTarget X) (yTarget-heightOfTarget Y) q in
-        (r .0 ∙ ap (markAt n) s, ap (validItem heightEnd) (sym s) ∙ r .1)
+        (r .0 ∙ ap (itemMark n) s, ap (validItem heightEnd) (sym s) ∙ r .1)
     go none q d = absurd (suc-ne-zero 0 cc)
 item-is n (ruleMark kind x y h w) i e = absurd (suc-ne-zero 0 cc)
 
-pub is-item : (n : ℕ) (i : Item) → validItem heightEnd i ≡ true → itemShown n (markAt n i) ≡ some i
+pub is-item : (n : ℕ) (i : Item) → validItem heightEnd i ≡ true → itemShown n (itemMark n i) ≡ some i
 unfolding itemShown characterMark characterShown
 is-item n (Placed c) v =
     let p = valid-parts v in

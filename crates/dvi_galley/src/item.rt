@@ -5,6 +5,7 @@ use crate::target::Down;
 use dvi::mark::Mark;
 use galley_file::character;
 use galley_file::character::Character;
+use galley_file::font;
 use galley_file::item::Item;
 use measure::Quanta;
 use measure::Rsu;
@@ -24,7 +25,7 @@ ghost use Rattle.dvi_galley.specs.Target.{xOfTarget, heightOfTarget};
 ghost use Rattle.dvi_galley.specs.Back.{placedItem, characterShown, itemShown};
 ghost use Rattle.dvi_galley.specs.Taken.{takenOf};
 
-const FONTS: i32 = 120;
+const FONTS: i32 = font::FONTS as i32;
 
 // The item that a mark shows, or none.
 pub enum Taken {

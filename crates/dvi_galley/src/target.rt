@@ -2,7 +2,6 @@
 use measure::Quanta;
 use measure::Rsu;
 use measure::Units;
-use measure::target_table;
 use measure::target_table::TargetTable;
 ghost use mathlib.Core.Path.{_≡_};
 ghost use Rattle.measure.specs.Target.{xTargets};
@@ -15,12 +14,13 @@ const LEAST: Rsu = Rsu(-600_747);
 const GREATEST: Rsu = Rsu(35_378_517);
 
 // A unit is this many thirds of an rsu, and a quantum this many rsu.
-const UNIT: u32 = 32_768;
+const UNIT: u32 = measure::RSU_PER_QUANTUM as u32;
 
-const QUANTUM: u32 = 32_768;
+const QUANTUM: u32 = measure::RSU_PER_QUANTUM as u32;
 
 // Fifty-five units and a half, in thirds of an rsu: the table begins at -55, and the half rounds to the nearest.
-const SHIFT: i32 = 1_818_624;
+const SHIFT: i32 = measure::RSU_PER_QUANTUM * measure::DOUBLE_SHIFT.0
+    + measure::RSU_PER_QUANTUM / 2;
 
 // The x whose target this is.
 pub enum Across {
@@ -47,7 +47,7 @@ pub fn x_of_target(targets: &TargetTable, t: Rsu) -> Across
         return Across::Nowhere;
     }
     let k = (3 * z + SHIFT) as u32 / UNIT;
-    let x = Units(k as i32 + target_table::FIRST);
+    let x = Units(k as i32 + measure::FIRST_X.0);
     let there = x.target(targets);
     let found = there.0;
     if found == z {

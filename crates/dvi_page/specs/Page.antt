@@ -8,7 +8,7 @@ use mathlib.Core.Option.{Option, none, some}
 use lib.IntN.{ℤ}
 use Rattle.dvi.specs.Page as S
 use Rattle.dvi.specs.Mark.{markOf}
-use Rattle.dvi_page.specs.Stack.{pageNumbers, stackOf}
+use Rattle.dvi_page.specs.Stack.{sixNumbers, stackOf}
 use Rattle.dvi_page.specs.declared.page.Page.{Page}
 use Rattle.dvi_page.specs.declared.page.Effect.{Effect}
 use Rattle.dvi_page.specs.declared.page.Effect.the-variants.{Fault, Moved, Marked, Ended}
@@ -18,7 +18,7 @@ fontIfSet false f = none
 fontIfSet true f = some f
 
 abbrev pub pageOf : Page → List ℤ → S.Page
-pageOf p l = record { numbers = pageNumbers (p .numbers); font = fontIfSet (p .«has_font») (p .font); stack = stackOf l (p .depth) }
+pageOf p l = record { numbers = sixNumbers (p .numbers); font = fontIfSet (p .«has_font») (p .font); stack = stackOf l (p .depth) }
 
 abbrev pub effectOf : Effect → List ℤ → S.Effect
 effectOf (Fault n) l = S.fault n

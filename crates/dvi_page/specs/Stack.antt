@@ -1,8 +1,8 @@
 -- The six numbers as the code holds them, and the stack that lies in an array.
---     stackSize       the numbers of a full stack
---     pageNumbers     the six numbers
---     entryAt         entry d of the stack in an array
---     stackOf         the stack of d entries in an array
+--     stackSize      the numbers of a full stack
+--     sixNumbers     the six numbers
+--     entryAt        entry d of the stack in an array
+--     stackOf        the stack of d entries in an array
 use Prim.Native.Nat.{ℕ, zero, suc, _+_, _*_}
 use mathlib.Core.List.{List, [], _∷_}
 use lib.IntN.{ℤ, pos}
@@ -13,8 +13,8 @@ use Rattle.dvi_page.specs.declared.stack.Numbers.{Numbers}
 abbrev pub stackSize : ℕ
 stackSize = 1200
 
-abbrev pub pageNumbers : Numbers → S.Numbers
-pageNumbers n = record { atX = n .x .0; atY = n .y .0; amountW = n .wa .0; amountX = n .xa .0; amountY = n .ya .0; amountZ = n .za .0 }
+abbrev pub sixNumbers : Numbers → S.Numbers
+sixNumbers n = record { atX = n .x .0; atY = n .y .0; amountW = n .wa .0; amountX = n .xa .0; amountY = n .ya .0; amountZ = n .za .0 }
 
 -- entry d stands from place 6 d on
 abbrev pub entryAt : List ℤ → ℕ → S.Numbers

@@ -13,7 +13,7 @@ ghost use lib.IntN.{ℤ};
 ghost use lib.ListN.{length};
 ghost use Rattle.dvi.specs.Mark.{markOf};
 ghost use Rattle.dvi.specs.Page as S;
-ghost use Rattle.dvi_page.specs.Stack.{stackSize, pageNumbers, stackOf};
+ghost use Rattle.dvi_page.specs.Stack.{stackSize, sixNumbers, stackOf};
 ghost use Rattle.dvi_page.specs.Page.{pageOf, effectOf};
 
 // The stack's entries lie in an array beside the page. The font counts where has_font says so; the two stand apart, as side by side
@@ -55,7 +55,7 @@ pub fn new_page() -> Page
 
 // The page with other numbers.
 pub fn with_numbers(p: Page, n: Numbers) -> Page
-    ensures { λ r. ⌜ ((l : List ℤ) → pageOf r l ≡ S.withNumbers (pageOf p l) (pageNumbers n)) ⌝ }
+    ensures { λ r. ⌜ ((l : List ℤ) → pageOf r l ≡ S.withNumbers (pageOf p l) (sixNumbers n)) ⌝ }
 {
     let mut q = p;
     q.numbers = n;
@@ -64,7 +64,7 @@ pub fn with_numbers(p: Page, n: Numbers) -> Page
 
 // The page goes on m to the right of the numbers n.
 pub fn right(p: Page, n: Numbers, m: Rsu) -> Effect
-    ensures { λ r. ⌜ ((l : List ℤ) → effectOf r l ≡ S.goTo (pageOf p l) (S.rightBy (m .0) (pageNumbers n))) ⌝ }
+    ensures { λ r. ⌜ ((l : List ℤ) → effectOf r l ≡ S.goTo (pageOf p l) (S.rightBy (m .0) (sixNumbers n))) ⌝ }
 {
     let to = reach::sum(n.x.0, m.0);
     match to {
@@ -79,7 +79,7 @@ pub fn right(p: Page, n: Numbers, m: Rsu) -> Effect
 }
 
 pub fn down(p: Page, n: Numbers, m: Rsu) -> Effect
-    ensures { λ r. ⌜ ((l : List ℤ) → effectOf r l ≡ S.goTo (pageOf p l) (S.downBy (m .0) (pageNumbers n))) ⌝ }
+    ensures { λ r. ⌜ ((l : List ℤ) → effectOf r l ≡ S.goTo (pageOf p l) (S.downBy (m .0) (sixNumbers n))) ⌝ }
 {
     let to = reach::sum(n.y.0, m.0);
     match to {
@@ -95,7 +95,7 @@ pub fn down(p: Page, n: Numbers, m: Rsu) -> Effect
 
 // The page shows k and goes on m to the right.
 pub fn show_right(p: Page, k: Mark, m: Rsu) -> Effect
-    ensures { λ r. ⌜ ((l : List ℤ) → effectOf r l ≡ S.showAndGoTo (pageOf p l) (markOf k) (S.rightBy (m .0) (pageNumbers (p .numbers)))) ⌝ }
+    ensures { λ r. ⌜ ((l : List ℤ) → effectOf r l ≡ S.showAndGoTo (pageOf p l) (markOf k) (S.rightBy (m .0) (sixNumbers (p .numbers)))) ⌝ }
 {
     let n = p.numbers;
     let to = reach::sum(n.x.0, m.0);

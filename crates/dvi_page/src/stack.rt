@@ -5,9 +5,12 @@ ghost use mathlib.Core.List.{_∷_};
 ghost use Prim.Native.Nat.{_+_, _<_};
 ghost use lib.ListN.{length};
 ghost use Rattle.dvi.specs.Page.{maxStack};
-ghost use Rattle.dvi_page.specs.Stack.{stackSize, pageNumbers, entryAt, stackOf};
+ghost use Rattle.dvi_page.specs.Stack.{stackSize, sixNumbers, entryAt, stackOf};
 
 pub const MAX_STACK: usize = 200;
+
+// The numbers of the whole stack.
+pub const STACK_SIZE: usize = 6 * MAX_STACK;
 
 // The coordinates, and the amounts W, X, Y and Z.
 pub struct Numbers {
@@ -22,7 +25,7 @@ pub struct Numbers {
 // Puts n on top of d entries.
 pub fn put_entry(stack: &mut [i32], d: usize, n: Numbers)
     requires { ⌜ (d < maxStack) × (length (now stack) ≡ stackSize) ⌝ }
-    ensures { λ _. ⌜ stackOf (now (stack .exit)) (d + 1) ≡ pageNumbers n ∷ stackOf (now (stack .entry)) d ⌝ }
+    ensures { λ _. ⌜ stackOf (now (stack .exit)) (d + 1) ≡ sixNumbers n ∷ stackOf (now (stack .entry)) d ⌝ }
 {
     let x = n.x.0;
     let y = n.y.0;
@@ -42,7 +45,7 @@ pub fn put_entry(stack: &mut [i32], d: usize, n: Numbers)
 // Entry d, counted from the bottom.
 pub fn entry(stack: &[i32], d: usize) -> Numbers
     requires { ⌜ (d < maxStack) × (length (now stack) ≡ stackSize) ⌝ }
-    ensures { λ r. ⌜ pageNumbers r ≡ entryAt (now (stack .entry)) d ⌝ }
+    ensures { λ r. ⌜ sixNumbers r ≡ entryAt (now (stack .entry)) d ⌝ }
 {
     let i = 6 * d;
     let x = stack[i];

@@ -21,7 +21,7 @@ use Rattle.sheet.specs.ShownLaws.{showsFirst-nil, showsFirst-append, shown-room
 use Rattle.sheet.specs.Filled.{Filled, filled-start, filled-more}
 use Rattle.dvi.specs.Page.{maxStack, newPage}
 use Rattle.dvi.specs.File.{State, between, inside, Step, refuse, goOn, finish, readDvi}
-use Rattle.dvi.specs.FileLaws.{Sound, step-sound, stepHere}
+use Rattle.dvi.specs.FileLaws.{SoundStep, step-sound, stepHere}
 use Rattle.dvi_brackets.specs.Brackets.{Run, badRun, toPop, toEop, run, pageThen, stepThen, pages, readBrackets}
 use Rattle.dvi_brackets.specs.BracketsLaws.{run-pass, SoundRun, run-sound}
 use Rattle.dvi_brackets.specs.Agreement.{Begins, between-begins, agreement}
@@ -64,7 +64,7 @@ module _ (ws : List ℤ) (s : List ℕ) (at : ℕ) (last : ℤ) where
     bop-shows = begun .1 .1
 
     held-here : 8 ≤ length (drop (at + 1) s)
-    held-here = let k = subst (Sound (length (drop (at + 1) s))) e (step-sound ws at (between last) (getD s at 0) (drop (at + 1) s) tt) in omega (arith, k .0, begun .1 .0)
+    held-here = let k = subst (SoundStep (length (drop (at + 1) s))) e (step-sound ws at (between last) (getD s at 0) (drop (at + 1) s) tt) in omega (arith, k .0, begun .1 .0)
 
     pub bop-inside : at + bopBytes ≤ length s
     bop-inside = omega (arith, held-here, length-drop (at + 1) s)

@@ -2,6 +2,7 @@
 // command or a group.
 use dvi::mark;
 use dvi::mark::Mark;
+use dvi::opcode;
 use dvi_brackets::Run;
 use dvi_page::page;
 use dvi_page::stack;
@@ -23,11 +24,8 @@ ghost use Rattle.sheet.specs.Readable.{maxFile};
 ghost use Rattle.dvi.specs.Mark.{markOf};
 ghost use Rattle.dvi.specs.File.{readDvi};
 ghost use Rattle.dvi.specs.Sheet.{sheetResult};
-ghost use Rattle.dvi_brackets.specs.Reading.{Within, RoomyRun};
+ghost use Rattle.dvi_brackets.specs.Reading.{InFile, RoomyRun};
 ghost use Rattle.dvi_plain.specs.Page.{bopBytes, pageRun, PageDone};
-
-// The bytes of BOP; the run of its page comes after them.
-const BOP_BYTES: usize = 9;
 
 // How a page ends: refused at a place; or with its EOP: the place after it, the place in the sheet and the marks so far.
 enum PageEnd {
@@ -46,12 +44,12 @@ fn read_page(
     count: u32,
     writing: bool,
 ) -> PageEnd
-    requires { ⌜ (at + bopBytes ≤ length (now dvi)) × ((length (now dvi) ≤ maxFile) × Within at to count) ⌝ }
+    requires { ⌜ (at + bopBytes ≤ length (now dvi)) × ((length (now dvi) ≤ maxFile) × InFile at to count) ⌝ }
     requires { ⌜ (writing ≡ true → RoomyRun (pageRun (now widths) (now dvi) at) (to + length (markField (markOf m))) (length (now out))) ⌝ }
     ensures { λ r. ⌜ PageDone at (pageRun (now (widths .entry)) (now (dvi .entry)) at) (markOf m) writing (now (out .entry)) to count r (now (out .exit)) ⌝ }
 {
     let first = mark::show_mark(out, to, m, writing);
-    let start = at + BOP_BYTES;
+    let start = at + opcode::BOP_LENGTH;
     let body = &dvi[start..];
     let p = page::new_page();
     let r = dvi_brackets::read_run(

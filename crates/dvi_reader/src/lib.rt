@@ -1,5 +1,6 @@
 // DVI files of 1980 (002), read into sheets with a lent table of widths.
 use dvi::mark;
+use dvi_page::stack;
 use dvi_step::State;
 use dvi_step::Stepped;
 use octets::answer;
@@ -24,7 +25,7 @@ fn pass(dvi: &[u8], widths: &[i32], out: &mut [u8], writing: bool) -> Reading
     requires { ⌜ (writing ≡ true → Roomy (shownResult (readDvi (now widths) (now dvi))) (length (now out))) ⌝ }
     ensures { λ r. ⌜ Passed (shownResult (readDvi (now (widths .entry)) (now (dvi .entry)))) writing (now (out .entry)) r (now (out .exit)) ⌝ }
 {
-    let mut stack = [0i32; 1200];
+    let mut stack = [0i32; stack::STACK_SIZE];
     let mut q = State::Between(-1);
     let mut at: usize = 0;
     let mut to: usize = 0;

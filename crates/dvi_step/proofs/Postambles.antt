@@ -14,7 +14,7 @@ use lib.Seq.{drop-cons, drop-drop}
 use Rattle.integers.specs.Equality.{true-eqZ, false-eqZ}
 use Rattle.octets.specs.Octets.{signed, signedAt}
 use Rattle.dvi.specs.Postamble.{Part, atId, beforeName, inName, definitions, all223, trailer, postamble}
-use Rattle.dvi_step.specs.Postamble.{Within}
+use Rattle.dvi_step.specs.Postamble.{FoundIn}
 use Rattle.dvi_step.specs.declared.postamble.Found.{Found}
 use Rattle.dvi_step.specs.declared.postamble.Found.the-variants.{At, Nothing}
 
@@ -112,7 +112,7 @@ module _ (s : List ℕ) (j pst : ℕ) where
       ∙ ap (λ (k : ℕ). definitions pst (inName (getD s (j + 8) 0)) (drop k s)) e
 
 -- further back is still before
-pub within-more : (i n : ℕ) (r : Found) → Within (i + 9) r n → Within i r n
+pub within-more : (i n : ℕ) (r : Found) → FoundIn (i + 9) r n → FoundIn i r n
 within-more i n (At j) h = (omega arith, h .1)
 within-more i n Nothing h = tt
 

@@ -1,6 +1,6 @@
 -- Where a search for the end of a font's name stops, and what is left to check from there.
 --     afterName     whether the definitions after a name are right
---     Within        what is found lies past a place, in so many bytes
+--     FoundIn       what is found lies past a place, in so many bytes
 --     Past          where the check goes on after a part of a definition
 use mathlib.Core.Path.{_≡_}
 use mathlib.Core.Bool.{Bool, false}
@@ -17,11 +17,11 @@ afterName pst (At j) s = definitions pst atId (drop j s)
 afterName pst Nothing s = false
 
 -- what is found lies past i, within n bytes
-abbrev pub Within : ℕ → Found → ℕ → Type 0
-Within i (At j) n = (i < j) × (j ≤ n)
-Within i Nothing n = Unit {0}
+abbrev pub FoundIn : ℕ → Found → ℕ → Type 0
+FoundIn i (At j) n = (i < j) × (j ≤ n)
+FoundIn i Nothing n = Unit {0}
 
 -- r is where the check of s goes on after the part of a definition that is read from k on
 pub record Past (s : List ℕ) (i : ℕ) (part : Part) (k : ℕ) (r : Found) : Type 0 where
   pub goes-on : (pst : ℕ) → definitions pst part (drop k s) ≡ afterName pst r s
-  pub within : Within i r (length s)
+  pub within : FoundIn i r (length s)

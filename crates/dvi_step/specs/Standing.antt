@@ -17,7 +17,7 @@ use Rattle.dvi.specs.File as F
 use Rattle.sheet.specs.Shown.{refusedAt, shows, showsFirst}
 use Rattle.dvi.specs.File.{refuse, goOn, finish, runAs, readAs}
 use Rattle.sheet.specs.ShownLaws.{showsFirst-nil, showsFirst-append}
-use Rattle.dvi.specs.FileLaws.{Low, Sound, step-sound, stepHere, run-next, run-refuse, run-finish, run-end}
+use Rattle.dvi.specs.FileLaws.{Low, SoundStep, step-sound, stepHere, run-next, run-refuse, run-finish, run-end}
 use Rattle.dvi_page.specs.Stack.{stackSize}
 use Rattle.dvi_page.specs.StackLaws.{stack-length}
 use Rattle.dvi_step.specs.Step.{stateOf, depthOf}
@@ -48,7 +48,7 @@ module _ {A : Type 0} {tell : ℕ → List Mark → List A} {ws : List ℤ} {s :
     -- one command further
     pub standing-next : (m : List ℤ) (t : State) (ns : List Mark) (n : ℕ) → length m ≡ stackSize → stepHere ws s at (stateOf q l) ≡ goOn (stateOf t m) ns n → Standing tell ws s m t (at + 1 + n) (ms ++ tell at ns)
     standing-next m t ns n k e =
-        let d : (n ≤ length (drop (at + 1) s)) × Low (stateOf t m) = subst (Sound (length (drop (at + 1) s))) e (step-sound ws at (stateOf q l) (getD s at 0) (drop (at + 1) s) (low-in q l (b .low))) in
+        let d : (n ≤ length (drop (at + 1) s)) × Low (stateOf t m) = subst (SoundStep (length (drop (at + 1) s))) e (step-sound ws at (stateOf q l) (getD s at 0) (drop (at + 1) s) (low-in q l (b .low))) in
         record {
           so-far =
               b .so-far

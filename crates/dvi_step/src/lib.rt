@@ -2,6 +2,7 @@
 mod postamble;
 
 use dvi::mark::Mark;
+use dvi::opcode;
 use dvi_command::Decoded;
 use dvi_page::page;
 use dvi_page::page::Effect;
@@ -19,10 +20,6 @@ ghost use Rattle.dvi.specs.File as S;
 ghost use Rattle.dvi_page.specs.Stack.{stackSize};
 ghost use Rattle.dvi_page.specs.Page.{pageOf, effectOf};
 ghost use Rattle.dvi_step.specs.Step.{stateOf, depthOf, stepOf};
-
-const BOP: u8 = 129;
-
-const PST: u8 = 131;
 
 // Between pages or inside one, with the offset of the last BOP, -1 before the first.
 pub enum State {
@@ -78,7 +75,7 @@ fn begin_page(dvi: &[u8], at: usize, last: i32) -> Stepped
     requires { ⌜ (at < length (now dvi)) × (at < 2147483648) ⌝ }
     ensures { λ r. ⌜ ((l : List ℤ) → stepOf r l ≡ S.beginPage last at (drop (at + 1) (now (dvi .entry)))) ⌝ }
 {
-    if dvi.len() - at < 9 {
+    if dvi.len() - at < opcode::BOP_LENGTH {
         return Stepped::Refuse(answer::DVI_ENDS_EARLY);
     }
     let n = number::signed4_at(dvi, at + 1);
@@ -110,10 +107,10 @@ pub fn between_pages(dvi: &[u8], at: usize, last: i32) -> Stepped
     ensures { λ r. ⌜ ((ws l : List ℤ) → stepOf r l ≡ S.step ws at (S.between last) (getD (now (dvi .entry)) at 0) (drop (at + 1) (now (dvi .entry)))) ⌝ }
 {
     let op = dvi[at];
-    if op == BOP {
+    if op == opcode::BOP {
         return begin_page(dvi, at, last);
     }
-    if op == PST {
+    if op == opcode::PST {
         return end_file(dvi, at, last);
     }
     Stepped::Refuse(answer::BAD_COMMAND)

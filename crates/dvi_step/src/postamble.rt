@@ -1,13 +1,11 @@
 // The form of the postamble.
+use dvi::opcode;
 use octets::number;
 ghost use mathlib.Core.Path.{_≡_};
 ghost use Prim.Native.Nat.{_+_, _≤_, _<_};
 ghost use lib.ListN.{length, drop};
 ghost use Rattle.dvi.specs.Postamble as P;
 ghost use Rattle.dvi_step.specs.Postamble.{Past};
-
-// The byte that fills the end of a file.
-const FILL: u8 = 223;
 
 pub enum Found {
     At(usize),
@@ -48,7 +46,7 @@ fn is_filled(s: &[u8], i: usize) -> bool
 {
     let mut j = i;
     while j < s.len() {
-        if s[j] != FILL {
+        if s[j] != opcode::FILLER {
             return false;
         }
         j += 1;

@@ -28,8 +28,8 @@ use Rattle.extents.specs.FontMarksLaws.{fonts-count}
 use Rattle.dvi_writer.specs.declared.plan.Plan.{Plan}
 use Rattle.dvi_writer.specs.Result.{dviResult}
 use Rattle.dvi_writer.specs.Plan.{PlanIs}
-use Rattle.dvi_frame.specs.Postamble.{postambleOf, Held}
-use Rattle.dvi_frame.specs.PostambleLaws.{post-is, held}
+use Rattle.dvi_frame.specs.Postamble.{postambleOf, HeldExtents}
+use Rattle.dvi_frame.specs.PostambleLaws.{post-is, extents-held}
 
 -- ---- the file
 
@@ -44,8 +44,8 @@ file-length p is a v =
     omega (arith, length-file is, a .length-is, fonts-count (e .fonts .low) (e .fonts .high) (charactersOf is) f)
 
 module _ (e : Extents) (is : List Item) (v : AllValid lowEnd is) (a : e ≡ extentsOf (charactersOf is)) where
-  pub holds : Held e
-  holds = held e is v (are e is v a)
+  pub holds : HeldExtents e
+  holds = extents-held e is v (are e is v a)
 
   module _ (o₀ o₁ : List ℕ) (pst last : ℕ) (pages : Wrote o₀ 0 (pagesBytes is) o₁ pst) (l : last ≡ writingAfterAll firstWriting is .bop) where
     pub pst-is : pst ≡ length (pagesBytes is)

@@ -1,6 +1,7 @@
 // The pages: BOP, the commands of characters, EOP.
 use crate::writing;
 use crate::writing::Writing;
+use dvi::opcode;
 use dvi_characters::command;
 use dvi_characters::position;
 use dvi_characters::position::Position;
@@ -31,12 +32,10 @@ ghost use Rattle.dvi_characters.specs.Position.{positionOf, OnPage, PositionIs,
 ghost use Rattle.dvi_writer.specs.Writing.{writingOf, WritingIs};
 
 // The bytes of the first BOP and of the last EOP.
-pub const FRAME: usize = 10;
+pub const FRAME: usize = opcode::BOP_LENGTH + 1;
 
 // The bytes of a cut: an EOP and a BOP.
-pub const CUT_LENGTH: usize = 10;
-
-const EOP: u8 = 130;
+pub const CUT_LENGTH: usize = FRAME;
 
 // Writes the commands of c.
 fn put_character(out: &mut [u8], p: Writing, next: Position, c: Character) -> Writing
@@ -57,7 +56,7 @@ fn put_cut(out: &mut [u8], p: Writing, next: Position) -> Writing
     requires { ⌜ ((p .at + 10 ≤ length (now out)) × ((p .at < 2147483648) × (p .bop < 2147483648))) × ((p .page < 4294967295) × PositionIs next startPosition) ⌝ }
     ensures { λ r. ⌜ (Wrote (now (out .entry)) (p .at) (itemBytes (writingOf p) Cut) (now (out .exit)) (r .at)) × WritingIs r (writingAfter (writingOf p) Cut) ⌝ }
 {
-    let bop = number::put_byte(out, p.at, EOP);
+    let bop = number::put_byte(out, p.at, opcode::EOP);
     let page = p.page + 1;
     let to = bop::put_bop(out, bop, page, p.bop as i32);
     Writing {
@@ -104,6 +103,6 @@ pub fn put_pages(g: &[u8], count: usize, out: &mut [u8]) -> Writing
 {
     bop::put_bop(out, 0, 1, -1);
     let mut p = put_items(g, count, out);
-    p.at = number::put_byte(out, p.at, EOP);
+    p.at = number::put_byte(out, p.at, opcode::EOP);
     p
 }

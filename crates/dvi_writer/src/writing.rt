@@ -1,4 +1,5 @@
 // The writing: how far a file is made.
+use dvi::opcode;
 use dvi_characters::position;
 use dvi_characters::position::Position;
 ghost use Rattle.dvi.specs.Writer.{firstWriting};
@@ -23,6 +24,6 @@ pub fn first_writing() -> Writing
         position: position,
         page: 1,
         bop: 0,
-        at: 9,
+        at: opcode::BOP_LENGTH,
     }
 }

@@ -1,4 +1,4 @@
--- The laws of a stretch and of `Onward`, code by code: what they keep, and that a count keeps `Counting` over them.
+-- The laws of a stretch and of `CountsOn`, code by code: what they keep, and that a count keeps `Counting` over them.
 -- Assumes nothing.
 use mathlib.Core.Path.{_≡_, refl, sym, ap, subst, _∙_}
 use mathlib.Core.Bool.{Bool, true, false, cond}
@@ -17,7 +17,7 @@ use Rattle.tape_stretch.specs.Stretch.{Strides, stands, moves, sets}
 use Rattle.tape.specs.Tape.{maxTape}
 use Rattle.tape.specs.RunLaws.{flashed}
 use Rattle.figures.specs.Figures.{sum64}
-use Rattle.figures.specs.Counting.{Counting, countIn, Onward, here, stretched, turned, leads}
+use Rattle.figures.specs.Counting.{Counting, countIn, CountsOn, here, stretched, turned, leads}
 use Rattle.figures.proofs.Arrays.{more-of}
 use Rattle.figures.proofs.Countings.{recount, counting-few, counting-set, counting-turned, counting-lead, sets-one}
 
@@ -65,26 +65,26 @@ counting-added s₀ tape short s later next font m forward backward i h e g =
 -- ---- onward
 
 module _ {tape fonts : List ℕ} {s : State} {forward backward i : ℕ} where
-  pub onward-place : {later : List ℕ} {t : State} {ahead back j : ℕ} → Onward tape fonts s forward backward i later t ahead back j → i ≤ j
+  pub onward-place : {later : List ℕ} {t : State} {ahead back j : ℕ} → CountsOn tape fonts s forward backward i later t ahead back j → i ≤ j
   onward-place here = omega arith
   onward-place (stretched f p h e) = omega (arith, onward-place f, strides-onward p)
   onward-place (turned f h e l) = omega (arith, onward-place f)
   onward-place (leads f h e x y) = omega (arith, onward-place f)
 
-  pub onward-sound : {later : List ℕ} {t : State} {ahead back j : ℕ} → Onward tape fonts s forward backward i later t ahead back j → Sound s → Sound t
+  pub onward-sound : {later : List ℕ} {t : State} {ahead back j : ℕ} → CountsOn tape fonts s forward backward i later t ahead back j → Sound s → Sound t
   onward-sound here r = r
   onward-sound (stretched f p h e) r = strides-sound p (onward-sound f r)
   onward-sound (turned {t = t} {j = j} f h e l) r = stays-sound t (onward-sound f r) (getD tape j 0) e
   onward-sound (leads {t = t} {j = j} f h e x y) r = stays-sound t (onward-sound f r) (getD tape j 0) e
 
-  pub onward-length : {later : List ℕ} {t : State} {ahead back j : ℕ} → Onward tape fonts s forward backward i later t ahead back j → length later ≡ length fonts
+  pub onward-length : {later : List ℕ} {t : State} {ahead back j : ℕ} → CountsOn tape fonts s forward backward i later t ahead back j → length later ≡ length fonts
   onward-length here = refl
   onward-length (stretched {later = later} {font = font} {q = q} f p h e) = ap length e ∙ length-set later font (sum64 (getD later font 0) (q .count)) ∙ onward-length f
   onward-length (turned f h e l) = onward-length f
   onward-length (leads f h e x y) = onward-length f
 
   -- a count goes on over it, whatever it started from
-  pub counting-onward : (s₀ : State) → length tape ≤ maxTape → {later : List ℕ} {t : State} {ahead back j : ℕ} → Onward tape fonts s forward backward i later t ahead back j
+  pub counting-onward : (s₀ : State) → length tape ≤ maxTape → {later : List ℕ} {t : State} {ahead back j : ℕ} → CountsOn tape fonts s forward backward i later t ahead back j
       → Counting s₀ tape s (countIn fonts) forward backward i → Counting s₀ tape t (countIn later) ahead back j
   counting-onward s₀ short here g = g
   counting-onward s₀ short (stretched {later} {next} {t} {ahead} {back} {font = font} {q = q} f p h e) g =

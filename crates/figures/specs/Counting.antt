@@ -1,10 +1,10 @@
 -- What the contracts of the counting functions cite; nothing here is part of what a call promises.
---     Counting       what a count keeps
---     countIn        the characters of each font number in an array
---     Onward         from a state, an array, leads and a place to others
---     figuresFrom    the figures of a tape that is read from a state
---     tallyAt        what is found of a tape that ends in a state
---     Tallied        what a count finds
+--     Counting        what a count keeps
+--     countIn         the characters of each font number in an array
+--     CountsOn        from a state, an array, leads and a place to others
+--     figuresFrom     the figures of a tape that is read from a state
+--     tallyAt         what is found of a tape that ends in a state
+--     Tallied         what a count finds
 use mathlib.Core.Path.{_≡_}
 use mathlib.Core.Bool.{cond}
 use mathlib.Core.List.{List}
@@ -42,16 +42,16 @@ abbrev pub countIn : List ℕ → ℕ → ℕ
 countIn fonts n = getD fonts n 0
 
 -- from a state, an array, leads and a place to others, code by code: a stretch, a turn of a mode or a size, or a lead
-pub data Onward (tape fonts : List ℕ) (s : State) (forward backward i : ℕ) : List ℕ → State → ℕ → ℕ → ℕ → Type 0 where
-  here : Onward tape fonts s forward backward i fonts s forward backward i
-  stretched : {later next : List ℕ} {t : State} {ahead back j font : ℕ} {q : Stretch} → Onward tape fonts s forward backward i later t ahead back j
+pub data CountsOn (tape fonts : List ℕ) (s : State) (forward backward i : ℕ) : List ℕ → State → ℕ → ℕ → ℕ → Type 0 where
+  here : CountsOn tape fonts s forward backward i fonts s forward backward i
+  stretched : {later next : List ℕ} {t : State} {ahead back j font : ℕ} {q : Stretch} → CountsOn tape fonts s forward backward i later t ahead back j
       → Strides tape t font (stretchAt t j 0) q → font < length later → next ≡ set later font (sum64 (getD later font 0) (q .count))
-      → Onward tape fonts s forward backward i next (withCarriage t (q .carriage)) ahead back (q .next)
-  turned : {later : List ℕ} {t u : State} {ahead back j : ℕ} → Onward tape fonts s forward backward i later t ahead back j → j < length tape
-      → byteEffect t (getD tape j 0) ≡ Moved u → NoLead (getD tape j 0) → Onward tape fonts s forward backward i later u ahead back (j + 1)
-  leads : {later : List ℕ} {t u : State} {ahead back j a b : ℕ} → Onward tape fonts s forward backward i later t ahead back j → j < length tape
+      → CountsOn tape fonts s forward backward i next (withCarriage t (q .carriage)) ahead back (q .next)
+  turned : {later : List ℕ} {t u : State} {ahead back j : ℕ} → CountsOn tape fonts s forward backward i later t ahead back j → j < length tape
+      → byteEffect t (getD tape j 0) ≡ Moved u → NoLead (getD tape j 0) → CountsOn tape fonts s forward backward i later u ahead back (j + 1)
+  leads : {later : List ℕ} {t u : State} {ahead back j a b : ℕ} → CountsOn tape fonts s forward backward i later t ahead back j → j < length tape
       → byteEffect t (getD tape j 0) ≡ Moved u → a ≡ sum64 ahead (forwardOf (taken t (getD tape j 0))) → b ≡ sum64 back (backwardOf (taken t (getD tape j 0)))
-      → Onward tape fonts s forward backward i later u a b (j + 1)
+      → CountsOn tape fonts s forward backward i later u a b (j + 1)
 
 -- the figures of a run that ends so
 abbrev pub figuresAt : List Item → List Move → Ending → Figures

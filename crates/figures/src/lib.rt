@@ -15,7 +15,7 @@ ghost use Rattle.typesetter.specs.Code.{codeOf};
 ghost use Rattle.typesetter.specs.Sound.{Sound};
 ghost use Rattle.tape.specs.Tape.{maxTape};
 ghost use Rattle.figures.specs.Figures.{taken, leadIn, forwardOf, backwardOf, figuresOf, sum64};
-ghost use Rattle.figures.specs.Counting.{figuresFrom, tallyAt, Onward, Tallied};
+ghost use Rattle.figures.specs.Counting.{figuresFrom, tallyAt, CountsOn, Tallied};
 
 // What counting a tape finds beside its characters: the number of its answer, and its lead if it is accepted.
 pub struct Tally {
@@ -100,7 +100,7 @@ fn quick_tally(
     fonts: &mut [u64],
 ) -> RunEnd
     requires { ⌜ (Sound first) × (length (now fonts) ≡ 120) ⌝ }
-    ensures { λ r. ⌜ Onward (now (tape .entry)) (now (fonts .entry)) first ahead back from (now (fonts .exit)) (r .state) (r .forward) (r .backward) (r .next) ⌝ }
+    ensures { λ r. ⌜ CountsOn (now (tape .entry)) (now (fonts .entry)) first ahead back from (now (fonts .exit)) (r .state) (r .forward) (r .backward) (r .next) ⌝ }
 {
     let mut s = first;
     let mut d = derived::derived_of(first);

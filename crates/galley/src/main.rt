@@ -2,6 +2,7 @@
 ghost use Rattle.galley_file.specs.declared.form.Form.the-variants.{New};
 use galley_file::character::Character;
 use galley_file::font;
+use galley_file::form;
 use galley_file::form::Form;
 use galley_file::item;
 use galley_file::item::Item;
@@ -21,7 +22,7 @@ const MACHINE: u32 = 8;
 const MAX_TAPE: usize = 2_048;
 
 // How far z is from 0.
-fn magnitude(z: i32) -> u64
+fn absolute(z: i32) -> u64
     ensures { λ r. ⌜ r ≡ natAbs z ⌝ }
 {
     if z < 0 {
@@ -41,8 +42,8 @@ fn write_character(c: Character) {
     if c.x.0 < 0 {
         io::write_all(STDOUT_FILENO, b"-");
     }
-    write_number(magnitude(c.x.0));
-    write_number(magnitude(c.height.0));
+    write_number(absolute(c.x.0));
+    write_number(absolute(c.height.0));
     write_number(font::font_of(c.font) as u64);
     write_number(font::point_size(c.font) as u64);
     io::print_decimal(STDOUT_FILENO, c.code as u64);
@@ -103,13 +104,13 @@ fn list(tape: &[u8], galley: &mut [u8]) {
 }
 
 fn main() {
-    let mut tape = [0u8; 2049];
+    let mut tape = [0u8; MAX_TAPE + 1];
     let n = io::read_full(STDIN_FILENO, &mut tape);
     if MAX_TAPE < n {
         io::write_all(STDOUT_FILENO, b"too long\n");
         return;
     }
     // Room for a character for each byte, and End.
-    let mut galley = [0u8; 22535];
+    let mut galley = [0u8; form::NEW_FIELD * MAX_TAPE + field::END_FIELD];
     list(&tape[..n], &mut galley);
 }

@@ -37,18 +37,18 @@ module _ (form : Form) (make : List Item → Result) (g : List ℕ) where
   result-made count e = rw (le-ltb (maxGalley form) (length g) (checked form g count e .fits)) (ap (madeOf make) (read-as form g count e))
 
   -- the bytes bs are made of the galley's items
-  pub record Made (bs : List ℕ) : Type 0 where
+  pub record FromItems (bs : List ℕ) : Type 0 where
     pub items : List Item
     pub bytes : g ≡ galley form items
     pub valid : AllValid (greatestHeight form) items
     pub few : length items ≤ maxItems
     pub made : make items ≡ written bs
 
-  pub result-written : (bs : List ℕ) → Bytes g → checkedResult form make g ≡ written bs → Made bs
+  pub result-written : (bs : List ℕ) → Bytes g → checkedResult form make g ≡ written bs → FromItems bs
   unfolding checkedResult
   result-written bs b e = go (ltb (maxGalley form) (length g)) refl (readGalley form g) refl e
     where
-      go : (t : Bool) → ltb (maxGalley form) (length g) ≡ t → (r : Reading) → readGalley form g ≡ r → cond t (refusal galleyTooLong 0) (madeOf make r) ≡ written bs → Made bs
+      go : (t : Bool) → ltb (maxGalley form) (length g) ≡ t → (r : Reading) → readGalley form g ≡ r → cond t (refusal galleyTooLong 0) (madeOf make r) ≡ written bs → FromItems bs
       go true l r q h = absurd (suc-ne-zero 0 cc)
       go false l (whole is) q h =
           let a = accepted-is form g (length (charactersOf is)) b (read-accepted form g is (ltb-false _ _ l) q) in

@@ -32,14 +32,10 @@ const X_AT: usize = 3;
 
 const HEIGHT_AT: usize = 5;
 
-const FONTS: u8 = 120;
+pub const LAST_CODE: u8 = 108;
 
-const LAST_CODE: u8 = 108;
-
-// The least x of a double size, and the greatest, which is valid in every size.
-const FIRST_DOUBLE_X: Units = Units(-55);
-
-const LAST_DOUBLE_X: Units = Units(3_184);
+// The greatest x of a double size, which is valid in every size.
+const LAST_DOUBLE_X: Units = Units(measure::CARRIAGE_END.0 - measure::DOUBLE_SHIFT.0);
 
 // Whether x is valid in a single or a double size.
 pub fn valid_x(double: bool, x: Units) -> bool
@@ -47,7 +43,7 @@ pub fn valid_x(double: bool, x: Units) -> bool
 {
     let v = x.0;
     if double {
-        if FIRST_DOUBLE_X.0 <= v {
+        if measure::FIRST_X.0 <= v {
             v <= LAST_DOUBLE_X.0
         } else {
             false
@@ -67,7 +63,7 @@ fn valid_beside_x(c: Character, across: bool) -> bool
 {
     let font = c.font;
     let code = c.code;
-    if FONTS <= font {
+    if crate::font::FONTS <= font {
         return false;
     }
     if code < 1 {

@@ -6,6 +6,9 @@ ghost use Rattle.galley_file.specs.Font.{fontNumber, fontOf, sizeIndex, 
 // The number of sizes of a font.
 pub const SIZES: u8 = 15;
 
+// The font numbers: fifteen for each of eight fonts.
+pub const FONTS: u8 = 8 * SIZES;
+
 const FIRST_DOUBLE: u8 = 9;
 
 const POINT_SIZES: [u8; 15] = [7, 8, 10, 11, 12, 14, 18, 9, 6, 16, 20, 22, 24, 28, 36];

@@ -1,5 +1,7 @@
 // The two forms of a galley (document 02, "Old galleys and new"): a character's field, and the limits that follow from it.
+use crate::item;
 use measure::Quanta;
+use octets::field;
 ghost use mathlib.Core.Path.{_≡_};
 ghost use Prim.Native.Nat.{_≤_};
 ghost use Rattle.galley_file.specs.Form.{characterTag, bodyBytes, characterSize, greatestHeight, maxGalley};
@@ -11,8 +13,15 @@ pub enum Form {
     New,
 }
 
-// The bytes of a character's field in the new form.
+// The bytes of a character's field in the old form, and in the new.
+const OLD_FIELD: usize = 9;
+
 pub const NEW_FIELD: usize = 11;
+
+// The bytes of the longest galley of each form: one of characters alone, and its end.
+const MAX_OLD: usize = OLD_FIELD * item::MAX_ITEMS + field::END_FIELD;
+
+const MAX_NEW: usize = NEW_FIELD * item::MAX_ITEMS + field::END_FIELD;
 
 // The tag of a character's field.
 pub fn character_tag(f: Form) -> u8
@@ -39,7 +48,7 @@ pub fn character_size(f: Form) -> usize
     ensures { λ r. ⌜ (r ≡ characterSize f) × (r ≤ 11) ⌝ }
 {
     match f {
-        Form::Old => 9,
+        Form::Old => OLD_FIELD,
         Form::New => NEW_FIELD,
     }
 }
@@ -58,7 +67,7 @@ pub fn max_galley(f: Form) -> usize
     ensures { λ r. ⌜ r ≡ maxGalley f ⌝ }
 {
     match f {
-        Form::Old => 9_437_191,
-        Form::New => 11_534_343,
+        Form::Old => MAX_OLD,
+        Form::New => MAX_NEW,
     }
 }

@@ -22,6 +22,9 @@ const CUT_LENGTH: u32 = 0;
 // The bytes of a whole cut field.
 pub const CUT_FIELD: usize = field::HEAD;
 
+// The most items of a galley.
+pub const MAX_ITEMS: usize = 1_048_576;
+
 // Whether s starts with a cut field.
 pub fn is_cut(s: &[u8]) -> bool
     ensures { λ r. ⌜ r ≡ isCut (now (s .entry)) ⌝ }

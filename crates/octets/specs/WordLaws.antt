@@ -1,14 +1,15 @@
 -- Numbers of 32 bits and their bytes, as the code computes them.
 --     width-holds, width-least     so many bytes hold a number, and no fewer of 2, 3 and 4 do
 --     natAt-one, natAt-two         bytes read one by one
+--     natAt-halves, bytes-halves   four bytes, two at a time
 --     residue-negative, -natural   the 32 bits of a number
 --     signedAt-shifted             sign extension: shifted to the top of 32 bits and back
 -- Assumes nothing.
 use mathlib.Core.Path.{_≡_, refl, sym, ap, _∙_}
 use mathlib.Core.Bool.{true}
-use mathlib.Core.List.{List}
+use mathlib.Core.List.{List, _∷_, _++_}
 use Prim.Native.Nat.{ℕ, suc, _+_, _*_, _-_, _/_, _%_, _^_, _≤_, _<_}
-use native.Mathlib.Nat.{add-zero, mod-eq-of-lt, pow-le-pow-right}
+use native.Mathlib.Nat.{add-zero, div-one, div-div-eq-div-mul, mod-eq-of-lt, pow-le-pow-right}
 use native.Mathlib.Omega.{arith}
 use borrow.Author.Tests.{lt-ltb, le-ltb}
 use lib.Dec.{lit<}
@@ -19,7 +20,7 @@ use mir.Syntax.{w32}
 use mir.Val.{SFits, toZ, ofZ}
 use Rattle.integers.specs.Parts.{integers, dif-parts, bounds}
 use Rattle.integers.specs.Bits.{plain}
-use Rattle.octets.specs.Octets.{twos, natAt, signedAt, residue, Holds, widthOf, fits32}
+use Rattle.octets.specs.Octets.{twos, natAt, signedAt, bytes, residue, Holds, widthOf, fits32}
 use Rattle.octets.specs.OctetsLaws.{natAt-none, natAt-more, signedAt-twos, twos-low, twos-high, by-test}
 
 -- ---- the fewest bytes of 2, 3 and 4: they hold the number, and fewer do not
@@ -73,6 +74,15 @@ natAt-one at s h =
 pub natAt-two : (at : ℕ) (s : List ℕ) → at + 2 ≤ length s → natAt 2 at s ≡ getD s at 0 * 256 + getD s (at + 1) 0
 natAt-two at s h =
     natAt-more 1 at s (omega arith) ∙ ap (λ (n : ℕ). n * 256 + getD s (at + 1) 0) (natAt-one at s (omega arith))
+
+pub natAt-halves : (at : ℕ) (s : List ℕ) → at + 4 ≤ length s → natAt 4 at s ≡ natAt 2 at s * 65536 + natAt 2 (at + 2) s
+natAt-halves at s h =
+    let last : getD s (at + 2 + 1) 0 ≡ getD s (at + 3) 0 = ap (λ (i : ℕ). getD s i 0) (omega arith) in
+    omega (arith, natAt-more 3 at s (omega arith), natAt-more 2 at s (omega arith), natAt-two (at + 2) s (omega arith), last)
+
+pub bytes-halves : (n : ℕ) → bytes 2 (n / 65536) ++ bytes 2 n ≡ bytes 4 n
+unfolding bytes
+bytes-halves n = (λ i. div-div-eq-div-mul n 65536 256 i % 256 ∷ div-one (n / 65536) i % 256 ∷ bytes 2 n)
 
 pub residue-negative : (z : ℤ) → SFits w32 z → z <ℤ pos 0 → 4294967295 - mag z ≡ residue 4294967296 z
 unfolding residue

@@ -17,7 +17,7 @@ pub const END_TAG: u8 = 2;
 pub const END_LENGTH: u32 = 4;
 
 // The bytes of a whole End.
-pub const END_FIELD: usize = 7;
+pub const END_FIELD: usize = HEAD + END_LENGTH as usize;
 
 // Whether s starts with a whole field of this tag and this length.
 pub fn starts_field(s: &[u8], tag: u8, len: u32) -> bool

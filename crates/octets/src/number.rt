@@ -64,7 +64,7 @@ pub fn nat4_at(s: &[u8], at: usize) -> u32
     requires { ⌜ at + 4 ≤ length (now s) ⌝ }
     ensures { λ r. ⌜ r ≡ natAt 4 at (now (s .entry)) ⌝ }
 {
-    nat3_at(s, at) * 256 + wide(s[at + 3])
+    nat2_at(s, at) * 65_536 + nat2_at(s, at + 2)
 }
 
 // The two's complement number in the byte at `at`.
@@ -123,11 +123,8 @@ pub fn put_nat4(out: &mut [u8], at: usize, n: u32) -> usize
     requires { ⌜ at + 4 ≤ length (now out) ⌝ }
     ensures { λ r. ⌜ Wrote (now (out .entry)) at (bytes 4 n) (now (out .exit)) r ⌝ }
 {
-    out[at] = (n / 16_777_216 % 256) as u8;
-    out[at + 1] = (n / 65_536 % 256) as u8;
-    out[at + 2] = (n / 256 % 256) as u8;
-    out[at + 3] = (n % 256) as u8;
-    at + 4
+    let next = put_nat2(out, at, n / 65_536);
+    put_nat2(out, next, n)
 }
 
 // Writes z in two's complement, in one byte.

@@ -3,7 +3,7 @@
 --     upperRail ..       the switches that a font asks for: upperMag, tiltDown
 --     upperHalf          the half that a character asks for, and flashFor its flash there
 --     carriageFor        where the carriage stands for a character
---     wayTo              the direction in force after a motion
+--     backwardTo         the direction in force after a motion
 --     setFor             the machine set for a character
 --     switchCodes ..     what is sent where the machine differs: sizeCodes, and motionCodes for a motion
 --     settingCodes       from one state to another: fontCodes (rail, mag and tilt), half and size
@@ -65,15 +65,15 @@ abbrev pub carriageFor : Character → ℤ
 carriageFor c = carriageOf (c .x .0) (isDouble (sizeIndex (c .font)))
 
 -- true is backward; a machine that stands there already keeps its direction
-unfoldable pub wayTo : Bool → ℤ → ℤ → Bool
-wayTo now from to = cond (ltZ to from) true (cond (ltZ from to) false now)
+unfoldable pub backwardTo : Bool → ℤ → ℤ → Bool
+backwardTo now from to = cond (ltZ to from) true (cond (ltZ from to) false now)
 
 -- the modes for a character, where the carriage goes to `across`
 abbrev pub modesFor : State → Character → ℤ → Modes
 modesFor s c across =
     record {
-      «escape_back» = wayTo (s .modes .«escape_back») (s .carriage .0) across;
-      «lead_back» = wayTo (s .modes .«lead_back») (s .height .0) (c .height .0);
+      «escape_back» = backwardTo (s .modes .«escape_back») (s .carriage .0) across;
+      «lead_back» = backwardTo (s .modes .«lead_back») (s .height .0) (c .height .0);
       «upper_half» = upperHalf (c .code);
       «upper_rail» = upperRail (fontOf (c .font));
       «upper_mag» = upperMag (fontOf (c .font));

@@ -29,7 +29,7 @@ use Rattle.typesetter.specs.declared.machine.Effect.the-variants.{Moved}
 use Rattle.typesetter.specs.Code.{codeOf}
 use Rattle.typesetter.specs.Machine.{withEscape, withLead, withHalf, withRail, withMag, withTilt, instructionEffect, codeEffect, byteEffect}
 use Rattle.typesetter.specs.StepLaws.{lead-to, escape-to, instruction-taken}
-use Rattle.punch_codes.specs.Codes.{wayTo, switchCodes, sizeCodes, distanceCodes, escapes, leads, motionCodes}
+use Rattle.punch_codes.specs.Codes.{backwardTo, switchCodes, sizeCodes, distanceCodes, escapes, leads, motionCodes}
 use Rattle.punch_codes.specs.Reach.{Reach, reach-none, reach-moved, reach-then}
 use Rattle.punch_codes.specs.SettingLaws.{ready, switch-reach, motion-reach}
 
@@ -120,7 +120,7 @@ module _ (m : Modes) (n : ℕ) (h : Quanta) where
       sym (escape-to (across back p) a refl (ap carriageAt to ∙ carriage-at q inside) ∙ instruction-taken (across back p) (0x80 + (127 - a)) k refl refl refl)
 
   escape-reach : (now : Bool) (p q : ℕ) → p ≤ 3239 → q ≤ 3239
-      → Reach (across (wayTo now (pos p) (pos q)) p) (distanceCodes 127 0x80 (natAbs (pos q -ℤ pos p))) [] (across (wayTo now (pos p) (pos q)) q)
+      → Reach (across (backwardTo now (pos p) (pos q)) p) (distanceCodes 127 0x80 (natAbs (pos q -ℤ pos p))) [] (across (backwardTo now (pos p) (pos q)) q)
   escape-reach =
       motion-reach 127 0x80 3239 across (λ p a l u i. escaped false p (p + a) a l u (forward p a) i) (λ p a l u i. escaped true (p + a) p a l u (backward p a) (omega arith)) (omega arith)
 
@@ -135,7 +135,7 @@ module _ (m : Modes) (n : ℕ) (c : Units) where
       sym (lead-to (down back p) a (ap heightAt to ∙ height-at q inside) ∙ instruction-taken (down back p) (0x60 + (31 - a)) k refl refl refl)
 
   lead-reach : (now : Bool) (p q : ℕ) → p ≤ 1000000 → q ≤ 1000000
-      → Reach (down (wayTo now (pos p) (pos q)) p) (distanceCodes 31 0x60 (natAbs (pos q -ℤ pos p))) [] (down (wayTo now (pos p) (pos q)) q)
+      → Reach (down (backwardTo now (pos p) (pos q)) p) (distanceCodes 31 0x60 (natAbs (pos q -ℤ pos p))) [] (down (backwardTo now (pos p) (pos q)) q)
   lead-reach =
       motion-reach 31 0x60 1000000 down (λ p a l u i. led false p (p + a) a u (forward p a) i) (λ p a l u i. led true (p + a) p a u (backward p a) (omega arith)) (omega arith)
 
@@ -143,23 +143,23 @@ module _ (m : Modes) (n : ℕ) (c : Units) where
 
 module _ (m : Modes) (n : ℕ) where
   across-to : (now : Bool) (y z : ℤ) (h : Quanta) → InRange carriageEnd y → InRange carriageEnd z
-      → Reach (ready (withEscape m (wayTo now y z)) n (record { 0 = y }) h) (distanceCodes 127 0x80 (natAbs (z -ℤ y))) [] (ready (withEscape m (wayTo now y z)) n (record { 0 = z }) h)
+      → Reach (ready (withEscape m (backwardTo now y z)) n (record { 0 = y }) h) (distanceCodes 127 0x80 (natAbs (z -ℤ y))) [] (ready (withEscape m (backwardTo now y z)) n (record { 0 = z }) h)
   across-to now (pos p) (pos q) h i j = escape-reach m n h now p q (omega (integers, i .high)) (omega (integers, j .high))
   across-to now (pos p) (negsuc q) h i j = absurd (omega (integers, j .low))
   across-to now (negsuc p) z h i j = absurd (omega (integers, i .low))
 
   down-to : (now : Bool) (c : Units) (y z : ℤ) → InRange heightEnd y → InRange heightEnd z
-      → Reach (ready (withLead m (wayTo now y z)) n c (record { 0 = y })) (distanceCodes 31 0x60 (natAbs (z -ℤ y))) [] (ready (withLead m (wayTo now y z)) n c (record { 0 = z }))
+      → Reach (ready (withLead m (backwardTo now y z)) n c (record { 0 = y })) (distanceCodes 31 0x60 (natAbs (z -ℤ y))) [] (ready (withLead m (backwardTo now y z)) n c (record { 0 = z }))
   down-to now c (pos p) (pos q) i j = lead-reach m n c now p q (omega (integers, i .high)) (omega (integers, j .high))
   down-to now c (pos p) (negsuc q) i j = absurd (omega (integers, j .low))
   down-to now c (negsuc p) z i j = absurd (omega (integers, i .low))
 
   pub escapes-reach : (y z : ℤ) (h : Quanta) → InRange carriageEnd y → InRange carriageEnd z
-      → Reach (ready m n (record { 0 = y }) h) (motionCodes escapes (m .«escape_back») (wayTo (m .«escape_back») y z) y z) [] (ready (withEscape m (wayTo (m .«escape_back») y z)) n (record { 0 = z }) h)
+      → Reach (ready m n (record { 0 = y }) h) (motionCodes escapes (m .«escape_back») (backwardTo (m .«escape_back») y z) y z) [] (ready (withEscape m (backwardTo (m .«escape_back») y z)) n (record { 0 = z }) h)
   unfolding motionCodes
-  escapes-reach y z h i j = reach-then (escape-way-reach m n (record { 0 = y }) h (wayTo (m .«escape_back») y z)) (across-to (m .«escape_back») y z h i j)
+  escapes-reach y z h i j = reach-then (escape-way-reach m n (record { 0 = y }) h (backwardTo (m .«escape_back») y z)) (across-to (m .«escape_back») y z h i j)
 
   pub leads-reach : (c : Units) (y z : ℤ) → InRange heightEnd y → InRange heightEnd z
-      → Reach (ready m n c (record { 0 = y })) (motionCodes leads (m .«lead_back») (wayTo (m .«lead_back») y z) y z) [] (ready (withLead m (wayTo (m .«lead_back») y z)) n c (record { 0 = z }))
+      → Reach (ready m n c (record { 0 = y })) (motionCodes leads (m .«lead_back») (backwardTo (m .«lead_back») y z) y z) [] (ready (withLead m (backwardTo (m .«lead_back») y z)) n c (record { 0 = z }))
   unfolding motionCodes
-  leads-reach c y z i j = reach-then (lead-way-reach m n c (record { 0 = y }) (wayTo (m .«lead_back») y z)) (down-to (m .«lead_back») c y z i j)
+  leads-reach c y z i j = reach-then (lead-way-reach m n c (record { 0 = y }) (backwardTo (m .«lead_back») y z)) (down-to (m .«lead_back») c y z i j)

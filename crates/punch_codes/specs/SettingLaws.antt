@@ -21,7 +21,7 @@ use Rattle.typesetter.specs.declared.machine.Modes.{Modes}
 use Rattle.typesetter.specs.declared.machine.State.{State}
 use Rattle.typesetter.specs.declared.machine.Effect.the-variants.{Moved}
 use Rattle.typesetter.specs.Machine.{byteEffect}
-use Rattle.punch_codes.specs.Codes.{wayTo, switchCodes, remainderCodes, distanceCodes}
+use Rattle.punch_codes.specs.Codes.{backwardTo, switchCodes, remainderCodes, distanceCodes}
 use Rattle.punch_codes.specs.Reach.{Reach, reach-none, reach-moved, reach-then}
 
 -- initialized, off the switch, neither stopped nor after a cut
@@ -105,8 +105,8 @@ module _ (longest code top : ℕ) (st : Bool → ℕ → State)
   none-reach = rw (zero-div longest, zero-mod longest) reach-none
 
   -- from one place to another, in the direction that this takes
-  pub motion-reach : (now : Bool) (p q : ℕ) → p ≤ top → q ≤ top → Reach (st (wayTo now (pos p) (pos q)) p) (distanceCodes longest code (natAbs (pos q -ℤ pos p))) [] (st (wayTo now (pos p) (pos q)) q)
-  unfolding wayTo
+  pub motion-reach : (now : Bool) (p q : ℕ) → p ≤ top → q ≤ top → Reach (st (backwardTo now (pos p) (pos q)) p) (distanceCodes longest code (natAbs (pos q -ℤ pos p))) [] (st (backwardTo now (pos p) (pos q)) q)
+  unfolding backwardTo
   motion-reach now p q hp hq = go (ltb q p) refl (ltb p q) refl
     where
       d : ℕ

@@ -14,7 +14,7 @@ ghost use lib.Signed.{_≤ℤ_};
 ghost use Rattle.measure.specs.Place.{heightEnd};
 ghost use Rattle.galley_file.specs.Character.{valid};
 ghost use Rattle.galley_file.specs.Item.{validItem};
-ghost use Rattle.punch_codes.specs.Codes.{begunFrom, begun, carriageOf, wayTo, modesFor, setFor, stateAfter};
+ghost use Rattle.punch_codes.specs.Codes.{begunFrom, begun, carriageOf, backwardTo, modesFor, setFor, stateAfter};
 
 // The machine after initialize and an escape of 16.
 fn begun_from(s: State) -> State
@@ -35,8 +35,8 @@ pub fn at_begin() -> State
 }
 
 // The direction in force after a motion, true for backward.
-fn way_to(old: bool, from: i32, to: i32) -> bool
-    ensures { λ r. ⌜ r ≡ wayTo old from to ⌝ }
+fn backward_to(old: bool, from: i32, to: i32) -> bool
+    ensures { λ r. ⌜ r ≡ backwardTo old from to ⌝ }
 {
     if to < from {
         true
@@ -64,8 +64,8 @@ fn modes_for(s: State, c: Character, across: Units) -> Modes
     ensures { λ r. ⌜ r ≡ modesFor s c (across .0) ⌝ }
 {
     let font = font::font_of(c.font);
-    let escape_back = way_to(s.modes.escape_back, s.carriage.0, across.0);
-    let lead_back = way_to(s.modes.lead_back, s.height.0, c.height.0);
+    let escape_back = backward_to(s.modes.escape_back, s.carriage.0, across.0);
+    let lead_back = backward_to(s.modes.lead_back, s.height.0, c.height.0);
     Modes {
         escape_back: escape_back,
         lead_back: lead_back,

@@ -15,16 +15,8 @@ ghost use Rattle.dvi.specs.Writer.{dviFile};
 ghost use Rattle.sheet.specs.Readable.{fontChars};
 ghost use Rattle.reprint.specs.Reprint.{reprintResult, fileOutcome, sheetOutcome, bothNumbers, sheetSize, GivesBoth, Reprints};
 
-// The numbers of a font in a table of widths.
-const FONT_WIDTHS: usize = 128;
-
-// The fields of a sheet: a character, and a page.
-const CHARACTER_FIELD: usize = 16;
-
-const PAGE_FIELD: usize = 7;
-
 // The fields of page 1 and of the end.
-const OTHER_FIELDS: usize = 14;
+const OTHER_FIELDS: usize = sheet::PAGE_FIELD + field::END_FIELD;
 
 // The lengths of the sheet and of the file, or the number and the place of a refusal.
 pub enum Lengths {
@@ -48,7 +40,7 @@ fn sheet_length(galley: &[u8], count: usize) -> usize
     ensures { λ r. ⌜ r ≡ sheetSize (itemsOf New (now (galley .entry))) ⌝ }
 {
     let rest = galley.len() - field::END_FIELD - form::NEW_FIELD * count;
-    CHARACTER_FIELD * count + PAGE_FIELD * (rest / item::CUT_FIELD) + OTHER_FIELDS
+    sheet::CHAR_FIELD * count + sheet::PAGE_FIELD * (rest / item::CUT_FIELD) + OTHER_FIELDS
 }
 
 // The bytes of a checked galley's file: the writer names them for a buffer that is too short.
@@ -98,7 +90,7 @@ fn reprint_checked(
 pub fn reprint(galley: &[u8], widths: &[i32], dvi: &mut [u8], sheet: &mut [u8]) -> Lengths
     ensures { λ r. ⌜ Reprints (fileOutcome r) (sheetOutcome r) (now (galley .entry)) (now (widths .entry)) (now (dvi .entry)) (now (dvi .exit)) (now (sheet .entry)) (now (sheet .exit)) ⌝ }
 {
-    if widths.len() % FONT_WIDTHS != 0 {
+    if widths.len() % sheet::FONT_CHARS != 0 {
         return Lengths::Refused(answer::WIDTHS_NOT_WHOLE, 0);
     }
     let checked = galley_check::check_low(galley);

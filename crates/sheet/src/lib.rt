@@ -31,11 +31,11 @@ const RULE_TAG: u8 = 4;
 const RULE_LENGTH: u32 = 17;
 
 // The bytes of a whole field of each kind.
-const PAGE_FIELD: usize = 7;
+pub const PAGE_FIELD: usize = field::HEAD + PAGE_LENGTH as usize;
 
-const CHAR_FIELD: usize = 16;
+pub const CHAR_FIELD: usize = field::HEAD + CHAR_LENGTH as usize;
 
-const RULE_FIELD: usize = 20;
+const RULE_FIELD: usize = field::HEAD + RULE_LENGTH as usize;
 
 // The number that a reader's whole call is refused with, or 0, by the length of its file and whether its table of widths is whole.
 pub fn call_refusal(file: usize, whole: bool) -> u8

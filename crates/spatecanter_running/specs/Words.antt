@@ -1,10 +1,10 @@
 -- A running tape in 23 words, which a C caller keeps between two calls.
---     wordOf       a signed 32-bit number as a word, and signedIn the number that a word holds
---     wordsOf      the words of a running tape
---     tapeIn       the running tape that words hold: all words hold one
---     reachOf, marksOf     extents as the numbers that a caller's arrays are given
---     Holds        words are those of a running tape, and hold it
---     LeavesWords  what a call promises whose running tape is in words
+--     wordOf                 a signed 32-bit number as a word, and signedIn the number that a word holds
+--     wordsOf                the words of a running tape
+--     tapeIn                 the running tape that words hold: all words hold one
+--     reachOf, fontMarks     extents as the numbers that a caller's arrays are given
+--     Holds                  words are those of a running tape, and hold it
+--     LeavesWords            what a call promises whose running tape is in words
 use Prim.Native.Nat.{ℕ, _%_}
 use mathlib.Core.Path.{_≡_}
 use mathlib.Core.Bool.{Bool, cond}
@@ -114,8 +114,8 @@ abbrev pub reachOf : Extents → List ℤ
 reachOf e = e .x .0 ∷ e .height .0 ∷ []
 
 -- fonts 0 to 63, and 64 to 119
-abbrev pub marksOf : Extents → List ℕ
-marksOf e = e .fonts .low ∷ e .fonts .high ∷ []
+abbrev pub fontMarks : Extents → List ℕ
+fontMarks e = e .fonts .low ∷ e .fonts .high ∷ []
 
 -- ---- what a call promises
 

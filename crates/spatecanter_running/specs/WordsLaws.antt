@@ -1,7 +1,7 @@
 -- What a word was made of can be read from it again.
---     signed-fits, word-back     a signed number
+--     signed-fits, word-back                  a signed number
 --     flag-back, machine-back, phase-back     a flag, a machine, a phase
---     leaves-words               what a call promises, from the words before and after it
+--     leaves-words                            what a call promises, from the words before and after it
 -- Assumes nothing.
 use mathlib.Core.Path.{_≡_, refl, ap, subst, _∙_}
 use mathlib.Core.Bool.{Bool, true, false, cond}
@@ -29,8 +29,8 @@ pub signed-fits : (w : ℕ) → SFits w32 (signedIn w)
 unfolding signedIn
 signed-fits w = omega (integers, dif-parts (pos (w % 4294967296)) (pos 2147483648))
 
-pub held : (w : ℕ) {z : ℤ} → z ≡ signedIn w → toZ w32 (ofZ w32 z) ≡ signedIn w
-held w e = ap (λ (z : ℤ). toZ w32 (ofZ w32 z)) e ∙ plain (signed-fits w)
+pub word-held : (w : ℕ) {z : ℤ} → z ≡ signedIn w → toZ w32 (ofZ w32 z) ≡ signedIn w
+word-held w e = ap (λ (z : ℤ). toZ w32 (ofZ w32 z)) e ∙ plain (signed-fits w)
 
 pub word-back : (z : ℤ) → SFits w32 z → signedIn (wordOf z) ≡ z
 unfolding signedIn wordOf

@@ -2,14 +2,15 @@
 pub mod words;
 
 use octets::answer;
+use words::TapeWords;
 ghost use mathlib.Core.Path.{_≡_};
 ghost use Rattle.octets.specs.Answer.{numbersOf, outcome};
 ghost use Rattle.running.specs.Running.{newTape, startOf, feedOf, closeOf};
-ghost use Rattle.spatecanter_running.specs.Words.{tapeIn, reachOf, marksOf, Holds, LeavesWords};
+ghost use Rattle.spatecanter_running.specs.Words.{tapeIn, reachOf, fontMarks, Holds, LeavesWords};
 
 // A running tape before any start.
 #[no_mangle]
-pub extern "C" fn sp_new_tape(tape: &mut [u64; 23])
+pub extern "C" fn sp_new_tape(tape: &mut TapeWords)
     ensures { λ _. ⌜ Holds (now (tape .exit)) newTape ⌝ }
 {
     let r = running::new_tape();
@@ -18,7 +19,7 @@ pub extern "C" fn sp_new_tape(tape: &mut [u64; 23])
 
 // Starts a running tape anew, on the machine with so many fonts, 4 or 8.
 #[no_mangle]
-pub extern "C" fn sp_start(tape: &mut [u64; 23], machine: u32, answer: &mut [usize; 3])
+pub extern "C" fn sp_start(tape: &mut TapeWords, machine: u32, answer: &mut [usize; 3])
     ensures { λ _. ⌜ (now (answer .exit) ≡ numbersOf (outcome (startOf (tapeIn (now (tape .entry))) machine .result))) × Holds (now (tape .exit)) (startOf (tapeIn (now (tape .entry))) machine .tape) ⌝ }
 {
     let f = running::started(words::tape_in(*tape), machine);
@@ -31,7 +32,7 @@ pub extern "C" fn sp_start(tape: &mut [u64; 23], machine: u32, answer: &mut [usi
 // A piece of the tape: its fields go into the lent buffer, without an End.
 #[no_mangle]
 pub extern "C" fn sp_feed(
-    tape: &mut [u64; 23],
+    tape: &mut TapeWords,
     piece: &[u8],
     out: &mut [u8],
     answer: &mut [usize; 3],
@@ -47,7 +48,7 @@ pub extern "C" fn sp_feed(
 
 // The end of the tape: End goes into the lent buffer.
 #[no_mangle]
-pub extern "C" fn sp_close(tape: &mut [u64; 23], out: &mut [u8], answer: &mut [usize; 3])
+pub extern "C" fn sp_close(tape: &mut TapeWords, out: &mut [u8], answer: &mut [usize; 3])
     ensures { λ _. ⌜ LeavesWords (now (answer .exit)) (now (tape .exit)) (closeOf (tapeIn (now (tape .entry)))) (now (out .entry)) (now (out .exit)) ⌝ }
 {
     let f = running::closed(words::tape_in(*tape), out);
@@ -59,8 +60,8 @@ pub extern "C" fn sp_close(tape: &mut [u64; 23], out: &mut [u8], answer: &mut [u
 
 // Farthest x and greatest height of the characters gone out since the start, and the marks of their fonts.
 #[no_mangle]
-pub extern "C" fn sp_extents(tape: &[u64; 23], reach: &mut [i32; 2], fonts: &mut [u64; 2])
-    ensures { λ _. ⌜ (now (reach .exit) ≡ reachOf (tapeIn (now (tape .entry)) .extents)) × (now (fonts .exit) ≡ marksOf (tapeIn (now (tape .entry)) .extents)) ⌝ }
+pub extern "C" fn sp_extents(tape: &TapeWords, reach: &mut [i32; 2], fonts: &mut [u64; 2])
+    ensures { λ _. ⌜ (now (reach .exit) ≡ reachOf (tapeIn (now (tape .entry)) .extents)) × (now (fonts .exit) ≡ fontMarks (tapeIn (now (tape .entry)) .extents)) ⌝ }
 {
     let e = words::extents_in(*tape);
     *reach = [e.x.0, e.height.0];

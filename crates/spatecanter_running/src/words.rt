@@ -12,6 +12,9 @@ ghost use mathlib.Core.Path.{_≡_};
 ghost use Prim.Native.Nat.{_%_};
 ghost use Rattle.spatecanter_running.specs.Words.{wordOf, signedIn, flagWord, machineWord, machineIn, phaseWord, numberWord, placeWord, phaseIn, stateIn, extentsIn, tapeIn, Holds};
 
+// A running tape's array.
+pub type TapeWords = [u64; 23];
+
 // A signed number as a word.
 fn word_of(z: i32) -> u64
     ensures { λ r. ⌜ (r ≡ wordOf z) × (signedIn r ≡ z) ⌝ }
@@ -115,7 +118,7 @@ fn phase_in(w: u64, n: u64, place: u64) -> Phase
 }
 
 // The words of a running tape, which hold it.
-pub fn words_of(r: Running) -> [u64; 23]
+pub fn words_of(r: Running) -> TapeWords
     ensures { λ w. ⌜ Holds w r ⌝ }
 {
     let phase = r.phase;
@@ -149,7 +152,7 @@ pub fn words_of(r: Running) -> [u64; 23]
 }
 
 // The machine's state that words hold.
-fn state_in(w: [u64; 23]) -> State
+fn state_in(w: TapeWords) -> State
     ensures { λ r. ⌜ r ≡ stateIn w ⌝ }
 {
     let machine = machine_in(w[3]);
@@ -177,7 +180,7 @@ fn state_in(w: [u64; 23]) -> State
 }
 
 // The extents that words hold.
-pub fn extents_in(w: [u64; 23]) -> Extents
+pub fn extents_in(w: TapeWords) -> Extents
     ensures { λ r. ⌜ r ≡ extentsIn w ⌝ }
 {
     let x = signed_in(w[19]);
@@ -193,7 +196,7 @@ pub fn extents_in(w: [u64; 23]) -> Extents
 }
 
 // The running tape that words hold.
-pub fn tape_in(w: [u64; 23]) -> Running
+pub fn tape_in(w: TapeWords) -> Running
     ensures { λ r. ⌜ r ≡ tapeIn w ⌝ }
 {
     let phase = phase_in(w[0], w[1], w[2]);

@@ -94,21 +94,21 @@ few-effect ws spacing s (Increment d) = few-x s (s .x .0 +ℤ d .0)
 few-effect ws spacing s (Adjust l) = few-still s (withAdjust s l) refl refl
 
 -- a step over at most k bytes
-abbrev pub Sound : ℕ → State → Step → Type 0
-Sound k s (refuse r) = Unit {0}
-Sound k s (goOn t ms n) = (n ≤ k) × Few s t ms
+abbrev pub SoundStep : ℕ → State → Step → Type 0
+SoundStep k s (refuse r) = Unit {0}
+SoundStep k s (goOn t ms n) = (n ≤ k) × Few s t ms
 
-effect-sound : (k n : ℕ) (s : State) (e : Effect) → n ≤ k → FewEffect s e → Sound k s (afterEffect n e)
+effect-sound : (k n : ℕ) (s : State) (e : Effect) → n ≤ k → FewEffect s e → SoundStep k s (afterEffect n e)
 unfolding afterEffect
 effect-sound k n s (fault r) h g = tt
 effect-sound k n s (moved t ms) h g = (h, g)
 
-code-sound : (ws : List ℤ) (spacing k : ℕ) (s : State) (d : Decoded) → Held k d → Sound k s (afterCode ws spacing s d)
+code-sound : (ws : List ℤ) (spacing k : ℕ) (s : State) (d : Decoded) → Held k d → SoundStep k s (afterCode ws spacing s d)
 unfolding afterCode
 code-sound ws spacing k s (Fault r) h = tt
 code-sound ws spacing k s (Whole c n) h = effect-sound k n s (effect ws spacing s c) h (few-effect ws spacing s c)
 
-pub step-sound : (ws : List ℤ) (spacing : ℕ) (s : State) (b : ℕ) (bs : List ℕ) → Sound (length bs) s (step ws spacing s b bs)
+pub step-sound : (ws : List ℤ) (spacing : ℕ) (s : State) (b : ℕ) (bs : List ℕ) → SoundStep (length bs) s (step ws spacing s b bs)
 unfolding step
 step-sound ws spacing s b bs = code-sound ws spacing (length bs) s (decode b bs) (decode-held b bs)
 

@@ -15,7 +15,7 @@ use Rattle.xgp_code.specs.CodeLaws.{InPart}
 use Rattle.xgp.specs.State.{start, withX, withBaseline, withAdjust, withFont, nextPage, afterChar, pageMarks, setMarks, yIn, widthIn, toX, toBaseline, setChar, effect}
 use Rattle.xgp.specs.File.{readXgp}
 use Rattle.xgp.specs.FileLaws.{due}
-use Rattle.xgp.specs.RunLaws.{Onward, run-all}
+use Rattle.xgp.specs.RunLaws.{HoldsFrom, run-all}
 use Rattle.xgp_code.specs.declared.Code.{Code}
 use Rattle.xgp_code.specs.declared.Code.the-variants.{Null, Char, LineFeed, FormFeed, Return, Font, Column, Increment, Adjust}
 use Rattle.xgp.specs.declared.state.State.{State}
@@ -46,13 +46,13 @@ paged-set s y c ks p = go (s .started)
     go true = paged-char p
     go false = let l : s .page + due false ≤ s .page = omega arith in paged-page l p
 
-paged-onward : (ws : List ℤ) (spacing : ℕ) (s : State) (c : Code) → InPart c → Onward ws spacing PagedFrom s (effect ws spacing s c)
+paged-onward : (ws : List ℤ) (spacing : ℕ) (s : State) (c : Code) → InPart c → HoldsFrom ws spacing PagedFrom s (effect ws spacing s c)
 unfolding effect toX toBaseline setChar withX withBaseline withAdjust withFont nextPage afterChar
 paged-onward ws spacing s Null h = λ ks p. p
 paged-onward ws spacing s (Char c) h =
-    by-cond (Onward ws spacing PagedFrom s) (fits32 (yIn s) && fits32 (s .x .0 +ℤ widthIn ws s c)) _ _ (λ _. λ ks p. paged-set s (yIn s) c ks p) (λ _. tt)
+    by-cond (HoldsFrom ws spacing PagedFrom s) (fits32 (yIn s) && fits32 (s .x .0 +ℤ widthIn ws s c)) _ _ (λ _. λ ks p. paged-set s (yIn s) c ks p) (λ _. tt)
 paged-onward ws spacing s LineFeed h =
-    by-cond (Onward ws spacing PagedFrom s) (fits32 (s .baseline .0 +ℤ pos spacing)) _ _ (λ _. λ ks p. p) (λ _. tt)
+    by-cond (HoldsFrom ws spacing PagedFrom s) (fits32 (s .baseline .0 +ℤ pos spacing)) _ _ (λ _. λ ks p. p) (λ _. tt)
 paged-onward ws spacing s FormFeed h = λ ks p. paged-later (s .page) (s .page + 1) (s .started) ks (due-one (s .started)) p
   where
     due-one : (t : Bool) → s .page + due t ≤ s .page + 1
@@ -62,7 +62,7 @@ paged-onward ws spacing s Return h = λ ks p. p
 paged-onward ws spacing s (Font f) h = λ ks p. p
 paged-onward ws spacing s (Column d) h = λ ks p. p
 paged-onward ws spacing s (Increment d) h =
-    by-cond (Onward ws spacing PagedFrom s) (fits32 (s .x .0 +ℤ d .0)) _ _ (λ _. λ ks p. p) (λ _. tt)
+    by-cond (HoldsFrom ws spacing PagedFrom s) (fits32 (s .x .0 +ℤ d .0)) _ _ (λ _. λ ks p. p) (λ _. tt)
 paged-onward ws spacing s (Adjust l) h = λ ks p. p
 
 pub paged : (ws : List ℤ) (spacing : ℕ) (file : List ℕ) (ms : List Mark) → readXgp ws spacing file ≡ shows ms → Paged 1 false ms

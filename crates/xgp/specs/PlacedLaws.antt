@@ -17,7 +17,7 @@ use Rattle.xgp_code.specs.Measure.{inDots, inLines}
 use Rattle.xgp_code.specs.CodeLaws.{InPart}
 use Rattle.xgp.specs.State.{start, withX, withBaseline, withAdjust, withFont, nextPage, afterChar, moved, pageMarks, setMarks, yIn, widthIn, toX, toBaseline, setChar, effect}
 use Rattle.xgp.specs.File.{readXgp}
-use Rattle.xgp.specs.RunLaws.{Onward, run-all}
+use Rattle.xgp.specs.RunLaws.{HoldsFrom, run-all}
 use Rattle.xgp_code.specs.declared.Code.{Code}
 use Rattle.xgp_code.specs.declared.Code.the-variants.{Null, Char, LineFeed, FormFeed, Return, Font, Column, Increment, Adjust}
 use Rattle.xgp_code.specs.declared.measure.Dots.{Dots}
@@ -69,28 +69,28 @@ unfolding fits32
 low-fits n h = rw (le-leb n 2147483647 (omega arith))
 
 module _ (ws : List ℤ) (spacing : ℕ) where
-  placed-x : (s : State) (z : ℤ) → Onward ws spacing PlacedFrom s (toX s z)
+  placed-x : (s : State) (z : ℤ) → HoldsFrom ws spacing PlacedFrom s (toX s z)
   unfolding toX withX
   placed-x s z =
-      by-cond (Onward ws spacing PlacedFrom s) (fits32 z) (moved (withX s (inDots z)) []) _
+      by-cond (HoldsFrom ws spacing PlacedFrom s) (fits32 z) (moved (withX s (inDots z)) []) _
       (λ e. λ ks p h. p (record { x-fits = e; of-four = h .of-four }))
       (λ _. tt)
 
-  placed-char : (s : State) (c : ℕ) (y z : ℤ) → c < 128 → Onward ws spacing PlacedFrom s (setChar s c y z)
+  placed-char : (s : State) (c : ℕ) (y z : ℤ) → c < 128 → HoldsFrom ws spacing PlacedFrom s (setChar s c y z)
   unfolding setChar afterChar
   placed-char s c y z l =
-      by-cond (Onward ws spacing PlacedFrom s) (fits32 y && fits32 z) (moved (afterChar s (inDots z)) (setMarks s y c)) _
+      by-cond (HoldsFrom ws spacing PlacedFrom s) (fits32 y && fits32 z) (moved (afterChar s (inDots z)) (setMarks s y c)) _
       (λ e. λ ks p h.
       let d = both (fits32 y) (fits32 z) e in
       placed-append (setMarks s y c) ks (placed-set s y c h (d .0) l) (p (record { x-fits = d .1; of-four = h .of-four })))
       (λ _. tt)
 
-  placed-onward : (s : State) (c : Code) → InPart c → Onward ws spacing PlacedFrom s (effect ws spacing s c)
+  placed-onward : (s : State) (c : Code) → InPart c → HoldsFrom ws spacing PlacedFrom s (effect ws spacing s c)
   unfolding effect toBaseline withX withBaseline withAdjust withFont nextPage
   placed-onward s Null l = λ ks p h. p h
   placed-onward s (Char c) l = placed-char s c (yIn s) (s .x .0 +ℤ widthIn ws s c) l
   placed-onward s LineFeed l =
-      by-cond (Onward ws spacing PlacedFrom s) (fits32 (s .baseline .0 +ℤ pos spacing)) (moved (withBaseline s (inLines (s .baseline .0 +ℤ pos spacing))) []) _
+      by-cond (HoldsFrom ws spacing PlacedFrom s) (fits32 (s .baseline .0 +ℤ pos spacing)) (moved (withBaseline s (inLines (s .baseline .0 +ℤ pos spacing))) []) _
       (λ _. λ ks p h. p (record { x-fits = h .x-fits; of-four = h .of-four }))
       (λ _. tt)
   placed-onward s FormFeed l = λ ks p h. p (record { x-fits = h .x-fits; of-four = h .of-four })

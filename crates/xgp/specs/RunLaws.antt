@@ -29,16 +29,16 @@ null-skipped ws spacing at s bs = showsFirst-nil (run ws spacing (suc at) s 0 bs
 
 module _ (ws : List ℤ) (spacing : ℕ) (P : State → List Mark → Type 0) where
   -- what holds of the marks after a code holds of those from it on
-  abbrev pub Onward : State → Effect → Type 0
-  Onward s (fault r) = Unit {0}
-  Onward s (moved t ns) = (ks : List Mark) → P t ks → P s (ns ++ ks)
+  abbrev pub HoldsFrom : State → Effect → Type 0
+  HoldsFrom s (fault r) = Unit {0}
+  HoldsFrom s (moved t ns) = (ks : List Mark) → P t ks → P s (ns ++ ks)
 
-  module _ (none : (s : State) → P s []) (onward : (s : State) (c : Code) → InPart c → Onward s (effect ws spacing s c)) where
+  module _ (none : (s : State) → P s []) (onward : (s : State) (c : Code) → InPart c → HoldsFrom s (effect ws spacing s c)) where
     abbrev Steps : State → Step → Type 0
     Steps s (refuse r) = Unit {0}
     Steps s (goOn t ns n) = (ks : List Mark) → P t ks → P s (ns ++ ks)
 
-    after-effect : (s : State) (n : ℕ) (e : Effect) → Onward s e → Steps s (afterEffect n e)
+    after-effect : (s : State) (n : ℕ) (e : Effect) → HoldsFrom s e → Steps s (afterEffect n e)
     unfolding afterEffect
     after-effect s n (fault r) h = tt
     after-effect s n (moved t ns) h = h

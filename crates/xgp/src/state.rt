@@ -14,14 +14,14 @@ ghost use Rattle.sheet.specs.Readable.{fontChars};
 ghost use Rattle.xgp.specs.State as S;
 ghost use Rattle.xgp.specs.Effect.{effectOf};
 
-// The font, the place to print at next, the baseline and its adjustment; the page's number, and whether its field was given.
+// The place to print at next, the baseline and its adjustment; the page's number, and whether its field was given; the font.
 pub struct State {
-    pub font: u8,
     pub x: Dots,
     pub baseline: Lines,
     pub adjust: Lines,
     pub page: u32,
     pub started: bool,
+    pub font: u8,
 }
 
 // A number leaves 32 bits; the state after the code; or the state after a character, with its y.
@@ -35,12 +35,12 @@ pub fn start(spacing: u16) -> State
     ensures { λ r. ⌜ r ≡ S.start spacing ⌝ }
 {
     State {
-        font: 0,
         x: Dots(0),
         baseline: Lines(spacing as i32),
         adjust: Lines(0),
         page: 1,
         started: false,
+        font: 0,
     }
 }
 

@@ -13,7 +13,7 @@ use Rattle.sheet.specs.ShownLaws.{showsFirst-nil, showsFirst-append}
 use Rattle.xgp_code.specs.Measure.{inDots}
 use Rattle.xgp.specs.State.{start, withX}
 use Rattle.xgp.specs.File.{refuse, goOn, run, readXgp}
-use Rattle.xgp.specs.FileLaws.{due, Few, Sound, step-sound, stepHere, run-next, run-refuse, run-end}
+use Rattle.xgp.specs.FileLaws.{due, Few, SoundStep, step-sound, stepHere, run-next, run-refuse, run-end}
 use Rattle.xgp.specs.declared.state.State.{State}
 use Rattle.xgp_step.specs.Stretch.{Ran}
 
@@ -34,7 +34,7 @@ standing-start ws spacing file s e =
 module _ {ws : List ℤ} {spacing : ℕ} {file : List ℕ} {s : State} {at : ℕ} {ms : List Mark} (b : Standing ws spacing file s at ms) where
   module _ (h : at < length file) where
     stepped : (t : State) (ns : List Mark) (n : ℕ) → stepHere ws spacing file at s ≡ goOn t ns n → (n ≤ length (drop (at + 1) file)) × Few s t ns
-    stepped t ns n e = subst (Sound (length (drop (at + 1) file)) s) e (step-sound ws spacing s (getD file at 0) (drop (at + 1) file))
+    stepped t ns n e = subst (SoundStep (length (drop (at + 1) file)) s) e (step-sound ws spacing s (getD file at 0) (drop (at + 1) file))
 
     -- one code further
     pub standing-next : (t : State) (ns : List Mark) (n : ℕ) → stepHere ws spacing file at s ≡ goOn t ns n → Standing ws spacing file t (at + 1 + n) (ms ++ ns)

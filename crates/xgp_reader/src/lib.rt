@@ -20,7 +20,7 @@ ghost use Rattle.xgp.specs.File.{readXgp};
 ghost use Rattle.xgp.specs.Sheet.{anyNegative, xgpResult};
 
 // The widths of four fonts.
-pub const FOUR_FONTS: usize = 512;
+pub const FOUR_FONTS: usize = 4 * sheet::FONT_CHARS;
 
 // Whether a width is less than 0.
 fn has_negative(widths: &[i32]) -> bool

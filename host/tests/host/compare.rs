@@ -292,7 +292,7 @@ impl Comparison {
 
     /// A tape fed in these pieces, on a machine of any number, each call with room of any kind and again with
     /// room enough where it was short; and what the whole tape gives at once.
-    pub fn session(&mut self, pieces: &[&[u8]], machine: u32) {
+    pub fn in_pieces(&mut self, pieces: &[&[u8]], machine: u32) {
         let mut running = Running::new(&self.implementation);
         if self.random.below(8) == 0 {
             self.disordered(&mut running);

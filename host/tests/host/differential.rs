@@ -33,7 +33,7 @@ fn compare(implementation: Implementation) {
     tapes(&mut comparison);
     codes(&mut comparison);
     other_machines(&mut comparison);
-    sessions(&mut comparison);
+    in_pieces(&mut comparison);
     galleys(&mut comparison);
     long_punches(&mut comparison);
     conversions(&mut comparison);
@@ -122,19 +122,19 @@ fn other_machines(comparison: &mut Comparison) {
 }
 
 /// Tapes cut into pieces anywhere, some of them empty; and one cut at each place.
-fn sessions(comparison: &mut Comparison) {
+fn in_pieces(comparison: &mut Comparison) {
     let mut random = Random::new(SEED + 6);
     for fonts in [4, 8] {
         for _ in 0..30_000 {
             let tape = cases::tape(&mut random, fonts);
             let machine = random.pick(&[fonts, fonts, fonts, 4, 8, 5]);
-            comparison.session(&cut(&tape, &mut random), machine);
+            comparison.in_pieces(&cut(&tape, &mut random), machine);
         }
         for _ in 0..20 {
             let tape = cases::valid_tape(&mut random, fonts);
             for place in 0..=tape.len() {
-                comparison.session(&[&tape[..place], &tape[place..]], fonts);
-                comparison.session(&[&tape[..place]], fonts);
+                comparison.in_pieces(&[&tape[..place], &tape[place..]], fonts);
+                comparison.in_pieces(&[&tape[..place]], fonts);
             }
         }
     }
@@ -182,7 +182,7 @@ fn any_words_are_answered() {
     assert!(refusals >= 20_000);
 }
 
-/// Sessions of tapes of all kinds and machines, each also in another order; reports that nobody counted, and
+/// Lists of tapes of all kinds and machines, each also in another order; reports that nobody counted, and
 /// full ones.
 fn reports(comparison: &mut Comparison) {
     let mut random = Random::new(SEED + 7);

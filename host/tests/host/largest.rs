@@ -40,7 +40,7 @@ fn on_a_small_stack(implementation: Implementation) {
     with_a_small_stack(move || {
         let mut comparison = Comparison::new(implementation, 432).with_exact_room();
         tapes(&mut comparison);
-        sessions(&mut comparison);
+        in_pieces(&mut comparison);
         galleys(&mut comparison);
         galleys_with_cuts(&mut comparison);
         long_columns(&mut comparison);
@@ -90,23 +90,23 @@ fn tapes(comparison: &mut Comparison) {
 }
 
 /// A tape to the limit in pieces of several lengths, and with one byte more; 1 comes before a fault of its piece.
-fn sessions(comparison: &mut Comparison) {
+fn in_pieces(comparison: &mut Comparison) {
     let tape = yearbook(Machine::Eight, 7, TAPE_LIMIT);
     for length in [TAPE_LIMIT, 65_536, 4_096, 511] {
         let mut pieces: Vec<&[u8]> = tape.chunks(length).collect();
-        comparison.session(&pieces, 8);
+        comparison.in_pieces(&pieces, 8);
         pieces.push(&[]);
-        comparison.session(&pieces, 8);
+        comparison.in_pieces(&pieces, 8);
         pieces.push(&[0]);
-        comparison.session(&pieces, 8);
+        comparison.in_pieces(&pieces, 8);
     }
-    comparison.session(&[&tape[..1], &tape], 8);
+    comparison.in_pieces(&[&tape[..1], &tape], 8);
     let flashes = [&[0x40, 0xEF, 0x52][..], &vec![0x2A; TAPE_LIMIT - 4], &[0x49]].concat();
-    comparison.session(&[&flashes], 4);
-    comparison.session(&[&flashes, &[0xFF]], 4);
-    comparison.session(&flashes.chunks(1_000).collect::<Vec<_>>(), 8);
+    comparison.in_pieces(&[&flashes], 4);
+    comparison.in_pieces(&[&flashes, &[0xFF]], 4);
+    comparison.in_pieces(&flashes.chunks(1_000).collect::<Vec<_>>(), 8);
     let cuts = [0x40, 0x4B].repeat(TAPE_LIMIT / 2);
-    comparison.session(&cuts.chunks(999).collect::<Vec<_>>(), 8);
+    comparison.in_pieces(&cuts.chunks(999).collect::<Vec<_>>(), 8);
 }
 
 /// The longest tapes of text, of flashes and of leads, and one byte more; then as many tapes as a report takes,

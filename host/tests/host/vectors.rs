@@ -30,28 +30,28 @@ fn every_case_gives_what_is_written() {
 /// Runs the cases of a file on each implementation and gives their number. A fault names its line.
 fn run(file: &str, text: &str, faults: &mut Vec<String>) -> usize {
     let mut cases = 0;
-    let mut session = Session::default();
+    let mut shared = Shared::default();
     for (index, line) in text.lines().enumerate() {
         let place = format!("{file}:{}", index + 1);
         match Case::read(line) {
-            Ok(None) if line.is_empty() => std::mem::take(&mut session).run(faults),
+            Ok(None) if line.is_empty() => std::mem::take(&mut shared).run(faults),
             Ok(None) => {}
             Ok(Some(case)) => {
                 cases += 1;
-                session.0.push((place, case));
+                shared.0.push((place, case));
             }
             Err(fault) => faults.push(format!("{place}: {fault}")),
         }
     }
-    session.run(faults);
+    shared.run(faults);
     cases
 }
 
 /// The cases between two empty lines, with their places: they share a running tape.
 #[derive(Default)]
-struct Session(Vec<(String, Case)>);
+struct Shared(Vec<(String, Case)>);
 
-impl Session {
+impl Shared {
     /// Runs the cases on each implementation. Where a case has no room, the buffer is just as long as needed, and
     /// then longer. A case is told once.
     fn run(self, faults: &mut Vec<String>) {

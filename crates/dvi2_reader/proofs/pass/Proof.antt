@@ -16,20 +16,11 @@ Inv-loop dvi first out₀ at₀ h₀ t₀ to₀ out at h t to = Going dvi out₀
 abbrev μ-loop : tie.MeasureT-loop
 μ-loop dvi first out₀ at₀ h₀ t₀ to₀ out at h t to = length dvi - at
 
-new-page-requires : tie.Need-new-page-requires Inv-loop μ-loop
-new-page-requires c κs = search needs
-
-none-requires : tie.Need-none-requires Inv-loop μ-loop
-none-requires c κs = search needs
-
 loop-holds : tie.Need-loop-holds Inv-loop μ-loop
 loop-holds c = going-start _ _ _ _ _ (c .before .before .before .before .pre .1) (c .before .new-page .ensures .1 _) (c .none .ensures)
 
 take-turn-requires : tie.Need-take-turn-requires Inv-loop μ-loop
 take-turn-requires c κs = ((c .loop-test .taken, c .before .before .before .before .before .before .pre .0), going-turning _ _ _ _ _ _ _ (c .before .loop .inv))
-
-enum-known-r : tie.Need-enum-known-r Inv-loop μ-loop
-enum-known-r c = search needs
 
 same-length : tie.Need-same-length Inv-loop μ-loop
 same-length c = c .before .before .before .before .before .loop .inv .puts .same-length
@@ -38,9 +29,6 @@ returns : tie.Need-returns Inv-loop μ-loop
 returns c =
     let g = c .before .before .before .before .before .loop .inv in
     subst (Turned _ _ _) (c .before .r .given .1) (c .before .before .before .take-turn .ensures (g .items) (g .tally) (g .standing))
-
-enum-told : tie.Need-enum-told Inv-loop μ-loop
-enum-told c = search needs
 
 put-end-requires : tie.Need-put-end-requires Inv-loop μ-loop
 put-end-requires c κs =
@@ -56,9 +44,6 @@ returns-2 c =
     let g = c .before .before .before .before .before .before .before .before .loop .inv in
     going-whole _ _ _ _ _ _ _ g (subst (Turned _ _ _) (c .before .before .before .before .enum-told .given .1) (c .before .before .before .before .before .before .take-turn .ensures (g .items) (g .tally) (g .standing))) _ _ (c .before .before .put-end .ensures)
 
-enum-known-r-2 : tie.Need-enum-known-r-2 Inv-loop μ-loop
-enum-known-r-2 c = search needs
-
 loop-less : tie.Need-loop-less Inv-loop μ-loop
 loop-less c =
     let g = c .before .before .before .before .before .loop .inv in
@@ -70,9 +55,6 @@ loop-again c =
     let g = c .before .before .before .before .before .loop .inv in
     let y = subst (Turned _ _ _) (c .before .r2 .given .1) (c .before .before .before .take-turn .ensures (g .items) (g .tally) (g .standing)) in
     going-on _ _ _ _ _ _ _ g _ _ (y .1)
-
-enum-known-r-3 : tie.Need-enum-known-r-3 Inv-loop μ-loop
-enum-known-r-3 c = search needs
 
 put-item-requires : tie.Need-put-item-requires Inv-loop μ-loop
 put-item-requires c κs = omega (arith, going-room _ _ _ _ _ _ _ (c .before .before .before .before .before .before .loop .inv))
@@ -107,27 +89,6 @@ returns-3 c = going-end _ _ _ _ _ _ _ (c .before .loop .inv) (c .loop-test .left
 pub pass-spec : {M : Type 1} → statement M
 pass-spec =
     tie.close
-    (tie.spec
-    Inv-loop
-    μ-loop
-    new-page-requires
-    none-requires
-    loop-holds
-    take-turn-requires
-    enum-known-r
-    same-length
-    returns
-    enum-told
-    put-end-requires
-    same-length-2
-    returns-2
-    enum-known-r-2
-    loop-less
-    loop-again
-    enum-known-r-3
-    put-item-requires
-    with-item-requires
-    loop-less-2
-    loop-again-2
-    same-length-3
-    returns-3)
+    (tie.spec Inv-loop μ-loop (λ c κs. search needs) (λ c κs. search needs) loop-holds take-turn-requires (λ c. search needs) same-length returns
+    (λ c. search needs) put-end-requires same-length-2 returns-2 (λ c. search needs) loop-less loop-again (λ c. search needs) put-item-requires
+    with-item-requires loop-less-2 loop-again-2 same-length-3 returns-3)

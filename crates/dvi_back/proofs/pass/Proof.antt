@@ -100,25 +100,16 @@ module _ (c : tie.After-item-of Inv-loop μ-loop) where
   next-fits : start here .args .writing ≡ true → Fits (length (start here .args .out .now)) made-next
   next-fits w = subst (Fits (length (start here .args .out .now))) made-is (standing-fits (showing told) (length (start here .args .out .now)) (start here .pre .1 w))
 
-targets-requires : tie.Need-targets-requires Inv-loop μ-loop
-targets-requires c κs = search needs
-
 loop-holds : tie.Need-loop-holds Inv-loop μ-loop
 unfolding makes
 loop-holds c =
     let a = c .before .before .before .args in
     ([], (standing-start placedAt (a .widths .now) (a .dvi .now) _ refl, tallied-start (a .writing) (a .out .now)))
 
-slice-aggregate-step : tie.Need-slice-aggregate-step Inv-loop μ-loop
-slice-aggregate-step c = search needs
-
 step-requires : tie.Need-step-requires Inv-loop μ-loop
 step-requires c κs =
     let i = c .before .before .loop .inv .1 .0 in
     (c .before .loop-test .taken, (omega (arith, i .within, c .before .before .before .before .before .before .pre .0), (i .whole, i .low)))
-
-enum-known-r : tie.Need-enum-known-r Inv-loop μ-loop
-enum-known-r c = search needs
 
 same-length : tie.Need-same-length Inv-loop μ-loop
 same-length c = tallied (c .before .before .before .before) .same
@@ -129,9 +120,6 @@ returns c =
     let k = c .before .before .before .before in
     let e = standing-refused (standing k) (k .before .before .loop-test .taken) _ (stepped k (c .before .r .given .1)) in
     passed-refused (ap shownGalley e) (start k .pre .1) (tallied-unwritten (tallied k))
-
-enum-known-r-2 : tie.Need-enum-known-r-2 Inv-loop μ-loop
-enum-known-r-2 c = search needs
 
 add-at : tie.Need-add-at Inv-loop μ-loop
 add-at c = record { fits = omega (arith, goes c .within, start (c .before .before .before .before) .pre .0) }
@@ -145,23 +133,11 @@ loop-less c = omega (arith, goes c .within, c .before .before .before .before .b
 loop-again : tie.Need-loop-again Inv-loop μ-loop
 loop-again c = let k = c .before .before .before .before in (_, (goes c, tallied-still (marks k) (place k) (tallied k)))
 
-enum-known-r-3 : tie.Need-enum-known-r-3 Inv-loop μ-loop
-enum-known-r-3 c = search needs
-
-next-page-requires : tie.Need-next-page-requires Inv-loop μ-loop
-next-page-requires c κs = search needs
-
-item-of-requires : tie.Need-item-of-requires Inv-loop μ-loop
-item-of-requires c κs = search needs
-
 show-item-requires : tie.Need-show-item-requires Inv-loop μ-loop
 show-item-requires c κs w =
     let i = c .before in
     let k = here i in
     omega (arith, more-room (length (start k .args .out .now)) (makes nothing (marks k)) (counts k) (place k) (i .item-of .result) (tallied k .counted) (next-fits i w), tallied k .same)
-
-with-item-requires : tie.Need-with-item-requires Inv-loop μ-loop
-with-item-requires c κs = search needs
 
 abbrev item : tie.After-with-item Inv-loop μ-loop → tie.After-item-of Inv-loop μ-loop
 item c = c .before .before .before .before .before
@@ -183,9 +159,6 @@ loop-again-2 c =
     let counted = c .with-item .ensures (makes nothing (marks k)) (tallied k .counted) in
     let t = tallied-more (tallied k) (length (start k .args .out .now)) (place k) (i .item-of .result) (s .ensures) (s .kept .0) (next-fits i) counted in
     (_, (showing (told i), tallied-named (sym (made-is i)) t))
-
-enum-told : tie.Need-enum-told Inv-loop μ-loop
-enum-told c = search needs
 
 finish-requires : tie.Need-finish-requires Inv-loop μ-loop
 finish-requires c κs w =
@@ -216,33 +189,7 @@ returns-3 c =
 pub pass-spec : {M : Type 1} → statement M
 pass-spec =
     tie.close
-    (tie.spec
-    Inv-loop
-    μ-loop
-    targets-requires
-    loop-holds
-    slice-aggregate-step
-    step-requires
-    enum-known-r
-    same-length
-    returns
-    enum-known-r-2
-    add-at
-    add-at-2
-    loop-less
-    loop-again
-    enum-known-r-3
-    next-page-requires
-    item-of-requires
-    show-item-requires
-    with-item-requires
-    add-at-3
-    add-at-4
-    loop-less-2
-    loop-again-2
-    enum-told
-    finish-requires
-    same-length-2
-    returns-2
-    same-length-3
+    (tie.spec Inv-loop μ-loop (λ c κs. search needs) loop-holds (λ c. search needs) step-requires (λ c. search needs) same-length returns
+    (λ c. search needs) add-at add-at-2 loop-less loop-again (λ c. search needs) (λ c κs. search needs) (λ c κs. search needs) show-item-requires
+    (λ c κs. search needs) add-at-3 add-at-4 loop-less-2 loop-again-2 (λ c. search needs) finish-requires same-length-2 returns-2 same-length-3
     returns-3)

@@ -74,9 +74,6 @@ module _ (c : tie.After-between-pages Inv-loop μ-loop) where
   stepped : {b : Stepped} → c .between-pages .result ≡ b → stepHere (start loop .args .widths .now) (file loop) (place loop) (between (last loop)) ≡ stepOf b []
   stepped e = sym (c .between-pages .ensures (start loop .args .widths .now) []) ∙ ap (λ (b : Stepped). stepOf b []) e
 
-enum-known-b : tie.Need-enum-known-b Inv-loop μ-loop
-enum-known-b c = search needs
-
 same-length : tie.Need-same-length Inv-loop μ-loop
 same-length c = paged (c .before .before .before .before .before) .filled .same
 
@@ -85,9 +82,6 @@ returns c =
     let k = c .before .before .before in
     let l = loop k in
     filled-refused (paged l .filled) (paged-refused _ _ _ _ (paged l) (more k) (stepped k (c .before .b .given .1))) (start l .pre .1)
-
-enum-told : tie.Need-enum-told Inv-loop μ-loop
-enum-told c = search needs
 
 same-length-2 : tie.Need-same-length-2 Inv-loop μ-loop
 same-length-2 c = paged (c .before .before .before .before) .filled .same
@@ -98,9 +92,6 @@ returns-2 c =
     let l = loop k in
     let z : _≡_ {A = ℕ} 0 1 = bop-shows (start l .args .widths .now) (file l) (place l) (last l) (more k) (stepped k (c .enum-told .given .1)) in
     absurd (omega (arith, z))
-
-enum-known-b-2 : tie.Need-enum-known-b-2 Inv-loop μ-loop
-enum-known-b-2 c = search needs
 
 -- BOP
 module _ (c : tie.After-known-told2 Inv-loop μ-loop) where
@@ -151,9 +142,6 @@ module _ (c : tie.After-read-page Inv-loop μ-loop) where
   done : {r : PageEnd} → c .read-page .result ≡ r → Done r
   done e = subst Done e (c .read-page .ensures)
 
-enum-known-e : tie.Need-enum-known-e Inv-loop μ-loop
-enum-known-e c = search needs
-
 same-length-3 : tie.Need-same-length-3 Inv-loop μ-loop
 same-length-3 c = let r = c .before .before .before .before .before in r .read-page .kept .1 .1 .0 ∙ paged (top r) .filled .same
 
@@ -165,9 +153,6 @@ returns-3 c =
     let d = done r (c .before .e .given .1) in
     let f = page-refused _ _ _ _ (paged l) (more (back (bop r))) (begins (bop r)) (d .0) in
     passed-refused (ap shownResult f) (start l .pre .1) (λ e. d .1 e ∙ put-still e (paged l .filled .put))
-
-enum-known-e-2 : tie.Need-enum-known-e-2 Inv-loop μ-loop
-enum-known-e-2 c = search needs
 
 cast-last : tie.Need-cast-last Inv-loop μ-loop
 cast-last c = let r = c .before .before .before .before .before in record { sfits = omega (arith, inside (bop r), start (top r) .pre .0) }
@@ -183,9 +168,6 @@ loop-again c =
     let last-is = toZ-pos w32 (place l) (omega (arith, inside (bop r), start l .pre .0)) in
     let p = paged-next _ _ _ _ (paged l) (more (back (bop r))) (begins (bop r)) (done r (c .before .e2 .given .1)) (r .read-page .kept .1 .1 .0) in
     (shown r, subst (λ (z : ℤ). After l z (g .0) (shown r) (latest r) (g .1 .0) (g .1 .1 .0)) (sym last-is) p)
-
-enum-told-2 : tie.Need-enum-told-2 Inv-loop μ-loop
-enum-told-2 c = search needs
 
 show-end-requires : tie.Need-show-end-requires Inv-loop μ-loop
 show-end-requires c κs w =
@@ -217,30 +199,6 @@ returns-5 c =
 pub pass-spec : {M : Type 1} → statement M
 pass-spec =
     tie.close
-    (tie.spec
-    Inv-loop
-    μ-loop
-    loop-holds
-    between-pages-requires
-    enum-known-b
-    same-length
-    returns
-    enum-told
-    same-length-2
-    returns-2
-    enum-known-b-2
-    read-page-requires
-    enum-known-e
-    same-length-3
-    returns-3
-    enum-known-e-2
-    cast-last
-    loop-less
-    loop-again
-    enum-told-2
-    show-end-requires
-    add-t25
-    same-length-4
-    returns-4
-    same-length-5
-    returns-5)
+    (tie.spec Inv-loop μ-loop loop-holds between-pages-requires (λ c. search needs) same-length returns (λ c. search needs) same-length-2 returns-2
+    (λ c. search needs) read-page-requires (λ c. search needs) same-length-3 returns-3 (λ c. search needs) cast-last loop-less loop-again
+    (λ c. search needs) show-end-requires add-t25 same-length-4 returns-4 same-length-5 returns-5)

@@ -92,16 +92,10 @@ loop-holds c =
     let a = c .before .before .args in
     ([], (standing-start marksAlone (a .widths .now) (a .dvi .now) _ refl, filled-start (a .writing) (a .out .now)))
 
-slice-aggregate-step : tie.Need-slice-aggregate-step Inv-loop μ-loop
-slice-aggregate-step c = search needs
-
 step-requires : tie.Need-step-requires Inv-loop μ-loop
 step-requires c κs =
     let i = c .before .before .loop .inv .1 .0 in
     (c .before .loop-test .taken, (omega (arith, i .within, c .before .before .before .before .before .pre .0), (i .whole, i .low)))
-
-enum-known-r : tie.Need-enum-known-r Inv-loop μ-loop
-enum-known-r c = search needs
 
 same-length : tie.Need-same-length Inv-loop μ-loop
 same-length c = filled (c .before .before .before .before) .same
@@ -111,9 +105,6 @@ returns c =
     let k = c .before .before .before .before in
     let g = c .before .r .given in
     filled-refused (filled k) (standing-refused (standing k) (k .before .before .loop-test .taken) (g .0 .0) (stepped k (g .1))) (start k .pre .1)
-
-enum-known-r-2 : tie.Need-enum-known-r-2 Inv-loop μ-loop
-enum-known-r-2 c = search needs
 
 add-at : tie.Need-add-at Inv-loop μ-loop
 add-at c = record { fits = omega (arith, goes c .within, start (c .before .before .before .before) .pre .0) }
@@ -126,9 +117,6 @@ loop-less c = omega (arith, goes c .within, c .before .before .before .before .b
 
 loop-again : tie.Need-loop-again Inv-loop μ-loop
 loop-again c = (_, (goes c, filled-still (filled (c .before .before .before .before)) _ (omega arith)))
-
-enum-known-r-3 : tie.Need-enum-known-r-3 Inv-loop μ-loop
-enum-known-r-3 c = search needs
 
 show-mark-requires : tie.Need-show-mark-requires Inv-loop μ-loop
 show-mark-requires c κs =
@@ -162,9 +150,6 @@ loop-again-2 c =
     let p = c .before .before .show-mark in
     (_, (showing t, filled-mark (filled (t .before .before .before .before)) _ (markOf (t .before .r3 .given .0 .1 .0)) (omega arith) (p .ensures) (p .kept .0)))
 
-enum-told : tie.Need-enum-told Inv-loop μ-loop
-enum-told c = search needs
-
 show-end-requires : tie.Need-show-end-requires Inv-loop μ-loop
 show-end-requires c κs w =
     let k = c .before .before .before .before in
@@ -195,31 +180,6 @@ returns-3 c =
 pub pass-spec : {M : Type 1} → statement M
 pass-spec =
     tie.close
-    (tie.spec
-    Inv-loop
-    μ-loop
-    loop-holds
-    slice-aggregate-step
-    step-requires
-    enum-known-r
-    same-length
-    returns
-    enum-known-r-2
-    add-at
-    add-at-2
-    loop-less
-    loop-again
-    enum-known-r-3
-    show-mark-requires
-    add-count
-    add-at-3
-    add-at-4
-    loop-less-2
-    loop-again-2
-    enum-told
-    show-end-requires
-    add-t29
-    same-length-2
-    returns-2
-    same-length-3
-    returns-3)
+    (tie.spec Inv-loop μ-loop loop-holds (λ c. search needs) step-requires (λ c. search needs) same-length returns (λ c. search needs) add-at add-at-2
+    loop-less loop-again (λ c. search needs) show-mark-requires add-count add-at-3 add-at-4 loop-less-2 loop-again-2 (λ c. search needs)
+    show-end-requires add-t29 same-length-2 returns-2 same-length-3 returns-3)

@@ -16,13 +16,13 @@ use Rattle.tape_quick.proofs.Turns.{turn-low, turn-taken}
 use Rattle.tape_stretch.proofs.Stretches.{still-derived}
 use Rattle.figures.specs.declared.RunEnd.{RunEnd}
 use Rattle.figures.specs.Figures.{sum64}
-use Rattle.figures.specs.Counting.{Onward, here, stretched, turned, leads}
+use Rattle.figures.specs.Counting.{CountsOn, here, stretched, turned, leads}
 use Rattle.figures.proofs.Onwards.{strides-onward, onward-sound, onward-length}
 use Rattle.figures.proofs.quick_tally.Statement.{statement}
 use Rattle.figures.proofs.quick_tally.Tie as tie
 
 abbrev Inv-loop : tie.InvT-loop
-Inv-loop tape from ahead back fonts₀ s₀ d₀ forward₀ backward₀ i₀ fonts s d forward backward i = Onward tape fonts₀ s₀ ahead back from fonts s forward backward i × DerivedFrom s d
+Inv-loop tape from ahead back fonts₀ s₀ d₀ forward₀ backward₀ i₀ fonts s d forward backward i = CountsOn tape fonts₀ s₀ ahead back from fonts s forward backward i × DerivedFrom s d
 
 abbrev μ-loop : tie.MeasureT-loop
 μ-loop tape from ahead back fonts₀ s₀ d₀ forward₀ backward₀ i₀ fonts s d forward backward i = length tape - i
@@ -41,7 +41,7 @@ module _ (c : tie.After-slice-known2 Inv-loop μ-loop) where
   abbrev fonts : List ℕ
   fonts = c .before .before .add-at .last .0
 
-  onward : let a = start .args in let l = c .before .before .before .before .before .before .before .before .loop in Onward (a .tape .now) (a .fonts .now) (a .first) (a .ahead) (a .back) (a .from) fonts now (l .forward) (l .backward) i
+  onward : let a = start .args in let l = c .before .before .before .before .before .before .before .before .loop in CountsOn (a .tape .now) (a .fonts .now) (a .first) (a .ahead) (a .back) (a .from) fonts now (l .forward) (l .backward) i
   onward =
       let l = c .before .before .before .before .before .before .before .before .loop in
       stretched (l .inv .0) (c .before .before .before .before .before .before .count-stretch .ensures) (omega (arith, l .inv .1 .numbered, onward-length (l .inv .0), start .pre .1)) (c .before .before .add-at .ensures)
@@ -58,14 +58,11 @@ module _ (c : tie.After-slice-known2 Inv-loop μ-loop) where
 
 -- what is kept, said of the answer
 run-ends : (s : tie.Start Inv-loop μ-loop) {t : State} {f b j : ℕ} {later : List ℕ} {h : RunEnd} → h ≡ record { next = j; state = t; forward = f; backward = b }
-    → let a = s .args in Onward (a .tape .now) (a .fonts .now) (a .first) (a .ahead) (a .back) (a .from) later t f b j
-    → Onward (a .tape .now) (a .fonts .now) (a .first) (a .ahead) (a .back) (a .from) later (h .state) (h .forward) (h .backward) (h .next)
+    → let a = s .args in CountsOn (a .tape .now) (a .fonts .now) (a .first) (a .ahead) (a .back) (a .from) later t f b j
+    → CountsOn (a .tape .now) (a .fonts .now) (a .first) (a .ahead) (a .back) (a .from) later (h .state) (h .forward) (h .backward) (h .next)
 run-ends s {later = later} e f =
     let a = s .args in
-    subst (λ (h : RunEnd). Onward (a .tape .now) (a .fonts .now) (a .first) (a .ahead) (a .back) (a .from) later (h .state) (h .forward) (h .backward) (h .next)) (sym e) f
-
-derived-of-requires : tie.Need-derived-of-requires Inv-loop μ-loop
-derived-of-requires c κs = search needs
+    subst (λ (h : RunEnd). CountsOn (a .tape .now) (a .fonts .now) (a .first) (a .ahead) (a .back) (a .from) later (h .state) (h .forward) (h .backward) (h .next)) (sym e) f
 
 loop-holds : tie.Need-loop-holds Inv-loop μ-loop
 loop-holds c = (here, c .derived-of .ensures)
@@ -73,26 +70,8 @@ loop-holds c = (here, c .derived-of .ensures)
 count-stretch-requires : tie.Need-count-stretch-requires Inv-loop μ-loop
 count-stretch-requires c κs = let l = c .before .loop in ((onward-sound (l .inv .0) (c .before .before .before .before .before .pre .0), l .inv .1), omega arith)
 
-cast-add-at : tie.Need-cast-add-at Inv-loop μ-loop
-cast-add-at c = search needs
-
 add-at-requires : tie.Need-add-at-requires Inv-loop μ-loop
 add-at-requires c κs = let l = c .before .before .before .before .before .loop in omega (arith, l .inv .1 .numbered, onward-length (l .inv .0), c .before .before .before .before .before .before .before .before .before .pre .1)
-
-shared-slice-read-b : tie.Need-shared-slice-read-b Inv-loop μ-loop
-shared-slice-read-b c = search needs
-
-takes-turn-requires : tie.Need-takes-turn-requires Inv-loop μ-loop
-takes-turn-requires c κs = search needs
-
-modes-after-requires : tie.Need-modes-after-requires Inv-loop μ-loop
-modes-after-requires c κs = search needs
-
-size-after-requires : tie.Need-size-after-requires Inv-loop μ-loop
-size-after-requires c κs = search needs
-
-derived-of-requires-2 : tie.Need-derived-of-requires-2 Inv-loop μ-loop
-derived-of-requires-2 c κs = search needs
 
 add-i : tie.Need-add-i Inv-loop μ-loop
 add-i c = next-i (c .before .before .before .before .before .before .before) (c .before .before .before .before .before .before .if1 .taken)
@@ -111,24 +90,6 @@ loop-again c =
       c .derived-of2 .ensures,
     )
 
-height-after-requires : tie.Need-height-after-requires Inv-loop μ-loop
-height-after-requires c κs = search needs
-
-enum-known-h : tie.Need-enum-known-h Inv-loop μ-loop
-enum-known-h c = search needs
-
-forward-by-requires : tie.Need-forward-by-requires Inv-loop μ-loop
-forward-by-requires c κs = search needs
-
-wrapping-add-u64-requires : tie.Need-wrapping-add-u64-requires Inv-loop μ-loop
-wrapping-add-u64-requires c κs = search needs
-
-backward-by-requires : tie.Need-backward-by-requires Inv-loop μ-loop
-backward-by-requires c κs = search needs
-
-wrapping-add-u64-requires-2 : tie.Need-wrapping-add-u64-requires-2 Inv-loop μ-loop
-wrapping-add-u64-requires-2 c κs = search needs
-
 add-i-2 : tie.Need-add-i-2 Inv-loop μ-loop
 add-i-2 c = next-i (c .before .before .before .before .before .before .before .before .before .before .before .before) (c .before .before .before .before .before .before .before .before .before .before .before .if1 .taken)
 
@@ -144,12 +105,6 @@ loop-again-2 c =
     let b = c .wrapping-add-u642 .ensures ∙ ap (sum64 _) (c .before .backward-by .ensures) in
     (leads (onward t) (c .before .before .before .before .before .before .before .before .before .before .before .if1 .taken) e f b, still-derived (now t) (now t .carriage) (k .0 .0) (derived t))
 
-enum-told : tie.Need-enum-told Inv-loop μ-loop
-enum-told c = search needs
-
-run-end-requires : tie.Need-run-end-requires Inv-loop μ-loop
-run-end-requires c κs = search needs
-
 same-length : tie.Need-same-length Inv-loop μ-loop
 same-length c = onward-length (onward (c .before .before .before .before .before .before .before .before))
 
@@ -162,9 +117,6 @@ loop-less-3 c = omega (arith, c .if1 .left, c .before .before .before .before .b
 loop-again-3 : tie.Need-loop-again-3 Inv-loop μ-loop
 loop-again-3 c = (onward (c .before), derived (c .before))
 
-run-end-requires-2 : tie.Need-run-end-requires-2 Inv-loop μ-loop
-run-end-requires-2 c κs = search needs
-
 same-length-2 : tie.Need-same-length-2 Inv-loop μ-loop
 same-length-2 c = onward-length (c .before .before .loop .inv .0)
 
@@ -174,37 +126,7 @@ returns-2 c = run-ends (c .before .before .before .before .before .before) (c .r
 pub quick-tally-spec : {M : Type 1} → statement M
 quick-tally-spec =
     tie.close
-    (tie.spec
-    Inv-loop
-    μ-loop
-    derived-of-requires
-    loop-holds
-    count-stretch-requires
-    cast-add-at
-    add-at-requires
-    shared-slice-read-b
-    takes-turn-requires
-    modes-after-requires
-    size-after-requires
-    derived-of-requires-2
-    add-i
-    loop-less
-    loop-again
-    height-after-requires
-    enum-known-h
-    forward-by-requires
-    wrapping-add-u64-requires
-    backward-by-requires
-    wrapping-add-u64-requires-2
-    add-i-2
-    loop-less-2
-    loop-again-2
-    enum-told
-    run-end-requires
-    same-length
-    returns
-    loop-less-3
-    loop-again-3
-    run-end-requires-2
-    same-length-2
-    returns-2)
+    (tie.spec Inv-loop μ-loop (λ c κs. search needs) loop-holds count-stretch-requires (λ c. search needs) add-at-requires (λ c. search needs)
+    (λ c κs. search needs) (λ c κs. search needs) (λ c κs. search needs) (λ c κs. search needs) add-i loop-less loop-again (λ c κs. search needs)
+    (λ c. search needs) (λ c κs. search needs) (λ c κs. search needs) (λ c κs. search needs) (λ c κs. search needs) add-i-2 loop-less-2 loop-again-2
+    (λ c. search needs) (λ c κs. search needs) same-length returns loop-less-3 loop-again-3 (λ c κs. search needs) same-length-2 returns-2)

@@ -87,26 +87,8 @@ loop-holds c = let s = c .before .before in
 quick-tally-requires : tie.Need-quick-tally-requires Inv-loop μ-loop
 quick-tally-requires c κs = let l = c .before .before .loop in (l .inv .0 .sound, l .inv .1)
 
-shared-slice-read-b : tie.Need-shared-slice-read-b Inv-loop μ-loop
-shared-slice-read-b c = search needs
-
 step-requires : tie.Need-step-requires Inv-loop μ-loop
 step-requires c κs = counting (c .before .before) .sound
-
-enum-known-next : tie.Need-enum-known-next Inv-loop μ-loop
-enum-known-next c = search needs
-
-forward-by-requires : tie.Need-forward-by-requires Inv-loop μ-loop
-forward-by-requires c κs = search needs
-
-wrapping-add-u64-requires : tie.Need-wrapping-add-u64-requires Inv-loop μ-loop
-wrapping-add-u64-requires c κs = search needs
-
-backward-by-requires : tie.Need-backward-by-requires Inv-loop μ-loop
-backward-by-requires c κs = search needs
-
-wrapping-add-u64-requires-2 : tie.Need-wrapping-add-u64-requires-2 Inv-loop μ-loop
-wrapping-add-u64-requires-2 c κs = search needs
 
 add-i : tie.Need-add-i Inv-loop μ-loop
 add-i c = next-i (c .before .before .before .before .before .before .before .before .before .before) (c .before .before .before .before .before .before .before .before .before .if1 .taken)
@@ -125,12 +107,6 @@ loop-again c =
       counting-lead (a .first) (a .tape .now) (now t) (countIn (fonts t)) (forward t) (backward t) (i t) (counting t) (c .before .before .before .before .before .before .before .before .before .if1 .taken) (short t) (k .0 .0) e _ _ f b,
       size t,
     )
-
-enum-known-c : tie.Need-enum-known-c Inv-loop μ-loop
-enum-known-c c = search needs
-
-cast-add-at : tie.Need-cast-add-at Inv-loop μ-loop
-cast-add-at c = search needs
 
 add-at-requires : tie.Need-add-at-requires Inv-loop μ-loop
 add-at-requires c κs = let t = c .before .before .before .before .before .before .before .before in font-in t (stepped (now t) (code t) (c .before .before .before .before .before .step .ensures) (c .before .before .before .c .given .1))
@@ -151,9 +127,6 @@ loop-again-2 c = let t = c .before .before .before .before .before .before .befo
       p .kept .0 ∙ size t,
     )
 
-enum-known-next-2 : tie.Need-enum-known-next-2 Inv-loop μ-loop
-enum-known-next-2 c = search needs
-
 add-i-3 : tie.Need-add-i-3 Inv-loop μ-loop
 add-i-3 c = next-i (c .before .before .before .before .before .before) (c .before .before .before .before .before .if1 .taken)
 
@@ -167,12 +140,6 @@ loop-again-3 c = let t = c .before .before .before .before .before .before in
       counting-page-ended (a .first) (a .tape .now) (now t) (fonts t) (forward t) (backward t) (i t) (counting t) (c .before .before .before .before .before .if1 .taken) (short t) (k .0 .0) (stepped (now t) (code t) (c .before .before .before .step .ensures) (k .1)),
       size t,
     )
-
-enum-known-n : tie.Need-enum-known-n Inv-loop μ-loop
-enum-known-n c = search needs
-
-found-requires : tie.Need-found-requires Inv-loop μ-loop
-found-requires c κs = search needs
 
 same-length : tie.Need-same-length Inv-loop μ-loop
 same-length c = let t = c .before .before .before .before .before .before .before in size t ∙ sym (ap length (start t .pre .1))
@@ -190,9 +157,6 @@ loop-less-4 c = omega (arith, c .if1 .left, c .before .before .before .before .b
 loop-again-4 : tie.Need-loop-again-4 Inv-loop μ-loop
 loop-again-4 c = (counting (c .before), size (c .before))
 
-ended-requires : tie.Need-ended-requires Inv-loop μ-loop
-ended-requires c κs = search needs
-
 same-length-2 : tie.Need-same-length-2 Inv-loop μ-loop
 same-length-2 c = let l = c .before .before .loop in l .inv .1 ∙ sym (ap length (c .before .before .before .before .before .pre .1))
 
@@ -205,37 +169,7 @@ returns-2 c = let l = c .before .before .loop in
 pub tally-from-spec : {M : Type 1} → statement M
 tally-from-spec =
     tie.close
-    (tie.spec
-    Inv-loop
-    μ-loop
-    loop-holds
-    quick-tally-requires
-    shared-slice-read-b
-    step-requires
-    enum-known-next
-    forward-by-requires
-    wrapping-add-u64-requires
-    backward-by-requires
-    wrapping-add-u64-requires-2
-    add-i
-    loop-less
-    loop-again
-    enum-known-c
-    cast-add-at
-    add-at-requires
-    add-i-2
-    loop-less-2
-    loop-again-2
-    enum-known-next-2
-    add-i-3
-    loop-less-3
-    loop-again-3
-    enum-known-n
-    found-requires
-    same-length
-    returns
-    loop-less-4
-    loop-again-4
-    ended-requires
-    same-length-2
-    returns-2)
+    (tie.spec Inv-loop μ-loop loop-holds quick-tally-requires (λ c. search needs) step-requires (λ c. search needs) (λ c κs. search needs)
+    (λ c κs. search needs) (λ c κs. search needs) (λ c κs. search needs) add-i loop-less loop-again (λ c. search needs) (λ c. search needs)
+    add-at-requires add-i-2 loop-less-2 loop-again-2 (λ c. search needs) add-i-3 loop-less-3 loop-again-3 (λ c. search needs) (λ c κs. search needs)
+    same-length returns loop-less-4 loop-again-4 (λ c κs. search needs) same-length-2 returns-2)

@@ -42,12 +42,6 @@ add-loop c =
 item-at-requires : tie.Need-item-at-requires Inv-loop μ-loop
 item-at-requires c κs = let l = c .before .loop .inv in midway-whole New _ _ (l .done) _ (l .midway) (c .loop-test .taken)
 
-write-item-requires : tie.Need-write-item-requires Inv-loop μ-loop
-write-item-requires c κs = search needs
-
-item-size-requires : tie.Need-item-size-requires Inv-loop μ-loop
-item-size-requires c κs = search needs
-
 -- the next place is in the galley
 inside : (c : tie.After-item-size Inv-loop μ-loop) → c .before .before .before .before .loop .at + c .item-size .result + 7 ≤ length (c .before .before .before .before .before .before .args .g .now)
 inside c =
@@ -64,10 +58,8 @@ loop-again c =
     let o = onward _ _ (c .before .before .before .before .loop .inv) (c .before .before .before .loop-test .taken) _ (c .before .before .item-at .ensures) in
     rw (c .item-size .ensures) (record { done = _; midway = o .next })
 
-returns : tie.Need-returns Inv-loop μ-loop
-returns c = search needs
-
 pub write-items-spec : {M : Type 1} → statement M
 write-items-spec =
     tie.close
-    (tie.spec Inv-loop μ-loop loop-holds add-loop item-at-requires write-item-requires item-size-requires add-at loop-less loop-again returns)
+    (tie.spec Inv-loop μ-loop loop-holds add-loop item-at-requires (λ c κs. search needs) (λ c κs. search needs) add-at loop-less loop-again
+    (λ c. search needs))

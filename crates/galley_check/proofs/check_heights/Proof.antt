@@ -28,17 +28,11 @@ add-loop c = omega (arith, lower-inside _ _ (c .loop .inv), checked New _ _ (c .
 item-at-requires : tie.Need-item-at-requires Inv-loop μ-loop
 item-at-requires c κs = lower-whole _ _ (c .before .loop .inv) (c .loop-test .taken)
 
-is-low-requires : tie.Need-is-low-requires Inv-loop μ-loop
-is-low-requires c κs = search needs
-
 returns : tie.Need-returns Inv-loop μ-loop
 returns c =
     let l = c .before .before .before .before in
     lower-high _ _ (l .loop .inv) (c .before .before .before .loop-test .taken) _ (c .before .before .item-at .ensures) _ (l .before .before .pre)
     (sym (c .before .is-low .ensures) ∙ not-true _ (c .if1 .taken))
-
-item-size-requires : tie.Need-item-size-requires Inv-loop μ-loop
-item-size-requires c κs = search needs
 
 -- the next place is in the galley
 inside : (c : tie.After-item-size Inv-loop μ-loop) → c .before .before .before .before .before .loop .at + c .item-size .result + 7 ≤ length (c .before .before .before .before .before .before .before .args .g .now)
@@ -64,5 +58,5 @@ returns-2 c = lower-end _ _ (c .before .loop .inv) _ (c .before .before .before 
 pub check-heights-spec : {M : Type 1} → statement M
 check-heights-spec =
     tie.close
-    (tie.spec Inv-loop μ-loop loop-holds add-loop item-at-requires is-low-requires returns item-size-requires add-at loop-less loop-again
+    (tie.spec Inv-loop μ-loop loop-holds add-loop item-at-requires (λ c κs. search needs) returns (λ c κs. search needs) add-at loop-less loop-again
     returns-2)

@@ -32,9 +32,6 @@ add-loop c = omega (arith, inside (c .loop .inv))
 item-at-requires : tie.Need-item-at-requires Inv-loop μ-loop
 item-at-requires c κs = passing-whole _ _ _ _ (c .before .loop .inv) (c .loop-test .taken)
 
-enum-told : tie.Need-enum-told Inv-loop μ-loop
-enum-told c = search needs
-
 add-at : tie.Need-add-at Inv-loop μ-loop
 add-at c = omega (arith, inside (c .before .before .before .before .loop .inv))
 
@@ -44,9 +41,6 @@ loop-less c = omega (arith, c .before .before .before .loop-test .taken)
 loop-again : tie.Need-loop-again Inv-loop μ-loop
 loop-again c =
     passing-next _ _ _ _ (c .before .before .before .before .loop .inv) (c .before .before .before .loop-test .taken) Cut (sym (c .before .before .item-at .ensures) ∙ c .enum-told .given .1) _ (omega arith)
-
-enum-known-c : tie.Need-enum-known-c Inv-loop μ-loop
-enum-known-c c = search needs
 
 returns : tie.Need-returns Inv-loop μ-loop
 returns c =
@@ -71,5 +65,5 @@ returns-2 c = passing-none _ _ _ _ (c .before .loop .inv) (c .loop-test .left)
 pub find-character-spec : {M : Type 1} → statement M
 find-character-spec =
     tie.close
-    (tie.spec Inv-loop μ-loop loop-holds add-loop item-at-requires enum-told add-at loop-less loop-again enum-known-c returns sub-left
+    (tie.spec Inv-loop μ-loop loop-holds add-loop item-at-requires (λ c. search needs) add-at loop-less loop-again (λ c. search needs) returns sub-left
     add-at-2 loop-less-2 loop-again-2 returns-2)

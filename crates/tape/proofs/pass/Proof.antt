@@ -107,14 +107,8 @@ quick-run-requires c κs =
     let a = c .before .before .before .before .before .args in
     (l .inv .sound, omega (arith, going-bound (a .first) (a .at) (a .tape .now) (a .out .now) (a .writing) (l .out) (l .s) (l .count) (l .cuts) (l .i) (l .inv)))
 
-shared-slice-read-step : tie.Need-shared-slice-read-step Inv-loop μ-loop
-shared-slice-read-step c = search needs
-
 step-requires : tie.Need-step-requires Inv-loop μ-loop
 step-requires c κs = going (c .before .before) .sound
-
-enum-known-next : tie.Need-enum-known-next Inv-loop μ-loop
-enum-known-next c = search needs
 
 add-i : tie.Need-add-i Inv-loop μ-loop
 add-i c = next-i (c .before .before .before .before .before .before) (c .before .before .before .before .before .if1 .taken)
@@ -126,9 +120,6 @@ loop-again : tie.Need-loop-again Inv-loop μ-loop
 loop-again c =
     let k = c .before .next .given in
     moved (c .before .before .before .before .before .before) (c .before .before .before .before .before .if1 .taken) (k .0 .0) (sym (c .before .before .before .step .ensures) ∙ k .1)
-
-enum-known-c : tie.Need-enum-known-c Inv-loop μ-loop
-enum-known-c c = search needs
 
 put-after-requires : tie.Need-put-after-requires Inv-loop μ-loop
 put-after-requires c κs =
@@ -150,9 +141,6 @@ loop-again-2 c =
     let p = c .before .before .put-after in
     set (c .before .before .before .before .before .before .before .before .before .before) (c .before .before .before .before .before .before .before .before .before .if1 .taken) (flashes (c .before .before .before .before .before)) flashed (p .last .1 .0) (p .kept .1 .0) (p .ensures) _ _ refl refl
 
-enum-known-next-2 : tie.Need-enum-known-next-2 Inv-loop μ-loop
-enum-known-next-2 c = search needs
-
 put-after-requires-2 : tie.Need-put-after-requires-2 Inv-loop μ-loop
 put-after-requires-2 c κs =
     let t = c .before .before .before .before .before .before .before in
@@ -173,14 +161,8 @@ loop-again-3 c =
     let p = c .before .before .put-after2 in
     set (c .before .before .before .before .before .before .before .before .before .before) (c .before .before .before .before .before .before .before .before .before .if1 .taken) (parts (c .before .before .before .before .before)) pageEnded (p .last .1 .0) (p .kept .1 .0) (p .ensures) _ _ (omega arith) (omega arith)
 
-enum-known-n : tie.Need-enum-known-n Inv-loop μ-loop
-enum-known-n c = search needs
-
 add-place : tie.Need-add-t31 Inv-loop μ-loop
 add-place c = let t = c .before .before .before .before .before .before in omega (arith, c .before .before .before .before .before .if1 .taken, start t .pre .0 .1, start t .good)
-
-found-requires : tie.Need-found-requires Inv-loop μ-loop
-found-requires c κs = search needs
 
 same-length : tie.Need-same-length Inv-loop μ-loop
 same-length c = going (c .before .before .before .before .before .before .before) .same
@@ -200,9 +182,6 @@ loop-less-4 c = omega (arith, c .if1 .left, c .before .before .before .before .b
 loop-again-4 : tie.Need-loop-again-4 Inv-loop μ-loop
 loop-again-4 c = going (c .before)
 
-found-requires-2 : tie.Need-found-requires-2 Inv-loop μ-loop
-found-requires-2 c κs = search needs
-
 same-length-2 : tie.Need-same-length-2 Inv-loop μ-loop
 same-length-2 c = c .before .before .loop .inv .same
 
@@ -217,7 +196,7 @@ returns-2 c =
 pub pass-spec : {M : Type 1} → statement M
 pass-spec =
     tie.close
-    (tie.spec Inv-loop μ-loop loop-holds quick-run-requires shared-slice-read-step step-requires enum-known-next add-i loop-less loop-again
-    enum-known-c put-after-requires add-count add-i-2 loop-less-2 loop-again-2 enum-known-next-2 put-after-requires-2 add-cuts add-i-3
-    loop-less-3 loop-again-3 enum-known-n add-place found-requires same-length returns loop-less-4 loop-again-4 found-requires-2 same-length-2
-    returns-2)
+    (tie.spec Inv-loop μ-loop loop-holds quick-run-requires (λ c. search needs) step-requires (λ c. search needs) add-i loop-less loop-again
+    (λ c. search needs) put-after-requires add-count add-i-2 loop-less-2 loop-again-2 (λ c. search needs) put-after-requires-2 add-cuts add-i-3
+    loop-less-3 loop-again-3 (λ c. search needs) add-place (λ c κs. search needs) same-length returns loop-less-4 loop-again-4 (λ c κs. search needs)
+    same-length-2 returns-2)

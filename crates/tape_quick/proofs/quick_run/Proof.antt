@@ -64,9 +64,6 @@ run-ends s {later = later} e f =
     let a = s .args in
     subst (λ (h : RunEnd). Further (a .writing) (a .tape .now) (a .out .now) (a .first) (a .before) (a .cuts) (a .from) (h .state) (h .count) (h .next) later) (sym e) f
 
-derived-of-requires : tie.Need-derived-of-requires Inv-loop μ-loop
-derived-of-requires c κs = search needs
-
 loop-holds : tie.Need-loop-holds Inv-loop μ-loop
 loop-holds c = (here, c .derived-of .ensures)
 
@@ -75,21 +72,6 @@ quick-stretch-requires c κs =
     let l = c .before .before .loop in
     let pre = c .before .before .before .before .before .before .pre in
     ((further-sound (l .inv .0) (pre .0), l .inv .1), further-few (l .inv .0) (pre .1))
-
-shared-slice-read-b : tie.Need-shared-slice-read-b Inv-loop μ-loop
-shared-slice-read-b c = search needs
-
-takes-turn-requires : tie.Need-takes-turn-requires Inv-loop μ-loop
-takes-turn-requires c κs = search needs
-
-modes-after-requires : tie.Need-modes-after-requires Inv-loop μ-loop
-modes-after-requires c κs = search needs
-
-size-after-requires : tie.Need-size-after-requires Inv-loop μ-loop
-size-after-requires c κs = search needs
-
-derived-of-requires-2 : tie.Need-derived-of-requires-2 Inv-loop μ-loop
-derived-of-requires-2 c κs = search needs
 
 add-i : tie.Need-add-i Inv-loop μ-loop
 add-i c = next-i (c .before .before .before .before .before .before .before) (c .before .before .before .before .before .before .if1 .taken)
@@ -105,12 +87,6 @@ loop-again c =
     let z = c .before .size-after in
     (moved (further t) (c .before .before .before .before .before .before .if1 .taken) (turn-taken (now t) (turn .0) (getD (start t .args .tape .now) (i t) 0) (turn .1) (m .result) (m .ensures) (z .result) (z .ensures)), c .derived-of2 .ensures)
 
-height-after-requires : tie.Need-height-after-requires Inv-loop μ-loop
-height-after-requires c κs = search needs
-
-enum-known-h : tie.Need-enum-known-h Inv-loop μ-loop
-enum-known-h c = search needs
-
 add-i-2 : tie.Need-add-i-2 Inv-loop μ-loop
 add-i-2 c = next-i (c .before .before .before .before .before .before .before .before) (c .before .before .before .before .before .before .before .if1 .taken)
 
@@ -122,12 +98,6 @@ loop-again-2 c =
     let t = c .before .before .before .before .before .before .before .before in
     let k = c .before .h .given in
     (moved (further t) (c .before .before .before .before .before .before .before .if1 .taken) (subst (Leads (now t) (getD (start t .args .tape .now) (i t) 0)) (k .1) (c .before .before .before .height-after .ensures)), still-derived (now t) (now t .carriage) (k .0 .0) (derived t))
-
-enum-told : tie.Need-enum-told Inv-loop μ-loop
-enum-told c = search needs
-
-run-end-requires : tie.Need-run-end-requires Inv-loop μ-loop
-run-end-requires c κs = search needs
 
 same-length : tie.Need-same-length Inv-loop μ-loop
 same-length c = further-length (further (c .before .before .before .before .before .before .before .before))
@@ -141,9 +111,6 @@ loop-less-3 c = omega (arith, c .if1 .left, c .before .before .before .before .b
 loop-again-3 : tie.Need-loop-again-3 Inv-loop μ-loop
 loop-again-3 c = (further (c .before), derived (c .before))
 
-run-end-requires-2 : tie.Need-run-end-requires-2 Inv-loop μ-loop
-run-end-requires-2 c κs = search needs
-
 same-length-2 : tie.Need-same-length-2 Inv-loop μ-loop
 same-length-2 c = further-length (c .before .before .loop .inv .0)
 
@@ -153,6 +120,7 @@ returns-2 c = run-ends (c .before .before .before .before .before .before) (c .r
 pub quick-run-spec : {M : Type 1} → statement M
 quick-run-spec =
     tie.close
-    (tie.spec Inv-loop μ-loop derived-of-requires loop-holds quick-stretch-requires shared-slice-read-b takes-turn-requires modes-after-requires
-    size-after-requires derived-of-requires-2 add-i loop-less loop-again height-after-requires enum-known-h add-i-2 loop-less-2 loop-again-2 enum-told
-    run-end-requires same-length returns loop-less-3 loop-again-3 run-end-requires-2 same-length-2 returns-2)
+    (tie.spec Inv-loop μ-loop (λ c κs. search needs) loop-holds quick-stretch-requires (λ c. search needs) (λ c κs. search needs)
+    (λ c κs. search needs) (λ c κs. search needs) (λ c κs. search needs) add-i loop-less loop-again (λ c κs. search needs) (λ c. search needs) add-i-2
+    loop-less-2 loop-again-2 (λ c. search needs) (λ c κs. search needs) same-length returns loop-less-3 loop-again-3 (λ c κs. search needs)
+    same-length-2 returns-2)

@@ -17,33 +17,12 @@ Inv-loop s d tape from before r₀ r = Strides tape s (d .font) (stretchAt s fro
 abbrev μ-loop : tie.MeasureT-loop
 μ-loop s d tape from before r₀ r = length tape - r .next
 
-at-state-requires : tie.Need-at-state-requires Inv-loop μ-loop
-at-state-requires c κs = search needs
-
 loop-holds : tie.Need-loop-holds Inv-loop μ-loop
 loop-holds c =
     let start = c .before .before in
     let a = start .args in
     subst (λ (r : Stretch). Strides (a .tape .now) (a .s) (a .d .font) (stretchAt (a .s) (a .from) (a .before)) r × (r .count ≤ r .next)) (sym (c .at-state .ensures))
     (stands, start .pre .1)
-
-shared-slice-read-b : tie.Need-shared-slice-read-b Inv-loop μ-loop
-shared-slice-read-b c = search needs
-
-takes-requires : tie.Need-takes-requires Inv-loop μ-loop
-takes-requires c κs = search needs
-
-escape-by-requires : tie.Need-escape-by-requires Inv-loop μ-loop
-escape-by-requires c κs = search needs
-
-escape-requires : tie.Need-escape-requires Inv-loop μ-loop
-escape-requires c κs = search needs
-
-enum-known-c : tie.Need-enum-known-c Inv-loop μ-loop
-enum-known-c c = search needs
-
-flashes-in-requires : tie.Need-flashes-in-requires Inv-loop μ-loop
-flashes-in-requires c κs = search needs
 
 add-r : tie.Need-add-r Inv-loop μ-loop
 add-r c =
@@ -74,9 +53,6 @@ loop-again c =
       omega (arith, n .ensures, one-at-most code, l .inv .1),
     )
 
-enum-told : tie.Need-enum-told Inv-loop μ-loop
-enum-told c = search needs
-
 returns : tie.Need-returns Inv-loop μ-loop
 returns c = c .before .before .before .before .before .before .before .before .before .loop .inv .0
 
@@ -89,22 +65,6 @@ returns-3 c = c .before .before .loop .inv .0
 pub count-stretch-spec : {M : Type 1} → statement M
 count-stretch-spec =
     tie.close
-    (tie.spec
-    Inv-loop
-    μ-loop
-    at-state-requires
-    loop-holds
-    shared-slice-read-b
-    takes-requires
-    escape-by-requires
-    escape-requires
-    enum-known-c
-    flashes-in-requires
-    add-r
-    add-r-2
-    loop-less
-    loop-again
-    enum-told
-    returns
-    returns-2
+    (tie.spec Inv-loop μ-loop (λ c κs. search needs) loop-holds (λ c. search needs) (λ c κs. search needs) (λ c κs. search needs)
+    (λ c κs. search needs) (λ c. search needs) (λ c κs. search needs) add-r add-r-2 loop-less loop-again (λ c. search needs) returns returns-2
     returns-3)

@@ -23,9 +23,6 @@ Inv-loop s d tape from before cuts out₀ r₀ room out r = Stretched true tape 
 abbrev μ-loop : tie.MeasureT-loop
 μ-loop s d tape from before cuts out₀ r₀ room out r = length tape - r .next
 
-at-state-requires : tie.Need-at-state-requires Inv-loop μ-loop
-at-state-requires c κs = search needs
-
 -- no code yet
 begun : (c : tie.After-at-state Inv-loop μ-loop) → Stretched true (c .before .before .before .args .tape .now) (c .before .before .before .args .out .now) (c .before .before .before .args .s) (c .before .before .before .args .before) (c .before .before .before .args .cuts) (c .before .before .before .args .from) (c .at-state .result) (c .before .before .before .args .out .now)
 begun c =
@@ -42,12 +39,6 @@ sub-room c = c .if1 .left
 loop-holds : tie.Need-loop-holds Inv-loop μ-loop
 loop-holds c = begun (c .before)
 
-with-carriage-requires : tie.Need-with-carriage-requires Inv-loop μ-loop
-with-carriage-requires c κs = search needs
-
-shared-slice-read-quick-step : tie.Need-shared-slice-read-quick-step Inv-loop μ-loop
-shared-slice-read-quick-step c = search needs
-
 quick-step-requires : tie.Need-quick-step-requires Inv-loop μ-loop
 quick-step-requires c κs =
     let l = c .before .before .before .before .loop in
@@ -58,9 +49,6 @@ quick-step-requires c κs =
 -- what the quick step says of the state with its carriage
 said : (c : tie.After-quick-step Inv-loop μ-loop) → Quickly (withCarriage (c .before .before .before .before .before .before .before .before .before .before .args .s) (c .before .before .before .before .before .loop .r .carriage)) (getD (c .before .before .before .before .before .before .before .before .before .before .args .tape .now) (c .before .before .before .before .before .loop .r .next) 0) (c .quick-step .result)
 said c = subst (λ (t : State). Quickly t (getD (c .before .before .before .before .before .before .before .before .before .before .args .tape .now) (c .before .before .before .before .before .loop .r .next) 0) (c .quick-step .result)) (c .before .before .with-carriage .ensures) (c .quick-step .ensures)
-
-enum-known-c : tie.Need-enum-known-c Inv-loop μ-loop
-enum-known-c c = search needs
 
 same-length : tie.Need-same-length Inv-loop μ-loop
 same-length c = further-length (c .before .before .before .before .before .before .before .before .before .before .loop .inv)
@@ -96,9 +84,6 @@ loop-again c =
     let e = subst (Quickly (withCarriage (a .s) (r .carriage)) (getD (a .tape .now) (r .next) 0)) (k .1) (said (c .before .before .before .before .before .before .before .before .before .before .before .before)) in
     flashed (l .inv) (c .before .before .before .before .before .before .before .before .before .before .before .before .before .before .before .if2 .taken) e (p .ensures .buffer-is)
 
-enum-known-c-2 : tie.Need-enum-known-c-2 Inv-loop μ-loop
-enum-known-c-2 c = search needs
-
 add-r-3 : tie.Need-add-r-3 Inv-loop μ-loop
 add-r-3 c = omega (arith, c .before .before .before .before .before .before .before .if2 .taken, c .before .before .before .before .before .before .before .before .before .before .before .before .before .before .good)
 
@@ -115,9 +100,6 @@ loop-again-2 c =
     let e = subst (Quickly (withCarriage (a .s) (r .carriage)) code) (k .1) (said (c .before .before .before .before)) in
     moved (l .inv) (c .before .before .before .before .before .before .before .if2 .taken) e
 
-enum-told : tie.Need-enum-told Inv-loop μ-loop
-enum-told c = search needs
-
 same-length-2 : tie.Need-same-length-2 Inv-loop μ-loop
 same-length-2 c = further-length (c .before .before .before .before .before .before .before .loop .inv)
 
@@ -133,32 +115,6 @@ returns-4 c = c .before .before .loop .inv
 pub write-stretch-spec : {M : Type 1} → statement M
 write-stretch-spec =
     tie.close
-    (tie.spec
-    Inv-loop
-    μ-loop
-    at-state-requires
-    returns
-    sub-room
-    loop-holds
-    with-carriage-requires
-    shared-slice-read-quick-step
-    quick-step-requires
-    enum-known-c
-    same-length
-    returns-2
-    mul-put-character
-    add-put-character
-    put-character-requires
-    add-r
-    add-r-2
-    loop-less
-    loop-again
-    enum-known-c-2
-    add-r-3
-    loop-less-2
-    loop-again-2
-    enum-told
-    same-length-2
-    returns-3
-    same-length-3
-    returns-4)
+    (tie.spec Inv-loop μ-loop (λ c κs. search needs) returns sub-room loop-holds (λ c κs. search needs) (λ c. search needs) quick-step-requires
+    (λ c. search needs) same-length returns-2 mul-put-character add-put-character put-character-requires add-r add-r-2 loop-less loop-again
+    (λ c. search needs) add-r-3 loop-less-2 loop-again-2 (λ c. search needs) same-length-2 returns-3 same-length-3 returns-4)

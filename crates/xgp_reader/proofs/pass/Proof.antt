@@ -19,9 +19,6 @@ use Rattle.xgp_reader.proofs.pass.Proof.Turns.{Inv-loop, μ-loop, start
 use Rattle.xgp_reader.proofs.pass.Statement.{statement}
 use Rattle.xgp_reader.proofs.pass.Tie as tie
 
-start-requires : tie.Need-start-requires Inv-loop μ-loop
-start-requires c κs = search needs
-
 loop-holds : tie.Need-loop-holds Inv-loop μ-loop
 loop-holds c =
     let a = c .before .before .before .args in
@@ -63,9 +60,6 @@ step-requires c κs =
     let k = c .before .before .before .before .before in
     (c .if1 .taken, omega (arith, standing k .pages, standing k .within, start k .pre .0))
 
-enum-known-r : tie.Need-enum-known-r Inv-loop μ-loop
-enum-known-r c = search needs
-
 same-length : tie.Need-same-length Inv-loop μ-loop
 same-length c = filled (from (c .before .before .before)) .same
 
@@ -74,9 +68,6 @@ returns c =
     let k = from (c .before .before .before) in
     let g = c .before .r .given in
     filled-refused (filled k) (standing-refused (standing k) (c .before .before .before .before .if1 .taken) (g .0 .0) (stepped (c .before .before .before) (g .1))) (start k .pre .1)
-
-enum-known-r-2 : tie.Need-enum-known-r-2 Inv-loop μ-loop
-enum-known-r-2 c = search needs
 
 add-at : tie.Need-add-at Inv-loop μ-loop
 add-at c = record { fits = omega (arith, goes c .0 .within, start (from (c .before .before .before)) .pre .0) }
@@ -91,9 +82,6 @@ loop-less c =
 
 loop-again : tie.Need-loop-again Inv-loop μ-loop
 loop-again c = (_, (goes c .0, filled-still (filled (from (c .before .before .before))) _ (omega (arith, goes c .1))))
-
-enum-known-r-3 : tie.Need-enum-known-r-3 Inv-loop μ-loop
-enum-known-r-3 c = search needs
 
 show-set-requires : tie.Need-show-set-requires Inv-loop μ-loop
 unfolding withX
@@ -110,9 +98,6 @@ show-set-requires c κs =
         λ w. omega (arith, room t w, p .put .place, p .same, length-setFields (state k) (g .0 .1 .0 .0) (g .0 .1 .1 .0)),
       ),
     )
-
-number-requires : tie.Need-number-requires Inv-loop μ-loop
-number-requires c κs = search needs
 
 add-count-2 : tie.Need-add-count-2 Inv-loop μ-loop
 add-count-2 c =
@@ -169,35 +154,6 @@ returns-2 c =
 pub pass-spec : {M : Type 1} → statement M
 pass-spec =
     tie.close
-    (tie.spec
-    Inv-loop
-    μ-loop
-    start-requires
-    loop-holds
-    set-run-requires
-    sub-count
-    cast-count
-    add-count
-    step-requires
-    enum-known-r
-    same-length
-    returns
-    enum-known-r-2
-    add-at
-    add-at-2
-    loop-less
-    loop-again
-    enum-known-r-3
-    show-set-requires
-    number-requires
-    add-count-2
-    add-at-3
-    add-at-4
-    loop-less-2
-    loop-again-2
-    loop-less-3
-    loop-again-3
-    show-end-requires
-    add-t34
-    same-length-2
-    returns-2)
+    (tie.spec Inv-loop μ-loop (λ c κs. search needs) loop-holds set-run-requires sub-count cast-count add-count step-requires (λ c. search needs)
+    same-length returns (λ c. search needs) add-at add-at-2 loop-less loop-again (λ c. search needs) show-set-requires (λ c κs. search needs)
+    add-count-2 add-at-3 add-at-4 loop-less-2 loop-again-2 loop-less-3 loop-again-3 show-end-requires add-t34 same-length-2 returns-2)

@@ -20,12 +20,6 @@ loop-holds c = (c .before .pre, (omega arith, defined-start _ _ _ _))
 marked-requires : tie.Need-marked-requires Inv-loop μ-loop
 marked-requires c κs = (c .before .loop .inv .0, c .loop-test .taken)
 
-enum-known-r : tie.Need-enum-known-r Inv-loop μ-loop
-enum-known-r c = search needs
-
-enum-known-r-2 : tie.Need-enum-known-r-2 Inv-loop μ-loop
-enum-known-r-2 c = search needs
-
 returns : tie.Need-returns Inv-loop μ-loop
 returns c = (tt, defined-fault _ _ _ _ _ _ (c .before .before .before .before .before .loop .inv .1 .1) (c .before .before .before .before .loop-test .taken) _ (c .before .before .before .marked .ensures) _ (c .before .r2 .given .1))
 
@@ -51,15 +45,4 @@ returns-2 c =
 pub definitions-spec : {M : Type 1} → statement M
 definitions-spec =
     tie.close
-    (tie.spec
-    Inv-loop
-    μ-loop
-    loop-holds
-    marked-requires
-    enum-known-r
-    enum-known-r-2
-    returns
-    add-f
-    loop-less
-    loop-again
-    returns-2)
+    (tie.spec Inv-loop μ-loop loop-holds marked-requires (λ c. search needs) (λ c. search needs) returns add-f loop-less loop-again returns-2)

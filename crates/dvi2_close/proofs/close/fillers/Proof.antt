@@ -18,27 +18,12 @@ Inv-loop dvi at e n to₀ k₀ to k = (to ≤ length dvi) × ((k ≤ n) × ((n �
 abbrev μ-loop : tie.MeasureT-loop
 μ-loop dvi at e n to₀ k₀ to k = n - k
 
-sub-n : tie.Need-sub-n Inv-loop μ-loop
-sub-n c = search needs
-
-add-n : tie.Need-add-n Inv-loop μ-loop
-add-n c = search needs
-
 loop-holds : tie.Need-loop-holds Inv-loop μ-loop
 unfolding W.fillers
 loop-holds c = (c .before .pre .0, (omega arith, (omega arith, (refl, filling-start _ _ _ refl))))
 
-slice-aggregate-expect : tie.Need-slice-aggregate-expect Inv-loop μ-loop
-slice-aggregate-expect c = search needs
-
 expect-requires : tie.Need-expect-requires Inv-loop μ-loop
 expect-requires c κs = (c .before .before .loop .inv .0, omega (arith, ap length (c .before .before .loop .inv .1 .1 .1 .0)))
-
-enum-known-r : tie.Need-enum-known-r Inv-loop μ-loop
-enum-known-r c = search needs
-
-enum-known-r-2 : tie.Need-enum-known-r-2 Inv-loop μ-loop
-enum-known-r-2 c = search needs
 
 returns : tie.Need-returns Inv-loop μ-loop
 returns c =
@@ -67,18 +52,5 @@ returns-2 c =
 pub fillers-spec : {M : Type 1} → statement M
 fillers-spec =
     tie.close
-    (tie.spec
-    Inv-loop
-    μ-loop
-    sub-n
-    add-n
-    loop-holds
-    slice-aggregate-expect
-    expect-requires
-    enum-known-r
-    enum-known-r-2
-    returns
-    add-k
-    loop-less
-    loop-again
-    returns-2)
+    (tie.spec Inv-loop μ-loop (λ c. search needs) (λ c. search needs) loop-holds (λ c. search needs) expect-requires (λ c. search needs)
+    (λ c. search needs) returns add-k loop-less loop-again returns-2)

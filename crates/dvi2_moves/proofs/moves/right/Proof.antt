@@ -29,13 +29,13 @@ module _ (s : tie.Start) where
   by = signedAt (s .args .k) (s .args .at + 1) (s .args .s .now)
 
   abbrev to : ℤ
-  to = s .args .h .position .x .0 +ℤ by
+  to = s .args .h .x .0 +ℤ by
 
   abbrev allowed : ℤ → Bool
-  allowed z = validIn (fontOrNone (s .args .h .position .font)) z
+  allowed z = validIn (fontOrNone (s .args .h .font)) z
 
   to-fits : allowed to ≡ true → SFits w32 to
-  to-fits v = valid-fits (fontOrNone (s .args .h .position .font)) to v
+  to-fits v = valid-fits (fontOrNone (s .args .h .font)) to v
 
   refused : s .args .k < length (s .args .s .now) - s .args .at → (parameterWidth by ≡ s .args .k → (by ≡ pos 0 → ⊥) → allowed to ≡ true → ⊥)
       → StepsAs (s .args .s .now) (s .args .at) (s .args .h) Bad
@@ -43,23 +43,23 @@ module _ (s : tie.Start) where
 
 -- from the number that is read back to the start, and from the sum back to that number
 abbrev start : tie.After-signed-at → tie.Start
-start c = c .before .before .before .before .before .before
+start c = c .before .before .before .before .before
 
-abbrev number : tie.After-sum → tie.After-signed-at
+abbrev number : tie.After-moved → tie.After-signed-at
 number c = c .before .before .before .before .before
 
 by-is : (c : tie.After-signed-at) → toZ w32 (ofZ w32 (c .signed-at .result)) ≡ by (start c)
 by-is c = returned w32 (c .signed-at .ok) (c .signed-at .ensures)
 
-to-is : (c : tie.After-sum) → toZ w64 (ofZ w64 (c .sum .result)) ≡ to (start (number c))
+to-is : (c : tie.After-moved) → toZ w64 (ofZ w64 (c .moved .result)) ≡ to (start (number c))
 to-is c =
     let s = start (number c) in
-    let f : SFits w32 (s .args .h .position .x .0) = search needs in
-    returned w64 (c .sum .ok) (c .sum .ensures ∙ (λ i. plain f i +ℤ by-is (number c) i))
+    let f : SFits w32 (s .args .h .x .0) = search needs in
+    returned w64 (c .moved .ok) (c .moved .ensures ∙ (λ i. plain f i +ℤ by-is (number c) i))
 
 returns : tie.Need-returns
 returns c =
-    let s = c .before .before .before .before .before .before .before in
+    let s = c .before .before .before .before .before .before in
     λ is l.
     r-found (s .args .s .now) (s .args .at) (142 + s .args .k) (s .args .k) (s .args .h) (s .pre) is l refl
     (sym (c .before .before .before .before .before-right .ensures) ∙ c .before .before .before .if1 .taken) (c .before .before .if2 .taken)
@@ -67,7 +67,7 @@ returns c =
 
 returns-2 : tie.Need-returns-2
 returns-2 c =
-    let s = c .before .before .before .before .before .before .before in
+    let s = c .before .before .before .before .before .before in
     λ is l.
     r-none (s .args .s .now) (s .args .at) (142 + s .args .k) (s .args .k) (s .args .h) (s .pre) is l refl
     (sym (c .before .before .before .before .before-right .ensures) ∙ c .before .before .before .if1 .taken) (c .before .before .if2 .taken)
@@ -89,8 +89,8 @@ returns-4 c =
 allowed-is : (c : tie.After-valid-at) → c .valid-at .result ≡ allowed (start (number (c .before))) (to (start (number (c .before))))
 allowed-is c = c .valid-at .ensures ∙ ap (allowed (start (number (c .before)))) (to-is (c .before))
 
-cast-t17 : tie.Need-cast-t17
-cast-t17 c =
+cast-t16 : tie.Need-cast-t16
+cast-t16 c =
     let sum = c .before .before .before in
     subst (SFits w32) (sym (to-is sum)) (to-fits (start (number sum)) (sym (allowed-is (c .before .before)) ∙ c .before .if6 .taken))
 
@@ -104,9 +104,9 @@ returns-5 c =
     let v = sym (allowed-is (c .before .before)) ∙ c .before .if6 .taken in
     let x = ap (λ (z : ℤ). toZ w32 (ofZ w32 z)) (to-is (c .before .before .before)) ∙ plain (to-fits s v) in
     λ is l.
-    (λ i. go (inPage (record { items = is; stage = Page.moved; position = record { font = fontOrNone (s .args .h .position .font); x = x i; y = pos 3 *ℤ s .args .h .position .height .0 } })) (s .args .k))
+    (λ i. go (inPage (record { items = is; stage = Page.moved; position = record { font = fontOrNone (s .args .h .font); x = x i; y = pos 3 *ℤ s .args .h .height .0 } })) (s .args .k))
     ∙ sym (r-go (s .args .s .now) (s .args .at) (142 + s .args .k) (s .args .k) (s .args .h) (s .pre) is l refl
-    (omega (arith, m .before .if2 .left)) (λ i. m .before .before .before .before .before .shared-slice-known .given i .fits)
+    (omega (arith, m .before .if2 .left)) (λ i. m .before .before .before .before .shared-slice-known .given i .fits)
     (sym (m .before .before .before .before-right .ensures) ∙ m .before .before .if1 .taken)
     (ap parameterWidth (sym (by-is m)) ∙ sym (w .parameter-width .ensures .0) ∙ n .if4 .left)
     (λ e. c .before .before .before .before .before .if5 .left (ap (ofZ w32) (m .signed-at .ensures ∙ e))) v)
@@ -119,11 +119,11 @@ returns-6 c =
 
 returns-7 : tie.Need-returns-7
 returns-7 c =
-    let s = c .before .before .before .before in
+    let s = c .before .before .before in
     λ is l. r-not (s .args .s .now) (s .args .at) (142 + s .args .k) (s .args .k) (s .args .h) (s .pre) is l refl (sym (c .before .before-right .ensures) ∙ c .if1 .left)
 
 pub right-spec : {M : Type 1} → statement M
 right-spec =
     tie.close
     (tie.spec (λ c κs. search needs) (λ c. search needs) (λ c κs. search needs) returns returns-2 (λ c. search needs) (λ c κs. search needs)
-    (λ c κs. search needs) returns-3 returns-4 (λ c κs. search needs) (λ c κs. search needs) cast-t17 returns-5 returns-6 returns-7)
+    (λ c κs. search needs) returns-3 returns-4 (λ c κs. search needs) (λ c κs. search needs) cast-t16 returns-5 returns-6 returns-7)

@@ -8,20 +8,19 @@ use lib.IntN.{ℤ, pos, _*ℤ_}
 use lib.ListN.{drop}
 use Rattle.integers.specs.Parts.{integers}
 use Rattle.integers.specs.Bits.{plain-pos}
-use Rattle.dvi2_commands.specs.Position.{positionOf}
 use Rattle.dvi2_reading.specs.PageReading.{someBelow}
 use Rattle.dvi2_reading.specs.Reading.{heights}
 use Rattle.dvi2_reading.specs.BytesLaws.{found-some}
-use Rattle.dvi2_state.specs.Page.{downBegins}
+use Rattle.dvi2_state.specs.Page.{pagePosition, downBegins}
 use Rattle.dvi2_state.proofs.Searches.{some-next, some-none, count-fits}
 use Rattle.dvi2_state.proofs.begin.may_begin_down.Statement.{statement}
 use Rattle.dvi2_state.proofs.begin.may_begin_down.Tie as tie
 
 abbrev Inv-loop : tie.InvT-loop
-Inv-loop s at p k₀ k = (k ≤ heights) × (someBelow k (λ n. downBegins (drop at s) (positionOf p) (pos (3 * n))) ≡ false)
+Inv-loop s at h k₀ k = (k ≤ heights) × (someBelow k (λ n. downBegins (drop at s) (pagePosition h) (pos (3 * n))) ≡ false)
 
 abbrev μ-loop : tie.MeasureT-loop
-μ-loop s at p k₀ k = heights - k
+μ-loop s at h k₀ k = heights - k
 
 loop-holds : tie.Need-loop-holds Inv-loop μ-loop
 loop-holds c = (omega arith, some-none _)
@@ -38,14 +37,14 @@ down-begins-requires c κs =
 module _ (s : tie.Start Inv-loop μ-loop) where
   -- whether a move to the place so counted begins
   abbrev begins-at : ℕ → Bool
-  begins-at n = downBegins (drop (s .args .at) (s .args .s .now)) (positionOf (s .args .p)) (pos (3 * n))
+  begins-at n = downBegins (drop (s .args .at) (s .args .s .now)) (pagePosition (s .args .h)) (pos (3 * n))
 
 begins-is : (c : tie.After-down-begins Inv-loop μ-loop) → c .down-begins .result ≡ begins-at (c .before .before .before .before) (c .before .before .loop .k)
 begins-is c =
     let k = c .before .before .loop .k in
     let e = ap (λ (z : ℤ). pos 3 *ℤ z) (plain-pos (count-fits k (omega arith))) in
     let s = c .before .before .before .before .args in
-    c .down-begins .ensures ∙ ap (downBegins (drop (s .at) (s .s .now)) (positionOf (s .p))) e
+    c .down-begins .ensures ∙ ap (downBegins (drop (s .at) (s .s .now)) (pagePosition (s .h))) e
 
 returns : tie.Need-returns Inv-loop μ-loop
 returns c = sym (found-some heights (begins-at (c .before .before .before .before .before)) (c .before .before .before .loop .k) (omega arith) (sym (begins-is (c .before)) ∙ c .if1 .taken))

@@ -10,20 +10,19 @@ use mir.Syntax.{w32}
 use mir.Val.{toZ, ofZ}
 use Rattle.integers.specs.Bits.{plain, plain-pos}
 use Rattle.measure.specs.Target.{entryX}
-use Rattle.dvi2_commands.specs.Position.{positionOf}
 use Rattle.dvi2_reading.specs.PageReading.{someBelow}
 use Rattle.dvi2_reading.specs.Reading.{places}
 use Rattle.dvi2_reading.specs.BytesLaws.{found-some}
-use Rattle.dvi2_state.specs.Page.{rightBegins}
+use Rattle.dvi2_state.specs.Page.{pagePosition, rightBegins}
 use Rattle.dvi2_state.proofs.Searches.{some-next, some-none, count-fits, place-between, place-fits}
 use Rattle.dvi2_state.proofs.begin.may_begin_right.Statement.{statement}
 use Rattle.dvi2_state.proofs.begin.may_begin_right.Tie as tie
 
 abbrev Inv-loop : tie.InvT-loop
-Inv-loop s at p k₀ k = (k ≤ places) × (someBelow k (λ n. rightBegins (drop at s) (positionOf p) (entryX n)) ≡ false)
+Inv-loop s at h k₀ k = (k ≤ places) × (someBelow k (λ n. rightBegins (drop at s) (pagePosition h) (entryX n)) ≡ false)
 
 abbrev μ-loop : tie.MeasureT-loop
-μ-loop s at p k₀ k = places - k
+μ-loop s at h k₀ k = places - k
 
 loop-holds : tie.Need-loop-holds Inv-loop μ-loop
 loop-holds c = (omega arith, some-none _)
@@ -46,14 +45,14 @@ right-begins-requires c κs =
 module _ (s : tie.Start Inv-loop μ-loop) where
   -- whether a move to the place so counted begins
   abbrev begins-at : ℕ → Bool
-  begins-at n = rightBegins (drop (s .args .at) (s .args .s .now)) (positionOf (s .args .p)) (entryX n)
+  begins-at n = rightBegins (drop (s .args .at) (s .args .s .now)) (pagePosition (s .args .h)) (entryX n)
 
 begins-is : (c : tie.After-right-begins Inv-loop μ-loop) → c .right-begins .result ≡ begins-at (c .before .before .before .before .before .before) (c .before .before .before .before .loop .k)
 begins-is c =
     let k = c .before .before .before .before .loop .k in
     let e = ap (λ (z : ℤ). toZ w32 (ofZ w32 (z -ℤ pos 55))) (plain-pos (count-fits k (omega arith))) ∙ plain (place-fits k (omega arith)) in
     let s = c .before .before .before .before .before .before .args in
-    c .right-begins .ensures ∙ ap (rightBegins (drop (s .at) (s .s .now)) (positionOf (s .p))) e
+    c .right-begins .ensures ∙ ap (rightBegins (drop (s .at) (s .s .now)) (pagePosition (s .h))) e
 
 returns : tie.Need-returns Inv-loop μ-loop
 returns c = sym (found-some places (begins-at (c .before .before .before .before .before .before .before)) (c .before .before .before .before .before .loop .k) (omega arith) (sym (begins-is (c .before)) ∙ c .if1 .taken))

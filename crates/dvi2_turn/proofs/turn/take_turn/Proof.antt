@@ -1,6 +1,6 @@
 -- `dvi2_turn::turn::take_turn` meets its contract: the step of the definition, and what follows an eop.
 -- Assumes nothing.
-use mathlib.Core.Path.{refl, sym, ap, subst, _∙_}
+use mathlib.Core.Path.{sym, ap, subst, _∙_}
 use Prim.Native.Nat.{_+_}
 use native.Mathlib.Omega.{arith}
 use borrow.Author.Needs.{needs}
@@ -33,16 +33,16 @@ ended-requires c κs =
     (p .0 .1, t)
 
 character-requires : tie.Need-character-requires
-character-requires c κs = let st = c .before .before .before .before .before .before .before in is-down _ (st .pre .1 .items) (st .args .h) _ (st .pre .1 .standing)
+character-requires c κs = let st = c .before .before .before .before .before .before in is-down _ (st .pre .1 .items) (st .args .h) _ (st .pre .1 .standing)
+
+add-t17 : tie.Need-add-t17
+add-t17 c = omega (arith, c .before .before .before .before .before .before .before .before .pre .0 .0, c .before .before .before .before .before .before .before .before .pre .0 .1)
 
 add-t18 : tie.Need-add-t18
-add-t18 c = omega (arith, c .before .before .before .before .before .before .before .before .pre .0 .0, c .before .before .before .before .before .before .before .before .pre .0 .1)
+add-t18 c = omega (arith, c .before .before .before .before .before .before .pre .0 .0, c .before .before .before .before .before .before .pre .0 .1)
 
 add-t19 : tie.Need-add-t19
-add-t19 c = omega (arith, c .before .before .before .before .before .before .pre .0 .0, c .before .before .before .before .before .before .pre .0 .1)
-
-add-t20 : tie.Need-add-t20
-add-t20 c =
+add-t19 c =
     let st = c .before .before .before .before .before .before in
     let a = st .args in
     let is = st .pre .1 .items in
@@ -79,7 +79,7 @@ returns-4 c =
     let a = st .args in
     let s = a .dvi .now in
     λ is k j.
-    put-turned s is (a .at) (a .h) _ _ _ (standing-go s (inPage (pageStateOf is (a .h))) (a .at) j (st .pre .0 .0) _ 1 (ap (stepOf is (a .h)) (sym (c .before .before .before .r .given .1)) ∙ c .before .before .before .before .before .step .ensures is (count-is (a .t) is k (j .reached .writable)) (known (a .t) is k (j .reached .writable)))) (c .character .ensures) refl
+    put-turned s is (a .at) (a .h) _ _ _ (standing-go s (inPage (pageStateOf is (a .h))) (a .at) j (st .pre .0 .0) _ 1 (ap (stepOf is (a .h)) (sym (c .before .before .before .r .given .1)) ∙ c .before .before .before .before .before .step .ensures is (count-is (a .t) is k (j .reached .writable)) (known (a .t) is k (j .reached .writable)))) (c .before .character .ensures) (c .with-font .ensures)
 
 returns-5 : tie.Need-returns-5
 returns-5 c =
@@ -94,4 +94,4 @@ pub take-turn-spec : {M : Type 1} → statement M
 take-turn-spec =
     tie.close
     (tie.spec add-step step-requires (λ c. search needs) (λ c. search needs) (λ c. search needs) add-ended ended-requires (λ c. search needs)
-    character-requires add-t18 (λ c. search needs) add-t19 add-t20 returns returns-2 returns-3 returns-4 returns-5)
+    character-requires (λ c κs. search needs) add-t17 (λ c. search needs) add-t18 add-t19 returns returns-2 returns-3 returns-4 returns-5)

@@ -18,9 +18,6 @@ Inv-loop g count out₀ p₀ at₀ out p at = Printed g at out₀ out p
 abbrev μ-loop : tie.MeasureT-loop
 μ-loop g count out₀ p₀ at₀ out p at = length g - at
 
-first-writing-requires : tie.Need-first-writing-requires Inv-loop μ-loop
-first-writing-requires c κs = search needs
-
 loop-holds : tie.Need-loop-holds Inv-loop μ-loop
 loop-holds c = printed-start _ _ (c .before .before .before .pre) _ _ (c .first-writing .ensures)
 
@@ -32,9 +29,6 @@ item-at-requires c κs = printed-whole _ _ _ _ _ (c .before .loop .inv) (omega (
 
 put-item-requires : tie.Need-put-item-requires Inv-loop μ-loop
 put-item-requires c κs = printed-asks _ _ _ _ _ (c .before .before .before .loop .inv) (omega (arith, c .before .before .loop-test .taken)) (few _ _ (c .before .before .before .before .before .before .before .pre)) _ (c .before .item-at .ensures)
-
-item-size-requires : tie.Need-item-size-requires Inv-loop μ-loop
-item-size-requires c κs = search needs
 
 -- the next place is in the galley
 inside : (c : tie.After-item-size Inv-loop μ-loop) → c .before .before .before .before .before .before .before .loop .at + c .item-size .result + 7 ≤ length (c .before .before .before .before .before .before .before .before .before .before .before .args .g .now)
@@ -61,5 +55,5 @@ returns c = printed-end _ _ _ _ _ (c .before .loop .inv) (c .loop-test .left)
 pub put-items-spec : {M : Type 1} → statement M
 put-items-spec =
     tie.close
-    (tie.spec Inv-loop μ-loop first-writing-requires loop-holds add-loop item-at-requires put-item-requires item-size-requires add-at loop-less loop-again same-length
-    returns)
+    (tie.spec Inv-loop μ-loop (λ c κs. search needs) loop-holds add-loop item-at-requires put-item-requires (λ c κs. search needs) add-at loop-less
+    loop-again same-length returns)

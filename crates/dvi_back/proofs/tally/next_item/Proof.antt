@@ -13,9 +13,6 @@ use Rattle.dvi_back.proofs.tally.next_item.Statement.{statement}
 use Rattle.dvi_back.proofs.tally.next_item.Tie as tie
 
 -- src/tally.rt:60:21
-add-if1 : tie.Need-add-if1
-add-if1 c = search needs
-
 -- src/tally.rt:61:9
 returns : tie.Need-returns
 returns c b e =
@@ -23,29 +20,11 @@ returns c b e =
     full-item (a .cuts) (a .characters) (a .at) b (takenOf (a .i)) e (c .if1 .taken)
 
 -- src/tally.rt:64:19
-enum-known-i : tie.Need-enum-known-i
-enum-known-i c = search needs
-
 -- src/tally.rt:65:51
-enum-told : tie.Need-enum-told
-enum-told c = search needs
-
 -- src/tally.rt:65:51
-add-t12 : tie.Need-add-t12
-add-t12 c = search needs
-
 -- src/tally.rt:66:39
-enum-told-2 : tie.Need-enum-told-2
-enum-told-2 c = search needs
-
 -- src/tally.rt:66:39
-add-t13 : tie.Need-add-t13
-add-t13 c = search needs
-
 -- src/tally.rt:68:23
-enum-told-3 : tie.Need-enum-told-3
-enum-told-3 c = search needs
-
 -- src/tally.rt:57:1
 returns-2 : tie.Need-returns-2
 returns-2 c b e =
@@ -73,15 +52,5 @@ returns-4 c b e =
 pub next-item-spec : {M : Type 1} → statement M
 next-item-spec =
     tie.close
-    (tie.spec
-    add-if1
-    returns
-    enum-known-i
-    enum-told
-    add-t12
-    enum-told-2
-    add-t13
-    enum-told-3
-    returns-2
-    returns-3
-    returns-4)
+    (tie.spec (λ c. search needs) returns (λ c. search needs) (λ c. search needs) (λ c. search needs) (λ c. search needs) (λ c. search needs)
+    (λ c. search needs) returns-2 returns-3 returns-4)

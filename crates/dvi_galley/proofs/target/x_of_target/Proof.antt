@@ -76,19 +76,22 @@ cast-t10 : tie.Need-cast-t10
 cast-t10 c = rw (plain (t-fits c), plain (thrice c), plain (sum c)) (k-fits c)
 
 add-t11 : tie.Need-add-t11
-add-t11 c = rw (plain (t-fits c), plain (thrice c), plain (sum c), plain-pos {w = w32} (k-fits c)) (x-fits c)
+add-t11 c =
+    let e = c .before .before in
+    rw (plain (t-fits e), plain (thrice e), plain (sum e), plain-pos {w = w32} (k-fits e)) (x-fits e)
 
 target-requires : tie.Need-target-requires
 target-requires c κs =
-    rw (plain (t-fits c), plain (thrice c), plain (sum c), plain-pos {w = w32} (k-fits c), plain (x-fits c)) (
-      (omega (integers, sum-parts (pos (k c)) (negsuc 54)), omega (integers, index-below (t c) (low c) (high c), sum-parts (pos (k c)) (negsuc 54))),
+    let e = c .before .before in
+    rw (plain (t-fits e), plain (thrice e), plain (sum e), plain-pos {w = w32} (k-fits e), plain (x-fits e)) (
+      (omega (integers, sum-parts (pos (k e)) (negsuc 54)), omega (integers, index-below (t e) (low e) (high e), sum-parts (pos (k e)) (negsuc 54))),
       search needs,
     )
 
 -- the target there
-there-is : (c : tie.After-target) → c .target .result .0 ≡ xTarget (entryX (k (c .before)))
+there-is : (c : tie.After-target) → c .target .result .0 ≡ xTarget (entryX (k (c .before .before .before)))
 there-is c =
-    let e = c .before in
+    let e = c .before .before .before in
     rw (plain (t-fits e), plain (thrice e), plain (sum e), plain-pos {w = w32} (k-fits e), plain (x-fits e)) at (c .target .ensures)
     ∙ ap xTarget (index-place (t e) (low e) (high e))
 
@@ -97,14 +100,14 @@ there-fits c = search needs
 
 returns-3 : tie.Need-returns-3
 returns-3 c =
-    let e = c .before .before .before in
+    let e = c .before .before .before .before .before in
     let q = same-bits {w = w32} (there-fits (c .before .before)) (t-fits e) (c .if3 .taken) in
     rw (plain (t-fits e), plain (thrice e), plain (sum e), plain-pos {w = w32} (k-fits e), plain (x-fits e))
     (ap some (index-place (t e) (low e) (high e)) ∙ sym (index-found (t e) (low e) (high e) (sym (there-is (c .before .before)) ∙ q)))
 
 returns-4 : tie.Need-returns-4
 returns-4 c =
-    let e = c .before .before .before in
+    let e = c .before .before .before .before .before in
     sym (index-missing (t e) (low e) (high e) (λ q. c .if3 .left (ap (ofZ w32) (there-is (c .before .before) ∙ q))))
 
 pub x-of-target-spec : {M : Type 1} → statement M

@@ -7,7 +7,7 @@ use mir.Val.{SFits}
 use Rattle.integers.specs.Bits.{plain}
 use Rattle.dvi.specs.Page.{Page, marked, rightBy, showAndGoTo}
 use Rattle.dvi.specs.Mark.{markOf}
-use Rattle.dvi_page.specs.Stack.{pageNumbers}
+use Rattle.dvi_page.specs.Stack.{sixNumbers}
 use Rattle.dvi_page.specs.Page.{pageOf}
 use Rattle.dvi_page.proofs.Moves.{right-inside, goes, stops}
 use Rattle.dvi_page.proofs.page.show_right.Statement.{statement}
@@ -30,7 +30,7 @@ returns c l =
     let s = c .before .before .before .before .before in
     let a = s .before .before .before .args in
     let m = a .m .0 in
-    let n = pageNumbers (a .p .numbers) in
+    let n = sixNumbers (a .p .numbers) in
     let v = c .before .before .to .given in
     goes (λ (q : Page). marked q (markOf (a .k))) (pageOf (a .p) l) (rightBy m n) (c .before .before .before .before .sum .ensures)
     (x-fits s) (m-fits s) (right-inside m n (y-fits s))
@@ -42,7 +42,7 @@ returns-2 c l =
     let s = c .before .before .before in
     let a = s .before .before .before .args in
     let m = a .m .0 in
-    let n = pageNumbers (a .p .numbers) in
+    let n = sixNumbers (a .p .numbers) in
     stops (λ (q : Page). marked q (markOf (a .k))) (pageOf (a .p) l) (rightBy m n) (c .before .before .sum .ensures)
     (x-fits s) (m-fits s) (right-inside m n (y-fits s))
     (c .enum-told .given .1)

@@ -9,7 +9,7 @@ use mir.Syntax.{w32}
 use mir.Val.{toZ, ofZ}
 use Rattle.integers.specs.Bits.{plain}
 use Rattle.dvi.specs.Page.{Numbers}
-use Rattle.dvi_page.specs.Stack.{pageNumbers, stackOf}
+use Rattle.dvi_page.specs.Stack.{sixNumbers, stackOf}
 use Rattle.dvi_page.proofs.Stacks.{numbers, stored-stack}
 use borrow.Author.Needs.{needs}
 use Rattle.dvi_page.proofs.stack.put_entry.Statement.{statement}
@@ -24,7 +24,7 @@ six : (c : tie.After-struct-told)
     → let n = c .before .args .n in
     _≡_ {A = Numbers}
     (record { atX = held (n .x .0); atY = held (n .y .0); amountW = held (n .wa .0); amountX = held (n .xa .0); amountY = held (n .ya .0); amountZ = held (n .za .0) })
-    (pageNumbers n)
+    (sixNumbers n)
 six c = numbers (plain (search needs)) (plain (search needs)) (plain (search needs)) (plain (search needs)) (plain (search needs)) (plain (search needs))
 
 returns : tie.Need-returns

@@ -10,7 +10,7 @@ use mir.Syntax.{w32}
 use mir.Val.{ofZ}
 use Rattle.integers.specs.Bits.{same-bits}
 use Rattle.dvi.specs.Postamble.{atId, definitions}
-use Rattle.dvi_step.specs.Postamble.{afterName, Within}
+use Rattle.dvi_step.specs.Postamble.{afterName, FoundIn}
 use Rattle.dvi_step.specs.declared.postamble.Found.{Found}
 use Rattle.dvi_step.specs.declared.postamble.Found.the-variants.{At}
 use Rattle.dvi_step.proofs.Postambles.{ids-short, ids-end, ids-more}
@@ -41,9 +41,9 @@ returns-2 c =
     c .is-trailer .ensures ∙ sym (i .inv .1 ∙ ids-end (a .s .now) (i .j) (a .pst) (omega arith) e)
 
 -- the next ID lies further on, in the file
-further : (c : tie.After-known-told Inv-loop μ-loop) → Within (c .before .before .before .before .before .before .before .loop .j) (At (c .before .d .given .0 .0)) (length (c .before .before .before .before .before .before .before .before .before .args .s .now))
+further : (c : tie.After-known-told Inv-loop μ-loop) → FoundIn (c .before .before .before .before .before .before .before .loop .j) (At (c .before .d .given .0 .0)) (length (c .before .before .before .before .before .before .before .before .before .args .s .now))
 further c =
-    subst (λ (r : Found). Within (c .before .before .before .before .before .before .before .loop .j) r (length (c .before .before .before .before .before .before .before .before .before .args .s .now)))
+    subst (λ (r : Found). FoundIn (c .before .before .before .before .before .before .before .loop .j) r (length (c .before .before .before .before .before .before .before .before .before .args .s .now)))
     (c .before .d .given .1) (c .before .before .before .past-definition .ensures .within)
 
 loop-less : tie.Need-loop-less Inv-loop μ-loop

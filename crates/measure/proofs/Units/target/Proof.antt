@@ -15,9 +15,9 @@ use Rattle.measure.specs.TargetLaws.{target-parts, target-entry}
 use Rattle.measure.proofs.Units.target.Statement.{statement}
 use Rattle.measure.proofs.Units.target.Tie as tie
 
-module _ (c : tie.After-struct-told) where
+module _ (c : tie.After-struct-told2) where
   abbrev x : ℤ
-  x = c .before .before .args .self .0
+  x = c .before .before .before .before .args .self .0
 
   -- as the code makes it, by a subtraction
   abbrev index : ℤ
@@ -59,7 +59,7 @@ returns : tie.Need-returns
 returns c =
     let s = c .before in
     let k = natAbs (index s) in
-    let e = ap (λ (l : List ℤ). getD l k (pos 0)) (s .before .before .pre .1) ∙ target-entry k (index-below s) ∙ ap xTarget (place s) in
+    let e = ap (λ (l : List ℤ). getD l k (pos 0)) (s .before .before .before .before .pre .1) ∙ target-entry k (index-below s) ∙ ap xTarget (place s) in
     rw (plain (x-fits s), plain (index-fits s)) (ap (λ (z : ℤ). toZ w32 (ofZ w32 z)) e ∙ plain (target-fits s))
 
 pub target-spec : {M : Type 1} → statement M

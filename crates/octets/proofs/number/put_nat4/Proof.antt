@@ -1,35 +1,21 @@
--- `octets::number::put_nat4` meets its contract: the stores are those of `sets`.
+-- `octets::number::put_nat4` meets its contract: two bytes, and two more.
 -- Assumes nothing.
-use mathlib.Core.Path.{_≡_, refl}
-use Prim.Native.Nat.{suc, _+_}
-use native.Mathlib.Nat.{div-one}
 use native.Mathlib.Omega.{arith}
-use lib.ListN.{length-set}
-use Rattle.octets.specs.Octets.{bytes}
 use borrow.Author.Needs.{needs}
+use Rattle.octets.specs.Octets.{bytes}
+use Rattle.octets.specs.WordLaws.{bytes-halves}
+use Rattle.octets.specs.Write.{then, named}
 use Rattle.octets.proofs.number.put_nat4.Statement.{statement}
 use Rattle.octets.proofs.number.put_nat4.Tie as tie
 
-slice-write-out-2 : tie.Need-slice-write-out-2
-slice-write-out-2 c = simp length-set (omega arith)
-
-slice-write-out-3 : tie.Need-slice-write-out-3
-slice-write-out-3 c = simp length-set (omega arith)
-
-slice-write-out-4 : tie.Need-slice-write-out-4
-slice-write-out-4 c = simp length-set (omega arith)
+put-nat2-requires-2 : tie.Need-put-nat2-requires-2
+unfolding bytes
+put-nat2-requires-2 c κs = let p = c .before .before .before .put-nat2 in omega (arith, p .ensures .next-is, p .kept .0)
 
 returns : tie.Need-returns
-unfolding bytes
 returns c =
-    let at = c .args .at in
-    let e : at + 1 ≡ suc at = omega arith in
-    let f : at + 2 ≡ suc (suc at) = omega arith in
-    let g : at + 3 ≡ suc (suc (suc at)) = omega arith in
-    record { buffer-is = rw (e, f, g, div-one); next-is = refl }
+    let b = c .before .before .before .before .before .before in
+    named (bytes-halves (b .before .before .before .args .n)) (then (b .put-nat2 .ensures) (c .before .before .put-nat22 .ensures))
 
 pub put-nat4-spec : {M : Type 1} → statement M
-put-nat4-spec =
-    tie.close
-    (tie.spec (λ c. search needs) (λ c. search needs) (λ c. search needs) (λ c. search needs) slice-write-out-2 (λ c. search needs)
-    (λ c. search needs) slice-write-out-3 (λ c. search needs) (λ c. search needs) slice-write-out-4 (λ c. search needs) (λ c. search needs) returns)
+put-nat4-spec = tie.close (tie.spec (λ c κs. search needs) put-nat2-requires-2 (λ c. search needs) returns)

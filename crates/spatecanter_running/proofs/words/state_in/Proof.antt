@@ -5,7 +5,7 @@ use borrow.Author.Needs.{needs}
 use lib.Dec.{eqb}
 use lib.ListN.{getD}
 use Rattle.spatecanter_running.specs.Words.{modesIn}
-use Rattle.spatecanter_running.specs.WordsLaws.{held}
+use Rattle.spatecanter_running.specs.WordsLaws.{word-held}
 use Rattle.spatecanter_running.proofs.words.state_in.Statement.{statement}
 use Rattle.spatecanter_running.proofs.words.state_in.Tie as tie
 
@@ -13,8 +13,8 @@ returns : tie.Need-returns
 returns c =
     let w = c .before .before .before .args .t1 in
     let m = c .before .before .machine-in .ensures in
-    let x = held (getD w 15 0) (c .before .signed-in .ensures) in
-    let h = held (getD w 16 0) (c .signed-in2 .ensures) in
+    let x = word-held (getD w 15 0) (c .before .signed-in .ensures) in
+    let h = word-held (getD w 16 0) (c .signed-in2 .ensures) in
     (λ i. record {
       machine = m i;
       initialized = eqb (getD w 4 0) 1;

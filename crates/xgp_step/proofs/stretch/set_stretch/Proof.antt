@@ -47,6 +47,9 @@ ends c e =
 low-font : (s : tie.Start Inv-loop μ-loop) → SFits w32 (pos (s .args .s .font))
 low-font s = omega integers
 
+y-fits : (s : tie.Start Inv-loop μ-loop) → SFits w32 (s .args .y .0)
+y-fits s = search needs
+
 -- one character
 module _ (c : tie.After-known-told Inv-loop μ-loop) where
   abbrev loop : tie.At-loop Inv-loop μ-loop
@@ -75,7 +78,7 @@ module _ (c : tie.After-known-told Inv-loop μ-loop) where
       let k = reach-to z (c .before .before .before .sum .ensures) (λ i. toZ w32 (loop .loop .x) +ℤ v i) (g .1) in
       let h = start .pre .0 .1 .1 .1 in
       ran-next (a .widths .now) (a .spacing) (a .file .now) (a .s) (a .from) (a .y .0) after (i .1 .0 .0) (c .before .before .before .before .before .before .before .before .loop-test .taken) (c .before .before .before .before .before .before .if1 .left) (c .before .before .before .before .before .if2 .left) (start .pre .0 .1 .1 .0)
-      (sym (ap fits32 h) ∙ true-fits32 (a .y .0) (search needs)) h (k .0) (plain {w = w32} {z = g .0 .0} (search needs) ∙ k .1)
+      (sym (ap fits32 h) ∙ true-fits32 (a .y .0) (y-fits start)) h (k .0) (plain {w = w32} {z = g .0 .0} (search needs) ∙ k .1)
 
   room : start .args .writing ≡ true → length (markFields (loop .loop .inv .0)) + 16 + start .args .first + 7 ≤ length (start .args .out .now)
   room w =
@@ -102,20 +105,11 @@ loop-holds c =
     let x = plain {w = w32} {z = a .s .x .0} (search needs) in
     ([], ((subst (λ (z : ℤ). Ran (a .widths .now) (a .spacing) (a .file .now) (a .s) (a .from) (a .from) z []) (sym x) (ran-start (a .widths .now) (a .spacing) (a .file .now) (a .s) (a .from) (s .pre .0 .0 .0)), put-none (a .writing) (a .out .now) (a .first)), refl))
 
-shared-slice-read-b : tie.Need-shared-slice-read-b Inv-loop μ-loop
-shared-slice-read-b c = search needs
-
-stretch-to-requires : tie.Need-stretch-to-requires Inv-loop μ-loop
-stretch-to-requires c κs = search needs
-
 same-length : tie.Need-same-length Inv-loop μ-loop
 same-length c = c .before .before .before .before .loop .inv .1 .1
 
 returns : tie.Need-returns Inv-loop μ-loop
 returns c = ends (c .before .before .before .before) (c .stretch-to .ensures)
-
-stretch-to-requires-2 : tie.Need-stretch-to-requires-2 Inv-loop μ-loop
-stretch-to-requires-2 c κs = search needs
 
 same-length-2 : tie.Need-same-length-2 Inv-loop μ-loop
 same-length-2 c = c .before .before .before .before .before .loop .inv .1 .1
@@ -123,17 +117,8 @@ same-length-2 c = c .before .before .before .before .before .loop .inv .1 .1
 returns-2 : tie.Need-returns-2 Inv-loop μ-loop
 returns-2 c = ends (c .before .before .before .before .before) (c .stretch-to2 .ensures)
 
-width-of-requires : tie.Need-width-of-requires Inv-loop μ-loop
-width-of-requires c κs = search needs
-
-sum-requires : tie.Need-sum-requires Inv-loop μ-loop
-sum-requires c κs = search needs
-
-enum-known-sum : tie.Need-enum-known-sum Inv-loop μ-loop
-enum-known-sum c = search needs
-
 cast-show-char : tie.Need-cast-show-char Inv-loop μ-loop
-cast-show-char c = search needs
+cast-show-char c = low-font (start (c .before))
 
 show-char-requires : tie.Need-show-char-requires Inv-loop μ-loop
 show-char-requires c κs =
@@ -155,25 +140,16 @@ loop-again c =
     let a = s .args in
     let i = loop t .loop .inv in
     let p = c .before .before .show-char in
-    let y = plain {w = w32} {z = a .y .0} (search needs) in
+    let y = plain (y-fits s) in
     let e = plain-pos (low-font s) in
     let q = put-one (mark t) (put-named (λ i. markField (charMark (toZ w32 (loop t .loop .x)) (y i) (e i) (byte t))) (p .ensures)) in
     (_, ((further t, put-then (i .0) (mark t ∷ []) (i .1 .0 .1) q), p .kept .0 ∙ i .1 .1))
-
-enum-told : tie.Need-enum-told Inv-loop μ-loop
-enum-told c = search needs
-
-stretch-to-requires-3 : tie.Need-stretch-to-requires-3 Inv-loop μ-loop
-stretch-to-requires-3 c κs = search needs
 
 same-length-3 : tie.Need-same-length-3 Inv-loop μ-loop
 same-length-3 c = c .before .before .before .before .before .before .before .before .before .loop .inv .1 .1
 
 returns-3 : tie.Need-returns-3 Inv-loop μ-loop
 returns-3 c = ends (c .before .before .before .before .before .before .before .before .before) (c .stretch-to3 .ensures)
-
-stretch-to-requires-4 : tie.Need-stretch-to-requires-4 Inv-loop μ-loop
-stretch-to-requires-4 c κs = search needs
 
 same-length-4 : tie.Need-same-length-4 Inv-loop μ-loop
 same-length-4 c = c .before .before .loop .inv .1 .1
@@ -184,29 +160,6 @@ returns-4 c = ends (c .before .before) (c .stretch-to4 .ensures)
 pub set-stretch-spec : {M : Type 1} → statement M
 set-stretch-spec =
     tie.close
-    (tie.spec
-    Inv-loop
-    μ-loop
-    loop-holds
-    shared-slice-read-b
-    stretch-to-requires
-    same-length
-    returns
-    stretch-to-requires-2
-    same-length-2
-    returns-2
-    width-of-requires
-    sum-requires
-    enum-known-sum
-    cast-show-char
-    show-char-requires
-    add-at
-    loop-less
-    loop-again
-    enum-told
-    stretch-to-requires-3
-    same-length-3
-    returns-3
-    stretch-to-requires-4
-    same-length-4
-    returns-4)
+    (tie.spec Inv-loop μ-loop loop-holds (λ c. search needs) (λ c κs. search needs) same-length returns (λ c κs. search needs) same-length-2 returns-2
+    (λ c κs. search needs) (λ c κs. search needs) (λ c. search needs) cast-show-char show-char-requires add-at loop-less loop-again
+    (λ c. search needs) (λ c κs. search needs) same-length-3 returns-3 (λ c κs. search needs) same-length-4 returns-4)

@@ -27,8 +27,8 @@ use Rattle.tape.specs.Tape.{machineOf}
 use Rattle.running.specs.declared.Phase.the-variants.{AtRest}
 use Rattle.running.specs.declared.Running.{Running}
 use Rattle.running.specs.Running.{Replied, fresh, startOn, startOf, grown}
-use Rattle.session_laws.specs.Session.{Call, starting, given, tapeAfter, output}
-use Rattle.session_laws.specs.SessionLaws.{Later, resting, Kind, roomless, still, keeps, adds, finishes, kind-of, stuck-gives}
+use Rattle.running_laws.specs.Calls.{Call, starting, given, tapeAfter, output}
+use Rattle.running_laws.specs.CallsLaws.{Later, resting, Kind, roomless, still, keeps, adds, finishes, kind-of, stuck-gives}
 
 -- ---- what has gone out since the start
 

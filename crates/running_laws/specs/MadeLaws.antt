@@ -29,9 +29,9 @@ use Rattle.tape.specs.RunLaws.{FaultIn, run-fault}
 use Rattle.running.specs.declared.Phase.the-variants.{AtRest, Failed}
 use Rattle.running.specs.declared.Running.{Running}
 use Rattle.running.specs.Running.{Replied, putting, isSound, startOn, startOf, grown, pieceEnds, feedOpen, feedOf, atRest, closeOpen, closeOf}
-use Rattle.session_laws.specs.Session.{Call, starting, piece, closing, given, MadeByCalls, new, by-call}
-use Rattle.session_laws.specs.SessionLaws.{Later, a-piece, a-close, Stuck, failed-at, resting, unsound, Kind, roomless, still, keeps, adds, finishes, kind-of, stuck-gives}
-use Rattle.session_laws.specs.FedLaws.{goingAt, going-sound, on-ends, grows}
+use Rattle.running_laws.specs.Calls.{Call, starting, piece, closing, given, MadeByCalls, new, by-call}
+use Rattle.running_laws.specs.CallsLaws.{Later, a-piece, a-close, Stuck, failed-at, resting, unsound, Kind, roomless, still, keeps, adds, finishes, kind-of, stuck-gives}
+use Rattle.running_laws.specs.FedLaws.{goingAt, going-sound, on-ends, grows}
 
 -- at rest, refused for good, or open after some bytes
 pub data Status : Running → Type 0 where

@@ -1,4 +1,4 @@
--- `galley::magnitude` meets its contract. a test's outcome is rewritten to the numbers, and then `omega integers` reads it.
+-- `galley::absolute` meets its contract: what the test says of the number decides its sign.
 -- Assumes nothing.
 use Prim.Native.Nat.{_+_}
 use lib.IntN.{negℤ, +ℤ-idl}
@@ -7,8 +7,8 @@ use mir.Val.{SFits}
 use borrow.Author.Needs.{needs}
 use Rattle.integers.specs.Parts.{integers, bounds, neg-up, neg-dn, abs-parts, nonNeg-by}
 use Rattle.integers.specs.Bits.{plain, wide, widened}
-use Rattle.galley.proofs.magnitude.Statement.{statement}
-use Rattle.galley.proofs.magnitude.Tie as tie
+use Rattle.galley.proofs.absolute.Statement.{statement}
+use Rattle.galley.proofs.absolute.Tie as tie
 
 cast-result : tie.Need-cast-result
 cast-result c = rw (plain (c .before .fits .z)) (wide (c .before .fits .z))
@@ -42,5 +42,5 @@ returns c =
     let a = s .args .z in
     rw (widened (s .fits .z), +ℤ-idl, plain (neg-fits s)) (omega (integers, abs-parts (negℤ a), abs-parts a, neg-up a, neg-dn a))
 
-pub magnitude-spec : {M : Type 1} → statement M
-magnitude-spec = tie.close (tie.spec cast-result sub-result cast-result-2 cast-result-3 returns (λ c. search needs))
+pub absolute-spec : {M : Type 1} → statement M
+absolute-spec = tie.close (tie.spec cast-result sub-result cast-result-2 cast-result-3 returns (λ c. search needs))

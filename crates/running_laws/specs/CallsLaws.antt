@@ -1,6 +1,6 @@
--- The laws of sessions.
+-- The laws of calls one after another.
 --     room-keeps      a piece or closing refused for room leaves the running tape as it was
---     without-room    a session gives what it gives without its refusals for room
+--     without-room    calls give what they give without those that were refused for room
 --     repeats         any other refusal of a piece or closing is given again by each later one, until a start
 --     refused-keeps   a refusal changes no lent byte
 -- Each is of every running tape, whoever made it.
@@ -34,7 +34,7 @@ use Rattle.running.specs.declared.Phase.the-variants.{AtRest, Open, Failed}
 use Rattle.running.specs.declared.Running.{Running}
 use Rattle.running.specs.Running.{Replied, refusing, failing, isSound, inPhase, startOn, startOf, grown, pieceEnds, feedWithin, feedOpen, feedOf, atRest, closeOpen, closeOf}
 use Rattle.running.specs.RunningLaws.{sound-tape, feed-unsound, close-unsound}
-use Rattle.session_laws.specs.Session.{Call, starting, piece, closing, given, tapeAfter, results, output, isRoom, withoutRoom, withoutRooms}
+use Rattle.running_laws.specs.Calls.{Call, starting, piece, closing, given, tapeAfter, results, output, isRoom, withoutRoom, withoutRooms}
 
 -- ---- what a piece or the close can give
 

@@ -1,13 +1,13 @@
--- Sessions: calls on a running tape, one after another (document 02, "From the tape drive").
+-- Calls on a running tape, one after another (document 02, "From the tape drive").
 --     Call            a start, a piece or the close, and given what it gives
 --     tapeAfter       the running tape after some calls, and tapeGiven after one
 --     results         what they give, one after another
 --     output          the bytes that they write, joined, and bytesGiven those of one
 --     MadeByCalls     a running tape that these calls alone have made
---     withoutRoom     the calls of a session that were not refused for room
+--     withoutRoom     the calls that were not refused for room
 --     Piece           some bytes of a tape and the room lent with them; wholeTape the tape that pieces are cut from
 --     RoomFor         there is room for a piece, and RoomForEach for each of some
---     session         a start, the pieces and the close
+--     callsFor        a start, the pieces and the close
 use Prim.Native.Nat.{ℕ, _+_, _≤_}
 use mathlib.Core.Path.{_≡_}
 use mathlib.Core.Bool.{Bool, false, cond}
@@ -87,8 +87,8 @@ unfoldable pub pieces : List Piece → List Call
 pieces [] = []
 pieces (p ∷ ps) = piece (p .codes) (p .room) ∷ pieces ps
 
-unfoldable pub session : ℕ → List Piece → ℕ → List Call
-session machine ps room = starting machine ∷ (pieces ps ++ (closing room ∷ []))
+unfoldable pub callsFor : ℕ → List Piece → ℕ → List Call
+callsFor machine ps room = starting machine ∷ (pieces ps ++ (closing room ∷ []))
 
 -- "room for each piece", after the bytes xs: for the fields of what it sets on this machine, where it has no fault
 abbrev pub RoomFor : Machine → List ℕ → List ℕ → ℕ → Type 0

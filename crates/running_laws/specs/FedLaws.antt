@@ -37,7 +37,7 @@ use Rattle.running.specs.declared.Phase.the-variants.{Open, Failed}
 use Rattle.running.specs.declared.Running.{Running}
 use Rattle.running.specs.Running.{Replied, failing, isSound, fresh, grown, feedWithin, feedOf}
 use Rattle.running.specs.RunningLaws.{tape-sound, feed-phase, feed-long, feed-fits, piece-fault, piece-whole}
-use Rattle.session_laws.specs.Session.{RoomFor}
+use Rattle.running_laws.specs.Calls.{RoomFor}
 
 pub never : {t : State} {n place : ℕ} {X : Type 0} → Fault n place ≡ Reached t → X
 never e = absurd (suc-ne-zero 0 cc)

@@ -1,6 +1,6 @@
--- `session::start` meets its contract: a walk of its MIR, by hand, as that of `feed`, with a number in place of the piece and the buffer.
+-- `kept_tape::start` meets its contract: a walk of its MIR, by hand, as that of `feed`, with a number in place of the piece and the buffer.
 -- Assumes nothing.
-use Rattle.session.proofs.Walk.{_≡_, refl, ℕ, _<_, _^_, [], _∷_, List, URA, fullShare, named, w32, Val, vint, vptr, SProp, ent, emp, via, fst∗, snd∗, exE, id⊢, GName, Lft, Share, ftrue, fat, flft, fobs, fbor, Memory, Routine, Heap, Calls, Loops, WpFn, Tables, Atoms, sem, Fun, fact, givenOf, tables, tablesOf, Given, ‵, raw, some, later, _⊛_, ⋆, _$_, _∵_, !, qed, by, move, drop, use1, split, join, pick, rewrite, fsplit, fsplit3, fjoin, fjoin3, feqI, suffices, frame, await, done, look, look-raw, init, store-raw, forget, stop, hop, fld, from, load, of-opd, and-then, no-more, assigns, land, returns, enter, alloc1, alloc0, params1, pass1, pass0, free1, free0, whole, sub, look-in, Body, FmC, fmOf, WpFn-mono, owns, mem, Is, shows, u32, RefT, MutRef, ptr-vals, mut-tells, uint-vals, uint-tells, uint-makes, plain, owned, facts, heard, nothing, onEntry, Meets, tripleOf, Contract, Triple, calls-at, ensured, lasts, entered, cited, says, Stays, stay-ref, stay-dropped, walkOf, goes-ref, goes-dropped, Walks, ends-at, walked, walk-meets, yes}
+use Rattle.kept_tape.proofs.Walk.{_≡_, refl, ℕ, _<_, _^_, [], _∷_, List, URA, fullShare, named, w32, Val, vint, vptr, SProp, ent, emp, via, fst∗, snd∗, exE, id⊢, GName, Lft, Share, ftrue, fat, flft, fobs, fbor, Memory, Routine, Heap, Calls, Loops, WpFn, Tables, Atoms, sem, Fun, fact, givenOf, tables, tablesOf, Given, ‵, raw, some, later, _⊛_, ⋆, _$_, _∵_, !, qed, by, move, drop, use1, split, join, pick, rewrite, fsplit, fsplit3, fjoin, fjoin3, feqI, suffices, frame, await, done, look, look-raw, init, store-raw, forget, stop, hop, fld, from, load, of-opd, and-then, no-more, assigns, land, returns, enter, alloc1, alloc0, params1, pass1, pass0, free1, free0, whole, sub, look-in, Body, FmC, fmOf, WpFn-mono, owns, mem, Is, shows, u32, RefT, MutRef, ptr-vals, mut-tells, uint-vals, uint-tells, uint-makes, plain, owned, facts, heard, nothing, onEntry, Meets, tripleOf, Contract, Triple, calls-at, ensured, lasts, entered, cited, says, Stays, stay-ref, stay-dropped, walkOf, goes-ref, goes-dropped, Walks, ends-at, walked, walk-meets, yes}
 use denote.Struct.Laws as LL
 use denote.Enum.Laws as EL
 use Rattle.running.specs.Running.{startOf}
@@ -13,15 +13,15 @@ use Rattle.running.proofs.Reply as P
 use Rattle.running.proofs.Reply.Laws as P′
 use Rattle.octets.proofs.answer.Answer as N
 use Rattle.octets.proofs.answer.Answer.Laws as N′
-use Rattle.session.proofs.Thin.{mach, ans, IsTape, IsAns, parts, told, typed-tape, typed-reply, typed-ans, opens-tape, closes-tape}
+use Rattle.kept_tape.proofs.Thin.{mach, ans, IsTape, IsAns, parts, told, typed-tape, typed-reply, typed-ans, opens-tape, closes-tape}
 use Rattle.running.proofs.started as started
 use Rattle.running.proofs.started.Symbol as started-def
 use Rattle.running.proofs.started.Symbol.{name as #running·started}
 use Rattle.running.proofs.started.Met as started-thm
-use Rattle.session.proofs.start.Key.{name as #session·start}
-use Rattle.session.proofs.start as start
-use Rattle.session.proofs.start.Statement as stated
-use Rattle.session.proofs.start.Code as code
+use Rattle.kept_tape.proofs.start.Key.{name as #kept_tape·start}
+use Rattle.kept_tape.proofs.start as start
+use Rattle.kept_tape.proofs.start.Statement as stated
+use Rattle.kept_tape.proofs.start.Code as code
 
 abbrev stayed : Stays (start.ended .signature .params) (start.ended .kept)
 stayed = (stay-ref (0 ∷ []) tt (plain (λ _. T.the-row)), (stay-dropped (plain (λ _. u32)) yes, tt))
@@ -109,6 +109,6 @@ pub start-spec : {M : Type 1} → stated.statement M
 unfolding code.routine tablesOf
 start-spec 𝓤 H 𝓜 𝓖 𝓡 =
     entered 𝓤 H (tripleOf 𝓤 H (𝓖 .A) start.signature (start.spec 𝓤 H (𝓖 .A) (𝓜 .mem) (𝓡 .run)))
-    (tables 𝓤 H 𝓜 𝓡 code.env .C) (tables 𝓤 H 𝓜 𝓡 code.env .Λ) #session·start code.function (code.unfolded 𝓤 H 𝓜 𝓡)
+    (tables 𝓤 H 𝓜 𝓡 code.env .C) (tables 𝓤 H 𝓜 𝓡 code.env .Λ) #kept_tape·start code.function (code.unfolded 𝓤 H 𝓜 𝓡)
     (start-meets 𝓤 H (𝓖 .A) (givenOf 𝓤 H 𝓜 𝓖) (𝓜 .mem) (𝓡 .run) (tablesOf 𝓤 H 𝓜 (tables 𝓤 H 𝓜 𝓡 code.env))
     (cited 𝓤 H (Started 𝓤 H (𝓖 .A) (𝓜 .mem) (𝓡 .run)) 𝓜 𝓡 code.env #running·started started-def.routine code.calls-running·started (started-thm.met 𝓤 H 𝓜 𝓖 𝓡)))

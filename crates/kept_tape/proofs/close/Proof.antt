@@ -1,6 +1,6 @@
--- `session::close` meets its contract: a walk of its MIR, by hand, as that of `feed`, without a piece.
+-- `kept_tape::close` meets its contract: a walk of its MIR, by hand, as that of `feed`, without a piece.
 -- Assumes nothing.
-use Rattle.session.proofs.Walk.{_≡_, refl, ℕ, [], _∷_, List, length, URA, fullShare, named, Val, vptr, SProp, ent, emp, via, fst∗, id⊢, GName, Lft, Share, ftrue, fat, flft, fobs, fbor, Memory, Routine, Heap, Calls, Loops, WpFn, Tables, Atoms, Fun, fact, givenOf, tables, tablesOf, Given, ‵, raw, some, later, _⊛_, ⋆, _$_, _∵_, !, qed, by, move, drop, use1, use2, split, join, pick, rewrite, fsplit, fsplit3, fjoin, fjoin3, feqL, feqI, suffices, frame, await, done, look, look-raw, init, store-raw, forget, stop, hop, fld, from, load, addr, of-opd, and-then, no-more, assigns, land, returns, enter, alloc1, alloc0, params1, pass1, pass0, free1, free0, agg, whole, sub, look-in, Body, FmC, fmOf, WpFn-mono, owns, mem, Is, shows, u8, RefT, MutRef, ptr-vals, mut-tells, sliceVal, slice-vals, MutSlice, Room, finally, mut-slice-tells, plain, owned, facts, heard, nothing, onEntry, Meets, tripleOf, Contract, Triple, calls-at, ensured, lasts, entered, cited, says, Stays, stay-ref, gave-slice, walkOf, goes-ref, goes-gave-slice, Walks, ends-at, walked, walk-meets}
+use Rattle.kept_tape.proofs.Walk.{_≡_, refl, ℕ, [], _∷_, List, length, URA, fullShare, named, Val, vptr, SProp, ent, emp, via, fst∗, id⊢, GName, Lft, Share, ftrue, fat, flft, fobs, fbor, Memory, Routine, Heap, Calls, Loops, WpFn, Tables, Atoms, Fun, fact, givenOf, tables, tablesOf, Given, ‵, raw, some, later, _⊛_, ⋆, _$_, _∵_, !, qed, by, move, drop, use1, use2, split, join, pick, rewrite, fsplit, fsplit3, fjoin, fjoin3, feqL, feqI, suffices, frame, await, done, look, look-raw, init, store-raw, forget, stop, hop, fld, from, load, addr, of-opd, and-then, no-more, assigns, land, returns, enter, alloc1, alloc0, params1, pass1, pass0, free1, free0, agg, whole, sub, look-in, Body, FmC, fmOf, WpFn-mono, owns, mem, Is, shows, u8, RefT, MutRef, ptr-vals, mut-tells, sliceVal, slice-vals, MutSlice, Room, finally, mut-slice-tells, plain, owned, facts, heard, nothing, onEntry, Meets, tripleOf, Contract, Triple, calls-at, ensured, lasts, entered, cited, says, Stays, stay-ref, gave-slice, walkOf, goes-ref, goes-gave-slice, Walks, ends-at, walked, walk-meets}
 use denote.Struct.Laws as LL
 use denote.Enum.Laws as EL
 use Rattle.octets.specs.Answer.{outcomeOf}
@@ -13,15 +13,15 @@ use Rattle.running.proofs.Reply as P
 use Rattle.running.proofs.Reply.Laws as P′
 use Rattle.octets.proofs.answer.Answer as N
 use Rattle.octets.proofs.answer.Answer.Laws as N′
-use Rattle.session.proofs.Thin.{mach, ans, IsTape, IsAns, parts, told, typed-tape, typed-reply, typed-ans, opens-tape, closes-tape}
+use Rattle.kept_tape.proofs.Thin.{mach, ans, IsTape, IsAns, parts, told, typed-tape, typed-reply, typed-ans, opens-tape, closes-tape}
 use Rattle.running.proofs.closed as closed
 use Rattle.running.proofs.closed.Symbol as closed-def
 use Rattle.running.proofs.closed.Symbol.{name as #running·closed}
 use Rattle.running.proofs.closed.Met as closed-thm
-use Rattle.session.proofs.close.Key.{name as #session·close}
-use Rattle.session.proofs.close as close
-use Rattle.session.proofs.close.Statement as stated
-use Rattle.session.proofs.close.Code as code
+use Rattle.kept_tape.proofs.close.Key.{name as #kept_tape·close}
+use Rattle.kept_tape.proofs.close as close
+use Rattle.kept_tape.proofs.close.Statement as stated
+use Rattle.kept_tape.proofs.close.Code as code
 
 abbrev stayed : Stays (close.ended .signature .params) (close.ended .kept)
 stayed = (stay-ref (0 ∷ []) tt (plain (λ _. T.the-row)), (gave-slice (1 ∷ []) tt (plain (λ _. u8)), tt))
@@ -116,6 +116,6 @@ pub close-spec : {M : Type 1} → stated.statement M
 unfolding code.routine tablesOf
 close-spec 𝓤 H 𝓜 𝓖 𝓡 =
     entered 𝓤 H (tripleOf 𝓤 H (𝓖 .A) close.signature (close.spec 𝓤 H (𝓖 .A) (𝓜 .mem) (𝓡 .run)))
-    (tables 𝓤 H 𝓜 𝓡 code.env .C) (tables 𝓤 H 𝓜 𝓡 code.env .Λ) #session·close code.function (code.unfolded 𝓤 H 𝓜 𝓡)
+    (tables 𝓤 H 𝓜 𝓡 code.env .C) (tables 𝓤 H 𝓜 𝓡 code.env .Λ) #kept_tape·close code.function (code.unfolded 𝓤 H 𝓜 𝓡)
     (close-meets 𝓤 H (𝓖 .A) (givenOf 𝓤 H 𝓜 𝓖) (𝓜 .mem) (𝓡 .run) (tablesOf 𝓤 H 𝓜 (tables 𝓤 H 𝓜 𝓡 code.env))
     (cited 𝓤 H (Closed 𝓤 H (𝓖 .A) (𝓜 .mem) (𝓡 .run)) 𝓜 𝓡 code.env #running·closed closed-def.routine code.calls-running·closed (closed-thm.met 𝓤 H 𝓜 𝓖 𝓡)))

@@ -1,8 +1,8 @@
--- `session_piece::feed` meets its contract: a walk of its MIR, by hand. The borrow of the running tape is opened and the whole struct is copied out; `fed` is called on it, the piece and the buffer; and the struct that `fed` gave back is stored over the old one.
+-- `kept_piece::feed` meets its contract: a walk of its MIR, by hand. The borrow of the running tape is opened and the whole struct is copied out; `fed` is called on it, the piece and the buffer; and the struct that `fed` gave back is stored over the old one.
 -- No line names a field of `Running`: its machine value stays `vals h`, so that other fields change nothing here. All that the proof knows of `fed` is that it meets its contract.
 -- `out` goes to `fed` at its own lifetime, and is given up for good (`gave-slice`); of `piece` nothing is kept (`stay-dropped`).
 -- Assumes nothing.
-use Rattle.session.proofs.Walk.{_≡_, refl, ℕ, [], _∷_, List, length, URA, fullShare, named, Val, vptr, SProp, ent, emp, via, fst∗, id⊢, GName, Lft, Share, ftrue, fat, flft, fobs, fbor, Memory, Routine, Heap, Calls, Loops, WpFn, Tables, Atoms, Fun, fact, givenOf, tables, tablesOf, Given, ‵, raw, some, later, _⊛_, ⋆, _$_, _∵_, !, qed, by, move, drop, use1, use3, split, join, pick, rewrite, fsplit, fsplit3, fjoin, fjoin3, feqL, feqI, suffices, frame, await, done, look, look-raw, init, store-raw, forget, stop, hop, fld, from, load, addr, of-opd, and-then, no-more, assigns, land, returns, enter, alloc1, alloc0, params1, pass1, pass0, free1, free0, agg, whole, sub, look-in, Body, FmC, fmOf, WpFn-mono, owns, mem, Is, shows, u8, RefT, MutRef, ptr-vals, mut-tells, sliceVal, slice-vals, MutSlice, ShrSlice, Room, finally, mut-slice-tells, shr-slice-tells, plain, shrSliceOf, owned, facts, heard, nothing, onEntry, Meets, tripleOf, Contract, Triple, calls-at, ensured, lasts, entered, cited, says, Stays, stay-ref, stay-dropped, gave-slice, walkOf, goes-ref, goes-dropped, goes-gave-slice, Walks, ends-at, walked, walk-meets, yes}
+use Rattle.kept_tape.proofs.Walk.{_≡_, refl, ℕ, [], _∷_, List, length, URA, fullShare, named, Val, vptr, SProp, ent, emp, via, fst∗, id⊢, GName, Lft, Share, ftrue, fat, flft, fobs, fbor, Memory, Routine, Heap, Calls, Loops, WpFn, Tables, Atoms, Fun, fact, givenOf, tables, tablesOf, Given, ‵, raw, some, later, _⊛_, ⋆, _$_, _∵_, !, qed, by, move, drop, use1, use3, split, join, pick, rewrite, fsplit, fsplit3, fjoin, fjoin3, feqL, feqI, suffices, frame, await, done, look, look-raw, init, store-raw, forget, stop, hop, fld, from, load, addr, of-opd, and-then, no-more, assigns, land, returns, enter, alloc1, alloc0, params1, pass1, pass0, free1, free0, agg, whole, sub, look-in, Body, FmC, fmOf, WpFn-mono, owns, mem, Is, shows, u8, RefT, MutRef, ptr-vals, mut-tells, sliceVal, slice-vals, MutSlice, ShrSlice, Room, finally, mut-slice-tells, shr-slice-tells, plain, shrSliceOf, owned, facts, heard, nothing, onEntry, Meets, tripleOf, Contract, Triple, calls-at, ensured, lasts, entered, cited, says, Stays, stay-ref, stay-dropped, gave-slice, walkOf, goes-ref, goes-dropped, goes-gave-slice, Walks, ends-at, walked, walk-meets, yes}
 use denote.Struct.Laws as LL
 use denote.Enum.Laws as EL
 use Rattle.octets.specs.Answer.{outcomeOf}
@@ -16,15 +16,15 @@ use Rattle.running.proofs.Reply as P
 use Rattle.running.proofs.Reply.Laws as P′
 use Rattle.octets.proofs.answer.Answer as N
 use Rattle.octets.proofs.answer.Answer.Laws as N′
-use Rattle.session.proofs.Thin.{mach, ans, IsTape, IsAns, parts, told, typed-tape, typed-reply, typed-ans, opens-tape, closes-tape}
+use Rattle.kept_tape.proofs.Thin.{mach, ans, IsTape, IsAns, parts, told, typed-tape, typed-reply, typed-ans, opens-tape, closes-tape}
 use Rattle.running_piece.proofs.fed as fed
 use Rattle.running_piece.proofs.fed.Symbol as fed-def
 use Rattle.running_piece.proofs.fed.Symbol.{name as #running_piece·fed}
 use Rattle.running_piece.proofs.fed.Met as fed-thm
-use Rattle.session_piece.proofs.feed.Key.{name as #session_piece·feed}
-use Rattle.session_piece.proofs.feed as feed
-use Rattle.session_piece.proofs.feed.Statement as stated
-use Rattle.session_piece.proofs.feed.Code as code
+use Rattle.kept_piece.proofs.feed.Key.{name as #kept_piece·feed}
+use Rattle.kept_piece.proofs.feed as feed
+use Rattle.kept_piece.proofs.feed.Statement as stated
+use Rattle.kept_piece.proofs.feed.Code as code
 
 abbrev stayed : Stays (feed.ended .signature .params) (feed.ended .kept)
 stayed = (stay-ref (0 ∷ []) tt (plain (λ _. T.the-row)), (stay-dropped (shrSliceOf (1 ∷ []) tt (plain (λ _. u8))) yes, (gave-slice (2 ∷ []) tt (plain (λ _. u8)), tt)))
@@ -120,6 +120,6 @@ pub feed-spec : {M : Type 1} → stated.statement M
 unfolding code.routine tablesOf
 feed-spec 𝓤 H 𝓜 𝓖 𝓡 =
     entered 𝓤 H (tripleOf 𝓤 H (𝓖 .A) feed.signature (feed.spec 𝓤 H (𝓖 .A) (𝓜 .mem) (𝓡 .run)))
-    (tables 𝓤 H 𝓜 𝓡 code.env .C) (tables 𝓤 H 𝓜 𝓡 code.env .Λ) #session_piece·feed code.function (code.unfolded 𝓤 H 𝓜 𝓡)
+    (tables 𝓤 H 𝓜 𝓡 code.env .C) (tables 𝓤 H 𝓜 𝓡 code.env .Λ) #kept_piece·feed code.function (code.unfolded 𝓤 H 𝓜 𝓡)
     (feed-meets 𝓤 H (𝓖 .A) (givenOf 𝓤 H 𝓜 𝓖) (𝓜 .mem) (𝓡 .run) (tablesOf 𝓤 H 𝓜 (tables 𝓤 H 𝓜 𝓡 code.env))
     (cited 𝓤 H (Fed 𝓤 H (𝓖 .A) (𝓜 .mem) (𝓡 .run)) 𝓜 𝓡 code.env #running_piece·fed fed-def.routine code.calls-running-piece·fed (fed-thm.met 𝓤 H 𝓜 𝓖 𝓡)))

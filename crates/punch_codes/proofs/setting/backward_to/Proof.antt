@@ -1,15 +1,15 @@
--- `punch_codes::setting::way_to` meets its contract: the tests are those of the definition.
+-- `punch_codes::setting::backward_to` meets its contract: the tests are those of the definition.
 -- Assumes nothing.
 use mathlib.Core.Path.{_≡_}
 use mathlib.Core.Bool.{false}
 use lib.Signed.{ltZ}
 use Rattle.integers.specs.Bits.{plain}
-use Rattle.punch_codes.specs.Codes.{wayTo}
-use Rattle.punch_codes.proofs.setting.way_to.Statement.{statement}
-use Rattle.punch_codes.proofs.setting.way_to.Tie as tie
+use Rattle.punch_codes.specs.Codes.{backwardTo}
+use Rattle.punch_codes.proofs.setting.backward_to.Statement.{statement}
+use Rattle.punch_codes.proofs.setting.backward_to.Tie as tie
 
 returns : tie.Need-returns
-unfolding wayTo
+unfolding backwardTo
 returns c =
     let f = c .before .fits in
     let l = rw (plain (f .to), plain (f .from)) at (c .if1 .taken) in
@@ -21,18 +21,18 @@ module _ (c : tie.Else1) where
   not-before = rw (plain (c .before .fits .to), plain (c .before .fits .from)) at (c .if1 .left)
 
 returns-2 : tie.Need-returns-2
-unfolding wayTo
+unfolding backwardTo
 returns-2 c =
     let f = c .before .before .fits in
     let m = rw (plain (f .to), plain (f .from)) at (c .if2 .taken) in
     rw (not-before (c .before), m)
 
 returns-3 : tie.Need-returns-3
-unfolding wayTo
+unfolding backwardTo
 returns-3 c =
     let f = c .before .before .fits in
     let m = rw (plain (f .to), plain (f .from)) at (c .if2 .left) in
     rw (not-before (c .before), m)
 
-pub way-to-spec : {M : Type 1} → statement M
-way-to-spec = tie.close (tie.spec returns returns-2 returns-3)
+pub backward-to-spec : {M : Type 1} → statement M
+backward-to-spec = tie.close (tie.spec returns returns-2 returns-3)

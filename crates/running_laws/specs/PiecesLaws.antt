@@ -34,9 +34,9 @@ use Rattle.tape.specs.TapeLaws.{itemsOn}
 use Rattle.running.specs.declared.Running.{Running}
 use Rattle.running.specs.Running.{Replied, fresh, startOn, startOf, feedOf, closeOpen, closeOf}
 use Rattle.running.specs.RunningLaws.{close-phase, close-cut, close-unstopped, close-whole}
-use Rattle.session_laws.specs.Session.{Call, starting, closing, tapeGiven, tapeAfter, bytesGiven, output, withoutRoom, Piece, wholeTape, pieces, session, RoomForEach, none, more}
-use Rattle.session_laws.specs.SessionLaws.{a-piece, AllLater, Repeated, repeats, without-room}
-use Rattle.session_laws.specs.FedLaws.{never, goingAt, Stands, going, broken, going-sound, limit, fed, fault-stays, fresh-stands, stands-open}
+use Rattle.running_laws.specs.Calls.{Call, starting, closing, tapeGiven, tapeAfter, bytesGiven, output, withoutRoom, Piece, wholeTape, pieces, callsFor, RoomForEach, none, more}
+use Rattle.running_laws.specs.CallsLaws.{a-piece, AllLater, Repeated, repeats, without-room}
+use Rattle.running_laws.specs.FedLaws.{never, goingAt, Stands, going, broken, going-sound, limit, fed, fault-stays, fresh-stands, stands-open}
 
 module _ (kind : Machine) where
   abbrev ends : List ℕ → Ending
@@ -161,11 +161,11 @@ module _ (r : Running) (machine : ℕ) (kind : Machine) (named : machineOf machi
   pub record InPieces (room whole : ℕ) : Type 0 where
     pub number-is : numberOf (outcome (closeOf (tapeAfter r (starting machine ∷ pieces ps)) room .result)) ≡ numberOf (outcome (tapeResult (wholeTape ps) machine whole))
     pub place-is : placeOf (outcome (closeOf (tapeAfter r (starting machine ∷ pieces ps)) room .result)) ≡ placeOf (outcome (tapeResult (wholeTape ps) machine whole))
-    pub galley-is : (g : List ℕ) → tapeResult (wholeTape ps) machine whole ≡ written g → output r (session machine ps room) ≡ g
+    pub galley-is : (g : List ℕ) → tapeResult (wholeTape ps) machine whole ≡ written g → output r (callsFor machine ps room) ≡ g
 
   whole-output : (room : ℕ) {y : Result} → Final kind (wholeTape ps) (closeOf fedTape room .result) y → (g : List ℕ) → y ≡ written g
-      → output r (session machine ps room) ≡ g
-  unfolding session transduced
+      → output r (callsFor machine ps room) ≡ g
+  unfolding callsFor transduced
   whole-output room f g e =
       let k = f .galley-is g e in
       transduced-append bytesGiven tapeGiven r (starting machine ∷ pieces ps) (closing room ∷ [])
@@ -178,8 +178,8 @@ module _ (r : Running) (machine : ℕ) (kind : Machine) (named : machineOf machi
       let f = final kind after-pieces short machine named room whole close-room enough in
       record { number-is = f .number-is; place-is = f .place-is; galley-is = whole-output room f }
 
-  -- the same of a session in which calls are refused for room and offered again
+  -- the same where calls are refused for room and offered again
   pub again : (cs : List Call) (room whole : ℕ) → 7 ≤ room → length (galley New (itemsOn kind (wholeTape ps))) ≤ whole
-      → withoutRoom r cs ≡ session machine ps room
+      → withoutRoom r cs ≡ callsFor machine ps room
       → (g : List ℕ) → tapeResult (wholeTape ps) machine whole ≡ written g → output r cs ≡ g
   again cs room whole close-room enough q g e = sym (without-room r cs .output-is) ∙ ap (output r) q ∙ in-pieces room whole close-room enough .galley-is g e
