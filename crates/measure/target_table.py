@@ -5,7 +5,7 @@ HEAD = """\
 ghost use mathlib.Core.Path.{_≡_};
 ghost use Rattle·measure·specs.specs.Target.{xTargets};
 
-pub type TargetTable = [i32; crate::PLACES];
+pub type TargetTable = [i32; 3295];
 
 // The table, to be lent: an index into a constant copies the whole of it.
 pub fn targets() -> TargetTable

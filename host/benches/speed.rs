@@ -2,10 +2,8 @@
 //! run. `cargo bench` prints it.
 
 mod quick;
-#[path = "../tests/support/sample/mod.rs"]
-mod sample;
 
-use sample::{book, book_widths, stations, stations_widths, yearbook, STATIONS_SPACING};
+use spatecanter::sample::{book, book_widths, stations, stations_widths, yearbook, STATIONS_SPACING};
 use spatecanter::{
     Machine, Report, RunningTape, DVI_LIMIT, GALLEY_LIMIT, REPORT_LIMIT, REPORT_WORDS, TAPE_LIMIT, XGP_LIMIT,
 };
@@ -61,14 +59,14 @@ fn print_operations() {
     print_row("write a DVI file", "yearbook", &galley, &mut write_dvi(&galley));
     print_row("reprint", "yearbook", &galley, &mut reprint(&galley));
     print_row("write the second edition", "yearbook", &galley, &mut write_dvi2(&galley));
-    let second = spatecanter::write_dvi2(&galley).unwrap().into_bytes();
+    let second = spatecanter::write_dvi2(&galley).unwrap();
     print_row("read the second edition", "yearbook, as written", &second, &mut read_dvi2(&second));
     let short = galley_of_length(&tape, PUNCH_LIMIT);
     print_row("punch a tape", "yearbook", &short, &mut punch_tape(&short));
     let old = spatecanter::galley_to_old(&galley).unwrap();
     print_row("convert an old galley", "yearbook", &old, &mut galley_to_new(&old));
     print_row("convert back", "yearbook", &galley, &mut galley_to_old(&galley));
-    let written = spatecanter::write_dvi(&galley).unwrap().into_bytes();
+    let written = spatecanter::write_dvi(&galley).unwrap();
     print_row("read a DVI file", "yearbook, as written", &written, &mut read_dvi(&written, vec![]));
     print_row(
         "read it the plain way",
@@ -118,7 +116,7 @@ fn print_growth() {
         print_growth_row("write the second edition", &galley, &mut write_dvi2(&galley));
     }
     for length in lengths(GALLEY_LIMIT) {
-        let dvi = spatecanter::write_dvi2(&galley_of_length(&tape, length)).unwrap().into_bytes();
+        let dvi = spatecanter::write_dvi2(&galley_of_length(&tape, length)).unwrap();
         print_growth_row("read the second edition", &dvi, &mut read_dvi2(&dvi));
     }
     for length in lengths(PUNCH_LIMIT) {
@@ -130,7 +128,7 @@ fn print_growth() {
         print_growth_row("read a DVI file", &dvi, &mut read_dvi(&dvi, book_widths(SEED)));
     }
     for length in lengths(GALLEY_LIMIT) {
-        let dvi = spatecanter::write_dvi(&galley_of_length(&tape, length)).unwrap().into_bytes();
+        let dvi = spatecanter::write_dvi(&galley_of_length(&tape, length)).unwrap();
         print_growth_row("make it a galley again", &dvi, &mut dvi_to_galley(&dvi));
     }
     for length in lengths(DVI_LIMIT) {
@@ -150,7 +148,7 @@ fn lengths(limit: usize) -> impl Iterator<Item = usize> {
 
 /// A galley of at most so many bytes: the characters of an 8-font tape, over and over.
 fn galley_of_length(tape: &[u8], length: usize) -> Vec<u8> {
-    let page = spatecanter::read_tape(tape, Machine::Eight).unwrap().into_bytes();
+    let page = spatecanter::read_tape(tape, Machine::Eight).unwrap();
     let fields = &page[..page.len() - 7];
     let count = (length - 7) / 11;
     let mut galley: Vec<u8> = fields.iter().copied().cycle().take(11 * count).collect();
@@ -172,7 +170,7 @@ struct Contest<'a> {
 }
 
 fn read_tape(tape: &[u8], machine: Machine) -> Contest<'_> {
-    let room = spatecanter::read_tape(tape, machine).unwrap().byte_len();
+    let room = spatecanter::read_tape(tape, machine).unwrap().len();
     contest_of_one(
         room,
         move |galley| spatecanter::read_tape_into(tape, machine, galley).unwrap(),
@@ -182,7 +180,7 @@ fn read_tape(tape: &[u8], machine: Machine) -> Contest<'_> {
 
 /// A tape of the 8-font machine in pieces of so many bytes, whose fields are joined in one buffer.
 fn read_pieces(tape: &[u8], length: usize) -> Contest<'_> {
-    let room = spatecanter::read_tape(tape, Machine::Eight).unwrap().byte_len();
+    let room = spatecanter::read_tape(tape, Machine::Eight).unwrap().len();
     contest_of_one(
         room,
         move |galley| {
@@ -265,7 +263,7 @@ fn items(galley: &[u8]) -> Contest<'_> {
 }
 
 fn write_dvi(galley: &[u8]) -> Contest<'_> {
-    let room = spatecanter::write_dvi(galley).unwrap().byte_len();
+    let room = spatecanter::write_dvi(galley).unwrap().len();
     contest_of_one(
         room,
         move |dvi| spatecanter::write_dvi_into(galley, dvi).unwrap(),
@@ -274,7 +272,7 @@ fn write_dvi(galley: &[u8]) -> Contest<'_> {
 }
 
 fn read_dvi(dvi: &[u8], widths: Vec<i32>) -> Contest<'_> {
-    let room = spatecanter::read_dvi(dvi, &widths).unwrap().byte_len();
+    let room = spatecanter::read_dvi(dvi, &widths).unwrap().len();
     let same_widths = widths.clone();
     contest_of_one(
         room,
@@ -284,7 +282,7 @@ fn read_dvi(dvi: &[u8], widths: Vec<i32>) -> Contest<'_> {
 }
 
 fn read_dvi_plain(dvi: &[u8], widths: Vec<i32>) -> Contest<'_> {
-    let room = spatecanter::read_dvi_plain(dvi, &widths).unwrap().byte_len();
+    let room = spatecanter::read_dvi_plain(dvi, &widths).unwrap().len();
     let same_widths = widths.clone();
     contest_of_one(
         room,
@@ -295,7 +293,7 @@ fn read_dvi_plain(dvi: &[u8], widths: Vec<i32>) -> Contest<'_> {
 
 fn read_xgp(file: &[u8]) -> Contest<'_> {
     let (widths, same_widths) = (stations_widths(), stations_widths());
-    let room = spatecanter::read_xgp(file, STATIONS_SPACING, &widths).unwrap().byte_len();
+    let room = spatecanter::read_xgp(file, STATIONS_SPACING, &widths).unwrap().len();
     contest_of_one(
         room,
         move |sheet| spatecanter::read_xgp_into(file, STATIONS_SPACING, &widths, sheet).unwrap(),
@@ -304,7 +302,7 @@ fn read_xgp(file: &[u8]) -> Contest<'_> {
 }
 
 fn dvi_to_galley(dvi: &[u8]) -> Contest<'_> {
-    let room = spatecanter::dvi_to_galley(dvi, &[]).unwrap().byte_len();
+    let room = spatecanter::dvi_to_galley(dvi, &[]).unwrap().len();
     contest_of_one(
         room,
         move |galley| spatecanter::dvi_to_galley_into(dvi, &[], galley).unwrap(),
@@ -314,9 +312,9 @@ fn dvi_to_galley(dvi: &[u8]) -> Contest<'_> {
 
 fn reprint(galley: &[u8]) -> Contest<'_> {
     let whole = spatecanter::reprint(galley, &[]).unwrap();
-    let (mut dvi, mut quick_dvi) = (whole.dvi.as_bytes().to_vec(), whole.dvi.as_bytes().to_vec());
+    let (mut dvi, mut quick_dvi) = (whole.dvi.to_vec(), whole.dvi.to_vec());
     contest_of_one(
-        whole.sheet.byte_len(),
+        whole.sheet.len(),
         move |sheet| spatecanter::reprint_into(galley, &[], &mut dvi, sheet).unwrap().sheet,
         move |sheet| {
             let [number, place, shown, _] = quick::reprint(galley, &[], &mut quick_dvi, sheet);
@@ -326,7 +324,7 @@ fn reprint(galley: &[u8]) -> Contest<'_> {
 }
 
 fn write_dvi2(galley: &[u8]) -> Contest<'_> {
-    let room = spatecanter::write_dvi2(galley).unwrap().byte_len();
+    let room = spatecanter::write_dvi2(galley).unwrap().len();
     contest_of_one(
         room,
         move |dvi| spatecanter::write_dvi2_into(galley, dvi).unwrap(),
@@ -335,7 +333,7 @@ fn write_dvi2(galley: &[u8]) -> Contest<'_> {
 }
 
 fn read_dvi2(dvi: &[u8]) -> Contest<'_> {
-    let room = spatecanter::read_dvi2(dvi).unwrap().byte_len();
+    let room = spatecanter::read_dvi2(dvi).unwrap().len();
     contest_of_one(
         room,
         move |galley| spatecanter::read_dvi2_into(dvi, galley).unwrap(),
@@ -353,7 +351,7 @@ fn punch_tape(galley: &[u8]) -> Contest<'_> {
 }
 
 fn galley_to_new(old: &[u8]) -> Contest<'_> {
-    let room = spatecanter::galley_to_new(old).unwrap().byte_len();
+    let room = spatecanter::galley_to_new(old).unwrap().len();
     contest_of_one(
         room,
         move |new| spatecanter::galley_to_new_into(old, new).unwrap(),

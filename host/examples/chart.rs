@@ -1,8 +1,5 @@
 //! Writes a made strip chart to standard output: `chart SEED QUANTA`.
 
-#[path = "../tests/support/sample/mod.rs"]
-mod sample;
-
 use std::io::Write;
 
 fn main() {
@@ -11,6 +8,6 @@ fn main() {
         eprintln!("usage: chart SEED QUANTA, with the height of the last reading");
         std::process::exit(2);
     };
-    let tape = sample::chart(seed, quanta as i32);
+    let tape = spatecanter::sample::chart(seed, quanta as i32);
     std::io::stdout().write_all(&tape).expect("standard output");
 }

@@ -1,8 +1,5 @@
 //! Writes a made tape of three pages to standard output: `pages SEED LINES`.
 
-#[path = "../tests/support/sample/mod.rs"]
-mod sample;
-
 use std::io::Write;
 
 fn main() {
@@ -11,6 +8,6 @@ fn main() {
         eprintln!("usage: pages SEED LINES, with the lines of each page that is not empty");
         std::process::exit(2);
     };
-    let tape = sample::pages(seed, lines as usize);
+    let tape = spatecanter::sample::pages(seed, lines as usize);
     std::io::stdout().write_all(&tape).expect("standard output");
 }

@@ -1,10 +1,7 @@
 //! Writes made lists of stations, as an XGP file, to standard output: `stations SEED LENGTH`; or the widths of their
 //! fonts: `stations widths`.
 
-#[path = "../tests/support/sample/mod.rs"]
-mod sample;
-
-use sample::{stations, stations_widths};
+use spatecanter::sample::{stations, stations_widths};
 use std::io::Write;
 
 fn main() {

@@ -1,8 +1,5 @@
 //! Writes a made yearbook tape to standard output: `yearbook SEED LENGTH [4|8]`.
 
-#[path = "../tests/support/sample/mod.rs"]
-mod sample;
-
 use spatecanter::Machine;
 use std::io::Write;
 
@@ -16,6 +13,6 @@ fn main() {
             std::process::exit(2);
         }
     };
-    let tape = sample::yearbook(machine, seed, length as usize);
+    let tape = spatecanter::sample::yearbook(machine, seed, length as usize);
     std::io::stdout().write_all(&tape).expect("standard output");
 }

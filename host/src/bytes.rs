@@ -1,4 +1,4 @@
-//! What the types of checked bytes share: access to their bytes.
+//! What the types of checked bytes have in common: they are read as bytes, and can be taken apart.
 
 macro_rules! checked_bytes {
     ($name:ident) => {
@@ -19,18 +19,6 @@ macro_rules! checked_bytes {
                 &self.bytes
             }
 
-            /// The number of its bytes.
-            ///
-            /// ```
-            /// use spatecanter::{read_tape, Machine};
-            ///
-            /// assert_eq!(read_tape(&[0x40, 0x49], Machine::Eight)?.byte_len(), 7);
-            /// # Ok::<(), spatecanter::Refusal>(())
-            /// ```
-            pub fn byte_len(&self) -> usize {
-                self.bytes.len()
-            }
-
             /// Its bytes, without a copy.
             ///
             /// ```
@@ -43,10 +31,13 @@ macro_rules! checked_bytes {
             pub fn into_bytes(self) -> Vec<u8> {
                 self.bytes
             }
+        }
 
-            /// Bytes that the library has written.
-            pub(crate) fn written(bytes: Vec<u8>) -> $name {
-                $name { bytes }
+        impl std::ops::Deref for $name {
+            type Target = [u8];
+
+            fn deref(&self) -> &[u8] {
+                &self.bytes
             }
         }
 

@@ -1,16 +1,10 @@
 //! The C interface, as `include/spatecanter.h` declares it.
 //!
-//! `answer` is number, place, length. A pointer and the length after it make one slice. No slice or array that a call
-//! writes overlaps another one of that call.
+//! `answer` is number, place, length. A pointer and the length after it make one slice; no two of a
+//! call's slices overlap unless both are read only.
 
-/// The number of words of a running tape.
+/// The words of a running tape.
 pub const TAPE_WORDS: usize = 23;
-
-/// The numbers of a running tape's state.
-pub const STATE_NUMBERS: usize = 18;
-
-/// The number of words of a report.
-pub const REPORT_WORDS: usize = 135;
 
 /// The kinds of an item.
 pub const ITEM_CHARACTER: i32 = 1;
@@ -135,7 +129,7 @@ extern "C" {
         tape: *const u8,
         tape_len: usize,
         machine: u32,
-        report: *mut [u64; REPORT_WORDS],
+        report: *mut [u64; 135],
         answer: *mut [usize; 3],
     );
 
@@ -170,10 +164,30 @@ extern "C" {
 
     pub fn sp_close(tape: *mut [u64; TAPE_WORDS], out: *mut u8, out_len: usize, answer: *mut [usize; 3]);
 
-    pub fn sp_tape_state(
-        tape: *const [u64; TAPE_WORDS],
-        place: *mut [i32; 2],
-        state: *mut [u64; STATE_NUMBERS],
-    );
     pub fn sp_extents(tape: *const [u64; TAPE_WORDS], reach: *mut [i32; 2], fonts: *mut [u64; 2]);
+}
+
+/// An operation from bytes to bytes.
+type OverBytes = unsafe extern "C" fn(*const u8, usize, *mut u8, usize, *mut [usize; 3]);
+
+/// An operation from bytes to bytes with a table of widths.
+type WithWidths = unsafe extern "C" fn(*const u8, usize, *const i32, usize, *mut u8, usize, *mut [usize; 3]);
+
+/// Calls an operation of this interface on slices.
+pub fn over_bytes(operation: OverBytes, from: &[u8], to: &mut [u8], answer: &mut [usize; 3]) {
+    // SAFETY: every pointer comes from a live slice, with its length, and from a live array.
+    unsafe { operation(from.as_ptr(), from.len(), to.as_mut_ptr(), to.len(), answer) }
+}
+
+/// Calls an operation of this interface on slices, with a table of widths.
+pub fn with_widths(
+    operation: WithWidths,
+    from: &[u8],
+    widths: &[i32],
+    to: &mut [u8],
+    answer: &mut [usize; 3],
+) {
+    let (widths, count) = (widths.as_ptr(), widths.len());
+    // SAFETY: every pointer comes from a live slice, with its length, and from a live array.
+    unsafe { operation(from.as_ptr(), from.len(), widths, count, to.as_mut_ptr(), to.len(), answer) }
 }

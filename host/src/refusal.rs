@@ -1,8 +1,8 @@
-//! Refusals: a number, its meaning, and a place.
+//! What a refused call gives back: a number, what it means, and a place.
 
 use std::fmt;
 
-/// The length of the bytes written, or a refusal.
+/// The length of what was written, or a refusal.
 ///
 /// ```
 /// let mut galley = [0; 29];
@@ -13,9 +13,9 @@ pub type Outcome = Result<usize, Refusal>;
 
 macro_rules! refusals {
     ($($variant:ident $({ $field:ident: $what:literal })? = $number:literal, $name:ident: $meaning:literal;)*) => {
-        /// Why a call was refused. Each refusal has a number, which the C header names too, and a place in the input.
-        /// With the input, [`in_tape`](Refusal::in_tape), [`in_galley`](Refusal::in_galley) and their like explain it:
-        /// what was found at the place, and what was expected.
+        /// Why a call was refused. Each case has a number, which the C header names too, and a place in the input;
+        /// where the input is at hand, [`in_tape`](Refusal::in_tape), [`in_galley`](Refusal::in_galley) and the like
+        /// tell what stands there and what was expected.
         ///
         /// ```
         /// use spatecanter::{read_tape, Machine, Refusal};
@@ -35,7 +35,7 @@ macro_rules! refusals {
                     $field: usize,
                 })?,
             )*
-            /// A number that this package does not know, from another version of the library.
+            /// A number that this package does not know, of a library of another version.
             Unknown {
                 /// The number.
                 number: usize,
@@ -45,7 +45,7 @@ macro_rules! refusals {
         }
 
         impl Refusal {
-            /// Every number, with its name in the C header (without `SP_`) and its meaning.
+            /// Every number, with the name that the C header has for it after `SP_`, and its meaning.
             ///
             /// ```
             /// use spatecanter::Refusal;
@@ -55,7 +55,7 @@ macro_rules! refusals {
             pub const TABLE: &'static [(&'static str, usize, &'static str)] =
                 &[$((stringify!($name), $number, $meaning)),*];
 
-            /// The refusal with a number and a place of the C interface.
+            /// The refusal of a number and a place, as the C interface gives them.
             ///
             /// ```
             /// use spatecanter::Refusal;
@@ -81,8 +81,7 @@ macro_rules! refusals {
                 }
             }
 
-            /// Its place: the offset of a byte, a command or a field, the length of the input, the number of bytes
-            /// needed, or 0.
+            /// Its place: that of a byte, a command or a field, the input's length, the bytes needed, or 0.
             ///
             /// ```
             /// use spatecanter::Refusal;
@@ -112,11 +111,11 @@ refusals! {
     OutOfRange { place: "the byte" } = 7, OUT_OF_RANGE: "the carriage or the height would leave its range";
     AboveHalf { place: "the byte" } = 8, ABOVE_HALF: "a flash above 45 in the upper half";
     NoStop { place: "the tape's length" } = 9, NO_STOP: "the tape ends without stop";
-    AfterCut { place: "the byte, or the tape's length" } = 10, AFTER_CUT: "a code other than initialize after a cut, or the end of the tape there";
+    AfterCut { place: "the byte, or the tape's length" } = 10, AFTER_CUT: "a code other than initialize after a cut, or the tape ends there";
     NoCharacter = 11, NO_CHARACTER: "the galley has no character of this number";
     NoGalleyRoom { needed: "the bytes needed" } = 12, NO_GALLEY_ROOM: "the buffer for the galley is too short";
     NotStarted = 13, NOT_STARTED: "a piece or a closing before any start, or after an accepted closing";
-    FileTooLong = 20, FILE_TOO_LONG: "the file is longer than 33,554,432 bytes, or than 67,108,864 for DVI of the second edition";
+    FileTooLong = 20, FILE_TOO_LONG: "the file is longer than 33,554,432 bytes, or as DVI of the second edition 67,108,864";
     BadCommand { place: "the command" } = 21, BAD_COMMAND: "an undefined command, or one not allowed there";
     DviEndsEarly { place: "the start of the command, or the file's length" } = 22, DVI_ENDS_EARLY: "the file ends inside a page or a command, or before its postamble";
     WrongOffset { place: "the command" } = 23, WRONG_OFFSET: "the page's pointer to the page before it is wrong";
@@ -127,14 +126,14 @@ refusals! {
     OutOf32Bits { place: "the command" } = 28, OUT_OF_32_BITS: "x or y leaves 32 bits";
     BadPostamble { place: "PST" } = 29, BAD_POSTAMBLE: "the postamble is malformed or cut short";
     NoSheetRoom { needed: "the bytes needed" } = 30, NO_SHEET_ROOM: "the buffer for the sheet is too short";
-    WidthsNotWhole = 31, WIDTHS_NOT_WHOLE: "the width table is not a whole number of fonts of 128 widths, or not four fonts for an XGP file";
+    WidthsNotWhole = 31, WIDTHS_NOT_WHOLE: "the width table is not a whole number of fonts of 128 widths, or for an XGP file not four";
     GalleyTooLong = 40, GALLEY_TOO_LONG: "the galley is longer than 11,534,343 bytes, or 9,437,191 in the old form";
     GalleyMalformed { place: "the first bad field, the first byte after End, or the length if End is missing" } = 41, GALLEY_MALFORMED: "the galley is malformed";
     NoDviRoom { needed: "the bytes needed" } = 42, NO_DVI_ROOM: "the buffer for the DVI file is too short";
     HeightTooGreat { place: "the first such character's field" } = 43, HEIGHT_TOO_GREAT: "a height above 65,535, which neither DVI of 1980 nor the old form can hold";
     NoConvertedRoom { needed: "the bytes needed" } = 44, NO_CONVERTED_ROOM: "the buffer for the converted galley is too short";
-    NoGalley { place: "the first command that breaks a condition" } = 45, NO_GALLEY: "the DVI file shows something that no galley can express";
-    NotOurs { place: "the first command that the writer could not have written there, or the length if the file ends early" } = 46, NOT_OURS: "the DVI file is not one that the writer of the second edition writes";
+    NoGalley { place: "the first command that breaks a condition" } = 45, NO_GALLEY: "the DVI file shows what no galley does";
+    NotOurs { place: "the first command through which it is no beginning of such a file, or the length" } = 46, NOT_OURS: "no DVI file that the writer of the second edition makes begins so, or it ends early";
     ReportFull = 47, REPORT_FULL: "the report has 65,536 tapes already";
     PunchedTooLong = 48, PUNCHED_TOO_LONG: "the tape of this galley would be longer than 1,048,576 bytes";
     NoTapeRoom { needed: "the bytes needed" } = 49, NO_TAPE_ROOM: "the buffer for the tape is too short";
@@ -146,7 +145,7 @@ refusals! {
 }
 
 impl Refusal {
-    /// The meaning of its number.
+    /// What its number says, in words.
     ///
     /// ```
     /// assert_eq!(spatecanter::Refusal::NoStop { place: 3 }.meaning(), "the tape ends without stop");
@@ -156,7 +155,7 @@ impl Refusal {
         row.map_or("an unknown refusal", |(_, _, meaning)| meaning)
     }
 
-    /// The length that the buffer must have, if the refusal is only for room.
+    /// How long the buffer has to be, where it was too short and all else is good.
     ///
     /// ```
     /// use spatecanter::{read_tape_into, Machine};

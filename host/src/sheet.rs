@@ -1,11 +1,10 @@
-//! Sheets and their fields.
+//! Sheets, and their fields.
 
 use crate::bytes::checked_bytes;
-use crate::limits::END_FIELD_BYTES;
 use std::error::Error;
 use std::fmt;
 
-/// A valid sheet: the characters and rules of a file, page by page.
+/// A whole sheet: what a file shows, page by page. It is read as its bytes wherever bytes are taken.
 ///
 /// ```
 /// use spatecanter::sheet::Field;
@@ -17,7 +16,7 @@ use std::fmt;
 /// assert_eq!(fields, [Field::Page(1), Field::Character { x: 0, y: 0, font: 17, code: 1 }]);
 /// # Ok::<(), spatecanter::Refusal>(())
 /// ```
-#[derive(Clone, Debug, PartialEq, Eq, Hash)]
+#[derive(Clone, Debug, PartialEq, Eq)]
 pub struct Sheet {
     bytes: Vec<u8>,
 }
@@ -25,24 +24,36 @@ pub struct Sheet {
 checked_bytes!(Sheet);
 
 impl Sheet {
-    /// The sheet of these bytes, if they are a valid one.
+    /// The sheet of these bytes, if they are one to the last byte.
     ///
     /// ```
     /// use spatecanter::Sheet;
     ///
     /// assert!(Sheet::from_bytes(vec![2, 0, 4, 0, 0, 0, 0]).is_ok());
     /// let fault = Sheet::from_bytes(vec![2, 0, 4, 0, 0, 0, 1]).unwrap_err();
-    /// assert_eq!(fault.to_string(), "not a sheet: an End with a wrong count at 0");
+    /// assert_eq!(fault.to_string(), "no sheet: an End with a wrong count at 0");
     /// ```
     pub fn from_bytes(bytes: Vec<u8>) -> Result<Sheet, Fault> {
         let place = end_of_fields(&bytes, 0);
-        match fault_of_end(&bytes[place..], fields(&bytes).count()) {
-            None => Ok(Sheet { bytes }),
-            Some(what) => Err(Fault { place, what }),
+        let count = fields(&bytes).count();
+        let fault = |what| Err(Fault { place, what });
+        match &bytes[place..] {
+            [] => fault("End is missing"),
+            [2, 0, 4, a, b, c, d] if u32::from_be_bytes([*a, *b, *c, *d]) as usize == count => {
+                Ok(Sheet { bytes })
+            }
+            [2, 0, 4, _, _, _, _] => fault("an End with a wrong count"),
+            [2, 0, 4, _, _, _, _, ..] => fault("an End that is not the last field"),
+            _ => fault("an unknown field, or one cut short,"),
         }
     }
 
-    /// Its fields, in order, without End.
+    /// A sheet that the library has written.
+    pub(crate) fn written(bytes: Vec<u8>) -> Sheet {
+        Sheet { bytes }
+    }
+
+    /// Its fields before End, in order.
     ///
     /// ```
     /// use spatecanter::Sheet;
@@ -64,15 +75,15 @@ impl TryFrom<Vec<u8>> for Sheet {
     }
 }
 
-/// A field of a sheet other than End. Places and sides are in rsu, 1/65536 of a point; for an XGP file they are in dots
-/// and scan lines.
+/// A field of a sheet, End apart. Places and sides are in rsu, 1/65536 of a point; of an XGP file in dots and scan
+/// lines.
 ///
 /// ```
 /// use spatecanter::sheet::Field;
 ///
 /// assert_ne!(Field::Page(1), Field::Page(2));
 /// ```
-#[derive(Clone, Copy, Debug, PartialEq, Eq, Hash)]
+#[derive(Clone, Copy, Debug, PartialEq, Eq)]
 pub enum Field {
     /// The start of a page, with its number.
     Page(i32),
@@ -89,11 +100,11 @@ pub enum Field {
     },
     /// A rule.
     Rule {
-        /// Whether the rule is horizontal.
+        /// Whether it is a horizontal one.
         horizontal: bool,
-        /// The place across before the rule.
+        /// The place across before it.
         x: i32,
-        /// The place down before the rule.
+        /// The place down before it.
         y: i32,
         /// Its height.
         height: i32,
@@ -102,7 +113,7 @@ pub enum Field {
     },
 }
 
-/// Why bytes are not a sheet.
+/// What is wrong with bytes that are no sheet, and where.
 ///
 /// ```
 /// use spatecanter::Sheet;
@@ -110,9 +121,9 @@ pub enum Field {
 /// let fault = Sheet::from_bytes(vec![]).unwrap_err();
 /// assert_eq!((fault.place, fault.what), (0, "End is missing"));
 /// ```
-#[derive(Clone, Copy, Debug, PartialEq, Eq, Hash)]
+#[derive(Clone, Copy, Debug, PartialEq, Eq)]
 pub struct Fault {
-    /// The offset of the first byte that does not belong to a field of a sheet, or the length.
+    /// The first byte of what is no field of a sheet, or the length.
     pub place: usize,
     /// What is wrong there.
     pub what: &'static str,
@@ -120,45 +131,33 @@ pub struct Fault {
 
 impl fmt::Display for Fault {
     fn fmt(&self, f: &mut fmt::Formatter) -> fmt::Result {
-        write!(f, "not a sheet: {} at {}", self.what, self.place)
+        write!(f, "no sheet: {} at {}", self.what, self.place)
     }
 }
 
 impl Error for Fault {}
 
-/// The length of the longest field, a rule, in bytes.
+/// The bytes of the longest field: a rule.
 ///
 /// ```
 /// assert_eq!(spatecanter::sheet::LONGEST_FIELD, 3 + 17);
 /// ```
 pub const LONGEST_FIELD: usize = 20;
 
-/// Returns the offset of the first byte after the whole fields that start at `place`: that of End, of a fault, or of a
-/// field that is not complete yet. If `place` is past the end, it returns the length.
+/// Where the fields that start at `place` are no longer whole fields before End: the place of a sheet's End,
+/// of a fault, or of a field that is still to come.
 ///
 /// ```
 /// use spatecanter::sheet::end_of_fields;
 ///
 /// assert_eq!(end_of_fields(&[5, 0, 4, 0, 0, 0, 1, 3, 0], 0), 7);
-/// assert_eq!(end_of_fields(&[5, 0, 4], 9), 3);
 /// ```
 pub fn end_of_fields(sheet: &[u8], place: usize) -> usize {
-    let mut rest = sheet.get(place..).unwrap_or_default();
+    let mut rest = &sheet[place..];
     while let Some((_, after)) = split(rest) {
         rest = after;
     }
     sheet.len() - rest.len()
-}
-
-/// What is wrong with the bytes after the fields of a sheet, if they are not an End that counts these fields.
-fn fault_of_end(rest: &[u8], count: usize) -> Option<&'static str> {
-    match rest {
-        [] => Some("End is missing"),
-        [2, 0, 4, a, b, c, d] if u32::from_be_bytes([*a, *b, *c, *d]) as usize == count => None,
-        [2, 0, 4, ..] if rest.len() == END_FIELD_BYTES => Some("an End with a wrong count"),
-        [2, 0, 4, ..] if rest.len() > END_FIELD_BYTES => Some("an End that is not the last field"),
-        _ => Some("an unknown or incomplete field"),
-    }
 }
 
 /// The fields before End.
@@ -171,7 +170,7 @@ fn fields(sheet: &[u8]) -> impl Iterator<Item = Field> + '_ {
     })
 }
 
-/// The first field and the bytes after it; `None` at End or at a fault.
+/// The first field and what follows it; nothing at End.
 fn split(rest: &[u8]) -> Option<(Field, &[u8])> {
     let (header, body) = rest.split_first_chunk()?;
     match header {

@@ -1,6 +1,6 @@
-//! Numbers as text.
+//! Numbers for people.
 
-/// A number with a comma between thousands.
+/// A number with its thousands apart.
 ///
 /// ```
 /// assert_eq!(spatecanter::text::grouped(1_048_576), "1,048,576");
@@ -17,7 +17,7 @@ pub fn grouped(number: usize) -> String {
     text
 }
 
-/// A number of things, in the singular or the plural.
+/// So many of a thing.
 ///
 /// ```
 /// use spatecanter::text::counted;

@@ -9,19 +9,19 @@ use lib.Signed.{◌≤ℤ◌}
 use mir.Syntax.{w32}
 use mir.Val.{SFits}
 use Rattle.integers.specs.Parts.{integers}
-use Rattle.measure.specs.Place.{carriage_end, low_end}
+use Rattle.measure.specs.Place.{low_end}
 use Rattle.measure.specs.Target.{x_target, y_target}
 use Rattle.measure.specs.TargetLaws.{target_parts, y_parts, x_move_fits, y_move_fits}
 use Rattle.galley_file.specs.declared.character.Character.{Character}
 use Rattle.galley_file.specs.CharacterLaws.{Valid, x_range, height_range}
 use Rattle.dvi.specs.Writer.{x_target_of, y_target_of, Position, start_position, position_at, commands_of}
-use Rattle.dvi.specs.ItemMarks.{mark_at, character_mark}
+use Rattle.dvi.specs.Demand3.{character_mark}
 use Rattle.dvi.proofs.Pieces.{Leads, leads_append, leads_font, leads_x, leads_y, leads_char, position_in, position_x}
 
 -- where a valid character may be
 record Place (x h : ℤ) : Type 0 where
   left : negsuc 54 ≤ℤ x
-  right : x ≤ℤ carriage_end
+  right : x ≤ℤ pos 3239
   top : pos 0 ≤ℤ h
   bottom : h ≤ℤ low_end
 
@@ -62,7 +62,7 @@ on_at c v = record { x = c.x.0; h = c.height.0; place = place_of c v; x_is = ref
 
 module _ (ws : List ℤ) (last : ℤ) where
   pub leads_character : (position : Position) (c : Character) → OnPage position → Valid low_end c → Leads ws last position (commands_of position c) (character_mark c ∷ []) (position_at c)
-  unfolding commands_of mark_at position_at
+  unfolding commands_of character_mark position_at
   leads_character position c o v =
       leads_append ws last (leads_font ws last position c.font v.font)
       (leads_append ws last (leads_x ws last (position_in position c.font) (x_target_of c) move_x_lem (x_fits to) (rw o.y_is (y_fits o.place)))

@@ -29,7 +29,7 @@ use Rattle.dvi.specs.Page.{Page, new_page, end_page, effect}
 use Rattle.dvi.specs.File.{between, inside, go_on, after_effect, in_page, begin_page, step}
 use Rattle.dvi.specs.Writer.{start_position, bop_bytes, Writing, item_bytes, writing_after, items_bytes, writing_after_all}
 use Rattle.dvi.specs.WriterLaws.{Small, small_next, writing_next}
-use Rattle.dvi.specs.ItemMarks.{marks_at, character_mark, marks_of}
+use Rattle.dvi.specs.Demand3.{character_mark, marks_of}
 use Rattle.dvi.proofs.Runs.{Goes, goes_nil, goes_append, goes_step}
 use Rattle.dvi.proofs.Pieces.{Stands}
 use Rattle.dvi.proofs.Characters.{OnPage, on_new, on_at, leads_character}
@@ -88,7 +88,7 @@ module _ (ws : List ℤ) where
 
   pub prints_items : (from : Writing) {is : List Item} → OnPage from.position → Small from (length is) → AllValid low_end is → (p : Page) → Stands from.position p
       → Prints ws from p (items_bytes from is) (marks_of from.page is) (writing_after_all from is)
-  unfolding transduced marks_at writing_after
+  unfolding transduced marks_of writing_after
   prints_items from o s galley.nil p h = record { page = p; stands = h; goes = goes_nil ws from.at (inside (pos from.bop) p) }
   prints_items from o s (galley.more {i = Placed c} {is = is} v vs) p h =
       let r = prints_character from c p o (valid_parts v) h in

@@ -4,4 +4,4 @@ mod Characters
 mod Items
 mod Postambles
 pub mod Shown
-pub mod Sheets
+pub mod Demand3

@@ -17,9 +17,7 @@ use Rattle.octets.specs.Octets.{bytes, signed_bytes, width_of}
 use Rattle.octets.specs.OctetsLaws.{by_cond, signed_bytes_pos}
 use Rattle.octets.specs.WordLaws.{width_holds, width_range, true_fits32}
 use Rattle.measure.specs.TargetLaws.{move_ends}
-use Rattle.dvi.specs.Command.{HORZCHAR, FONT, X4, Y4, FONTNUM, rsu, bare, takes, layouts, layout_of}
-use Rattle.dvi.specs.declared.command.Command.{Command}
-use Rattle.dvi.specs.declared.command.Command.TheVariants.{HorzChar, SetFont, MoveX, MoveY}
+use Rattle.dvi.specs.Command.{HORZCHAR, FONT, X4, Y4, FONTNUM, Command, horz_char, set_font, move_x, move_y, bare, takes, layouts, layout_of}
 use Rattle.sheet.specs.Sheet.{Mark, char_mark}
 use Rattle.dvi.specs.Page.{Numbers, Page, moved, marked, with_numbers, with_font, right_by, down_by, set_x, set_y, if_fits, go_to, char_here, set_still, effect}
 use Rattle.dvi.specs.File.{inside}
@@ -60,11 +58,11 @@ position_y position b = record { font = position.font; x = position.x; y = b }
 -- ---- single commands
 
 -- FONTNUM 0 to 63
-layout_fontnum : (f : ℕ) → f < 64 → layout_of (FONTNUM + f) ≡ bare (SetFont (pos f))
+layout_fontnum : (f : ℕ) → f < 64 → layout_of (FONTNUM + f) ≡ bare (set_font (pos f))
 unfolding layout_of
 layout_fontnum f h =
     rw (le-ltb (FONTNUM + f) 128 (omega arith), le-ltb (FONTNUM + f) FONTNUM (omega arith), lt-ltb (FONTNUM + f) 218 (omega arith))
-    (ap (λ (n : ℕ). bare (SetFont (pos n))) (omega arith))
+    (ap (λ (n : ℕ). bare (set_font (pos n))) (omega arith))
 
 -- the three commands whose longest is op
 abbrev Three : ℕ → (ℤ → Command) → Type 0
@@ -114,8 +112,8 @@ module _ (ws : List ℤ) (last : ℤ) where
   unfolding font_command effect layout_of layouts
   goes_font at p f h =
       by_cond (λ (bs : List ℕ). Goes ws at (inside last p) bs [] (inside last (with_font p (pos f)))) (ltb f 64) _ _
-      (λ e. goes_moved ws at last p (with_font p (pos f)) (SetFont (pos f)) (FONTNUM + f) [] (decode_bare (FONTNUM + f) (SetFont (pos f)) (layout_fontnum f (ltb-true f 64 e))) refl)
-      (λ e. goes_moved ws at last p (with_font p (pos f)) (SetFont (pos f)) FONT (signed_bytes 4 (pos f)) (decode_takes FONT 4 SetFont (pos f) refl (record { half = omega arith })) refl)
+      (λ e. goes_moved ws at last p (with_font p (pos f)) (set_font (pos f)) (FONTNUM + f) [] (decode_bare (FONTNUM + f) (set_font (pos f)) (layout_fontnum f (ltb-true f 64 e))) refl)
+      (λ e. goes_moved ws at last p (with_font p (pos f)) (set_font (pos f)) FONT (signed_bytes 4 (pos f)) (decode_takes FONT 4 set_font (pos f) refl (record { half = omega arith })) refl)
 
   leads_font_command : (position : Position) (f : ℕ) → f < 120 → Leads ws last position (font_command f) [] (position_in position f)
   unfolding with_font
@@ -182,7 +180,7 @@ module _ (ws : List ℤ) (last : ℤ) where
   pub leads_x : (position : Position) (a : ℤ) → SFits w32 (a -ℤ position.x) → SFits w32 a → SFits w32 position.y → Leads ws last position (move X4 (a -ℤ position.x)) [] (position_x position a)
   unfolding with_numbers set_x right_by effect layout_of layouts
   leads_x position a fm fa fy =
-      leads_move position (position_x position a) X4 (λ z. MoveX (rsu z)) m (λ p. with_numbers p (set_x m (right_by m p.numbers))) (three X4 (λ z. MoveX (rsu z)) refl refl refl) fm
+      leads_move position (position_x position a) X4 move_x m (λ p. with_numbers p (set_x m (right_by m p.numbers))) (three X4 move_x refl refl refl) fm
       (λ e p h. record { at_x = h.at_x ∙ no_move position.x a e; at_y = h.at_y; at_font = h.at_font; at_stack = h.at_stack })
       (λ p h. record { at_x = arrives p h; at_y = h.at_y; at_font = h.at_font; at_stack = h.at_stack })
       (λ p h. go_to_fits p (set_x m (right_by m p.numbers)) (rw (arrives p h) fa) (rw h.at_y fy))
@@ -196,7 +194,7 @@ module _ (ws : List ℤ) (last : ℤ) where
   pub leads_y : (position : Position) (b : ℤ) → SFits w32 (b -ℤ position.y) → SFits w32 b → SFits w32 position.x → Leads ws last position (move Y4 (b -ℤ position.y)) [] (position_y position b)
   unfolding with_numbers set_y down_by effect layout_of layouts
   leads_y position b fm fb fx =
-      leads_move position (position_y position b) Y4 (λ z. MoveY (rsu z)) m (λ p. with_numbers p (set_y m (down_by m p.numbers))) (three Y4 (λ z. MoveY (rsu z)) refl refl refl) fm
+      leads_move position (position_y position b) Y4 move_y m (λ p. with_numbers p (set_y m (down_by m p.numbers))) (three Y4 move_y refl refl refl) fm
       (λ e p h. record { at_x = h.at_x; at_y = h.at_y ∙ no_move position.y b e; at_font = h.at_font; at_stack = h.at_stack })
       (λ p h. record { at_x = h.at_x; at_y = arrives p h; at_font = h.at_font; at_stack = h.at_stack })
       (λ p h. go_to_fits p (set_y m (down_by m p.numbers)) (rw h.at_x fx) (rw (arrives p h) fb))
@@ -218,8 +216,8 @@ module _ (ws : List ℤ) (last : ℤ) where
           page = p;
           stands = h;
           goes = λ at.
-              goes_marked ws at last p p (HorzChar (pos c)) (char_mark position.x position.y (pos f) c) HORZCHAR (c ∷ [])
-              (λ rest. rw (byte c k) at (decode_takes HORZCHAR 1 HorzChar (pos c) refl (record { half = omega arith }) rest))
+              goes_marked ws at last p p (horz_char (pos c)) (char_mark position.x position.y (pos f) c) HORZCHAR (c ∷ [])
+              (λ rest. rw (byte c k) at (decode_takes HORZCHAR 1 horz_char (pos c) refl (record { half = omega arith }) rest))
               (set_still_lem p c position.x position.y (pos f) k h.at_x h.at_y (h.at_font ∙ ap as_signed e));
         };
       }

@@ -11,9 +11,7 @@ use lib.ListN.{length, length-append}
 use lib.Seq.{drop-append_seam}
 use Rattle.octets.specs.Octets.{signed_bytes, Holds}
 use Rattle.octets.specs.OctetsLaws.{length_signed_bytes, signed_first}
-use Rattle.dvi.specs.Command.{bare, takes, layout_of, with_parameters, decode}
-use Rattle.dvi.specs.declared.command.Command.{Command}
-use Rattle.dvi.specs.declared.command.Decoded.TheVariants.{Whole}
+use Rattle.dvi.specs.Command.{Command, bare, takes, layout_of, command, with_parameters, decode}
 use Rattle.sheet.specs.Sheet.{Mark}
 use Rattle.dvi.specs.Page.{Page, moved, marked, effect}
 use Rattle.sheet.specs.Shown.{shows_first}
@@ -47,23 +45,23 @@ module _ (ws : List ℤ) (at : ℕ) where
           ∙ ap (λ (n : ℕ). run ws n r 0 rest) (omega arith)
 
   -- a command inside a page that shows nothing, and one that shows m
-  pub goes_moved : (last : ℤ) (p r : Page) (c : Command) (op : ℕ) (ps : List ℕ) → ((rest : List ℕ) → decode op (ps ++ rest) ≡ Whole c (length ps))
+  pub goes_moved : (last : ℤ) (p r : Page) (c : Command) (op : ℕ) (ps : List ℕ) → ((rest : List ℕ) → decode op (ps ++ rest) ≡ command c (length ps))
       → effect ws p c ≡ moved r → Goes ws at (inside last p) (op ∷ ps) [] (inside last r)
   unfolding step in_page after_effect
   goes_moved last p r c op ps d e = goes_step (inside last p) (inside last r) op ps [] (λ rest. rw (d rest, e))
 
-  pub goes_marked : (last : ℤ) (p r : Page) (c : Command) (m : Mark) (op : ℕ) (ps : List ℕ) → ((rest : List ℕ) → decode op (ps ++ rest) ≡ Whole c (length ps))
+  pub goes_marked : (last : ℤ) (p r : Page) (c : Command) (m : Mark) (op : ℕ) (ps : List ℕ) → ((rest : List ℕ) → decode op (ps ++ rest) ≡ command c (length ps))
       → effect ws p c ≡ marked r m → Goes ws at (inside last p) (op ∷ ps) (m ∷ []) (inside last r)
   unfolding step in_page after_effect
   goes_marked last p r c m op ps d e = goes_step (inside last p) (inside last r) op ps (m ∷ []) (λ rest. rw (d rest, e))
 
 -- a command with one parameter, and with none
 pub decode_takes : (op n : ℕ) (make : ℤ → Command) (z : ℤ) → layout_of op ≡ takes n make → Holds n z → (rest : List ℕ)
-    → decode op (signed_bytes n z ++ rest) ≡ Whole (make z) (length (signed_bytes n z))
+    → decode op (signed_bytes n z ++ rest) ≡ command (make z) (length (signed_bytes n z))
 unfolding decode with_parameters
 decode_takes op n make z e h rest =
     rw (e, length-append, length_signed_bytes n z, le-leb n (n + length rest) (omega arith), signed_first n z rest h)
 
-pub decode_bare : (op : ℕ) (c : Command) → layout_of op ≡ bare c → (rest : List ℕ) → decode op rest ≡ Whole c 0
+pub decode_bare : (op : ℕ) (c : Command) → layout_of op ≡ bare c → (rest : List ℕ) → decode op rest ≡ command c 0
 unfolding decode with_parameters
 decode_bare op c e rest = rw e

@@ -13,9 +13,7 @@ use Rattle.octets.specs.Octets.{signed, signed_at}
 use Rattle.octets.specs.Answer.{bad_command, dvi_ends_early, wrong_offset, bad_postamble}
 use Rattle.sheet.specs.Sheet.{Mark, page_mark}
 use Rattle.sheet.specs.Shown.{ShownAs, Shown, refused_at, shows, shows_first}
-use Rattle.dvi.specs.Command.{BOP, PST, decode}
-use Rattle.dvi.specs.declared.command.Decoded.{Decoded}
-use Rattle.dvi.specs.declared.command.Decoded.TheVariants.{NoCommand, CutShort, Whole}
+use Rattle.dvi.specs.Command.{BOP, PST, Decoded, no_command, cut_short, command, decode}
 use Rattle.dvi.specs.Page.{Page, new_page, Effect, fault, moved, marked, ended, effect}
 use Rattle.dvi.specs.Postamble.{postamble}
 
@@ -40,9 +38,9 @@ after_effect last n ended = go_on (between last) [] n
 
 -- a command inside a page; 21: undefined, or not allowed there; 22: the file ends inside it
 unfoldable pub in_page : List ℤ → ℤ → Page → Decoded → Step
-in_page ws last p NoCommand = refuse bad_command
-in_page ws last p CutShort = refuse dvi_ends_early
-in_page ws last p (Whole c n) = after_effect last n (effect ws p c)
+in_page ws last p no_command = refuse bad_command
+in_page ws last p cut_short = refuse dvi_ends_early
+in_page ws last p (command c n) = after_effect last n (effect ws p c)
 
 -- BOP n<4> p<4> at offset `at`: page n, and p the offset of the previous BOP; 22: the file ends inside it; 23: p is wrong
 unfoldable pub begin_page : ℤ → ℕ → List ℕ → Step

@@ -15,9 +15,7 @@ use Rattle.integers.specs.Equality.{eq_z}
 use Rattle.octets.specs.Octets.{signed_at}
 use Rattle.octets.specs.OctetsLaws.{by_cond}
 use Rattle.octets.specs.Answer.{dvi_ends_early}
-use Rattle.dvi.specs.Command.{BOP, PST, Layout, barred, bare, takes, takes_two, layout_of, with_parameters, decode}
-use Rattle.dvi.specs.declared.command.Decoded.{Decoded}
-use Rattle.dvi.specs.declared.command.Decoded.TheVariants.{NoCommand, CutShort, Whole}
+use Rattle.dvi.specs.Command.{BOP, PST, Layout, barred, bare, takes, takes_two, layout_of, Decoded, no_command, cut_short, command, with_parameters, decode}
 use Rattle.sheet.specs.Sheet.{Mark}
 use Rattle.dvi.specs.Page.{max_stack, Page, new_page, Effect, fault, moved, marked, ended, effect}
 use Rattle.dvi.specs.PageLaws.{LowEffect, effect_stack}
@@ -46,9 +44,9 @@ effect_sound k last n (marked p m) h g = (h, g)
 effect_sound k last n ended h g = (h, tt)
 
 abbrev pub Held : ℕ → Decoded → Type 0
-Held k NoCommand = Unit {0}
-Held k CutShort = Unit {0}
-Held k (Whole c n) = n ≤ k
+Held k no_command = Unit {0}
+Held k cut_short = Unit {0}
+Held k (command c n) = n ≤ k
 
 pub held : (f : Layout) (ps : List ℕ) → Held (length ps) (with_parameters f ps)
 unfolding with_parameters
@@ -59,9 +57,9 @@ held (takes_two c) ps = by_cond (Held (length ps)) (leb 8 (length ps)) _ _ (λ e
 
 page_sound : (ws : List ℤ) (k : ℕ) (last : ℤ) (p : Page) (d : Decoded) → Held k d → length p.stack ≤ max_stack → SoundStep k (in_page ws last p d)
 unfolding in_page
-page_sound ws k last p NoCommand h g = tt
-page_sound ws k last p CutShort h g = tt
-page_sound ws k last p (Whole c n) h g = effect_sound k last n (effect ws p c) h (effect_stack ws p g c)
+page_sound ws k last p no_command h g = tt
+page_sound ws k last p cut_short h g = tt
+page_sound ws k last p (command c n) h g = effect_sound k last n (effect ws p c) h (effect_stack ws p g c)
 
 sound_if : (k : ℕ) (t : Bool) (e f : Step) → SoundStep k e → SoundStep k f → SoundStep k (cond t e f)
 sound_if k t e f h g = by_cond (SoundStep k) t e f (λ _. h) (λ _. g)

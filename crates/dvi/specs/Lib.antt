@@ -12,6 +12,6 @@ pub mod Writer
 pub mod WritingLaws
 pub mod WriterLaws
 pub mod FontOrNone
-pub mod ItemMarks
 pub mod Edition
 pub mod EditionLaws
+pub mod Demand3

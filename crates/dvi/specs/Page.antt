@@ -10,8 +10,7 @@ use Rattle.octets.specs.Octets.{fits32}
 use Rattle.octets.specs.Answer.{stack_full, stack_empty, entries_left, cannot_set, out_of32_bits}
 use Rattle.sheet.specs.Sheet.{Mark, char_mark, rule_mark}
 use Rattle.sheet.specs.Readable.{font_chars}
-use Rattle.dvi.specs.declared.command.Command.{Command}
-use Rattle.dvi.specs.declared.command.Command.TheVariants.{SetChar, Nop, Eop, Push, Pop, VertRule, HorzRule, HorzChar, SetFont, MoveW, MoveW0, MoveX, MoveX0, MoveY, MoveY0, MoveZ, MoveZ0}
+use Rattle.dvi.specs.Command.{Command, set_char, nop, eop, push, pop, vert_rule, horz_rule, horz_char, set_font, move_w, move_w0, move_x, move_x0, move_y, move_y0, move_z, move_z0}
 
 -- the entries of the stack
 abbrev pub max_stack : ℕ
@@ -138,23 +137,23 @@ end_page [] = ended
 end_page (n ∷ ns) = fault entries_left
 
 unfoldable pub effect : List ℤ → Page → Command → Effect
-effect ws p (SetChar c) = set_in_font ws p c p.font
-effect ws p Nop = moved p
-effect ws p Eop = end_page p.stack
-effect ws p Push = pushed p
-effect ws p Pop = popped p p.stack
+effect ws p (set_char c) = set_in_font ws p c p.font
+effect ws p nop = moved p
+effect ws p eop = end_page p.stack
+effect ws p push = pushed p
+effect ws p pop = popped p p.stack
 -- VERTRULE moves right by its width, HORZRULE stays
-effect ws p (VertRule h w) = show_and_go_to p (rule_here p 0 h.0 w.0) (right_by w.0 p.numbers)
-effect ws p (HorzRule h w) = marked p (rule_here p 1 h.0 w.0)
-effect ws p (HorzChar c) = set_still p c p.font
-effect ws p (SetFont f) = moved (with_font p f)
+effect ws p (vert_rule h w) = show_and_go_to p (rule_here p 0 h w) (right_by w p.numbers)
+effect ws p (horz_rule h w) = marked p (rule_here p 1 h w)
+effect ws p (horz_char c) = set_still p c p.font
+effect ws p (set_font f) = moved (with_font p f)
 -- W and X: move right, and put the parameter into the amount; W0 and X0: move right by the amount
-effect ws p (MoveW m) = go_to p (set_w m.0 (right_by m.0 p.numbers))
-effect ws p MoveW0 = go_to p (right_by p.numbers.amount_w p.numbers)
-effect ws p (MoveX m) = go_to p (set_x m.0 (right_by m.0 p.numbers))
-effect ws p MoveX0 = go_to p (right_by p.numbers.amount_x p.numbers)
+effect ws p (move_w m) = go_to p (set_w m (right_by m p.numbers))
+effect ws p move_w0 = go_to p (right_by p.numbers.amount_w p.numbers)
+effect ws p (move_x m) = go_to p (set_x m (right_by m p.numbers))
+effect ws p move_x0 = go_to p (right_by p.numbers.amount_x p.numbers)
 -- Y and Z: the same down
-effect ws p (MoveY m) = go_to p (set_y m.0 (down_by m.0 p.numbers))
-effect ws p MoveY0 = go_to p (down_by p.numbers.amount_y p.numbers)
-effect ws p (MoveZ m) = go_to p (set_z m.0 (down_by m.0 p.numbers))
-effect ws p MoveZ0 = go_to p (down_by p.numbers.amount_z p.numbers)
+effect ws p (move_y m) = go_to p (set_y m (down_by m p.numbers))
+effect ws p move_y0 = go_to p (down_by p.numbers.amount_y p.numbers)
+effect ws p (move_z m) = go_to p (set_z m (down_by m p.numbers))
+effect ws p move_z0 = go_to p (down_by p.numbers.amount_z p.numbers)

@@ -1,6 +1,6 @@
 -- What 002 and document 01 say of a page holds of its definition, and no effect makes the stack too high.
 --     unset_char, unset_horz_char     no character is set before a font command
---     others_look_not                no command but 0 to 127 looks at the widths
+--     horz_char_widths                HORZCHAR asks for no width
 --     push_pop                       PUSH and POP give back the page
 --     horz_char_stays                 HORZCHAR changes nothing on the page
 --     effect_stack                   the stack has at most 200 entries
@@ -15,44 +15,27 @@ use Rattle.octets.specs.Octets.{fits32}
 use Rattle.octets.specs.OctetsLaws.{by_cond}
 use Rattle.octets.specs.Answer.{cannot_set}
 use Rattle.sheet.specs.Readable.{font_chars}
-use Rattle.dvi.specs.declared.command.Command.{Command}
-use Rattle.dvi.specs.declared.command.Command.TheVariants.{SetChar, Nop, Eop, Push, Pop, VertRule, HorzRule, HorzChar, SetFont, MoveW, MoveW0, MoveX, MoveX0, MoveY, MoveY0, MoveZ, MoveZ0}
+use Rattle.dvi.specs.Command.{Command, set_char, nop, eop, push, pop, vert_rule, horz_rule, horz_char, set_font, move_w, move_w0, move_x, move_x0, move_y, move_y0, move_z, move_z0}
 use Rattle.sheet.specs.Sheet.{Mark}
 use Rattle.dvi.specs.Page.{max_stack, Numbers, Page, new_page, Effect, fault, moved, marked, ended, with_numbers, with_font, if_fits, go_to, show_and_go_to, width_in, set_moving, set_in_font, set_still, pushed, popped, end_page, effect}
 
 -- "a character before a font command on the new page is 27"
-pub unset_char : (ws : List ℤ) (c : ℕ) → effect ws new_page (SetChar c) ≡ fault cannot_set
+pub unset_char : (ws : List ℤ) (c : ℕ) → effect ws new_page (set_char c) ≡ fault cannot_set
 unfolding effect new_page set_in_font
 unset_char ws c = refl
 
--- "Only commands 0 to 127 look there."
-pub others_look_not : (ws vs : List ℤ) (p : Page) (c : Command) → ((n : ℕ) → c ≡ SetChar n → ⊥) → effect ws p c ≡ effect vs p c
+-- HORZCHAR is set in a font beyond the table too: whatever the widths, it does the same
+pub horz_char_widths : (ws vs : List ℤ) (p : Page) (c : ℤ) → effect ws p (horz_char c) ≡ effect vs p (horz_char c)
 unfolding effect
-others_look_not ws vs p (SetChar c) n = absurd (n c refl)
-others_look_not ws vs p Nop n = refl
-others_look_not ws vs p Eop n = refl
-others_look_not ws vs p Push n = refl
-others_look_not ws vs p Pop n = refl
-others_look_not ws vs p (VertRule h w) n = refl
-others_look_not ws vs p (HorzRule h w) n = refl
-others_look_not ws vs p (HorzChar c) n = refl
-others_look_not ws vs p (SetFont f) n = refl
-others_look_not ws vs p (MoveW m) n = refl
-others_look_not ws vs p MoveW0 n = refl
-others_look_not ws vs p (MoveX m) n = refl
-others_look_not ws vs p MoveX0 n = refl
-others_look_not ws vs p (MoveY m) n = refl
-others_look_not ws vs p MoveY0 n = refl
-others_look_not ws vs p (MoveZ m) n = refl
-others_look_not ws vs p MoveZ0 n = refl
+horz_char_widths ws vs p c = refl
 
-pub unset_horz_char : (ws : List ℤ) (c : ℤ) → effect ws new_page (HorzChar c) ≡ fault cannot_set
+pub unset_horz_char : (ws : List ℤ) (c : ℤ) → effect ws new_page (horz_char c) ≡ fault cannot_set
 unfolding effect new_page set_still
 unset_horz_char ws (pos c) = refl
 unset_horz_char ws (negsuc c) = refl
 
 -- "Pop the W, X, Y, and Z-amounts, and the Y- and X-coordinates off the stack"
-pub push_pop : (ws : List ℤ) (p q : Page) → effect ws p Push ≡ moved q → effect ws q Pop ≡ moved p
+pub push_pop : (ws : List ℤ) (p q : Page) → effect ws p push ≡ moved q → effect ws q pop ≡ moved p
 unfolding effect pushed popped
 push_pop ws p q =
     by_cond (λ (e : Effect). e ≡ moved q → popped q q.stack ≡ moved p) (ltb (length p.stack) max_stack) _ _
@@ -62,7 +45,7 @@ push_pop ws p q =
     (λ _ e. cc)
 
 -- "Set character 'c', but don't change the current value of the x-coordinate (or y-coordinate, either)"
-pub horz_char_stays : (ws : List ℤ) (p q : Page) (c : ℤ) (m : Mark) → effect ws p (HorzChar c) ≡ marked q m → q ≡ p
+pub horz_char_stays : (ws : List ℤ) (p q : Page) (c : ℤ) (m : Mark) → effect ws p (horz_char c) ≡ marked q m → q ≡ p
 unfolding effect set_still
 horz_char_stays ws p q c m = go c p.font
   where
@@ -127,20 +110,20 @@ module _ (ws : List ℤ) (p : Page) (h : length p.stack ≤ max_stack) where
 
   pub effect_stack : (c : Command) → LowEffect (effect ws p c)
   unfolding effect with_font
-  effect_stack (SetChar c) = font_low c p.font
-  effect_stack Nop = h
-  effect_stack Eop = end_low p.stack
-  effect_stack Push = push_low
-  effect_stack Pop = pop_low p.stack h
-  effect_stack (VertRule a w) = show_low _ _
-  effect_stack (HorzRule a w) = h
-  effect_stack (HorzChar c) = still_low c p.font
-  effect_stack (SetFont f) = h
-  effect_stack (MoveW m) = go_low _
-  effect_stack MoveW0 = go_low _
-  effect_stack (MoveX m) = go_low _
-  effect_stack MoveX0 = go_low _
-  effect_stack (MoveY m) = go_low _
-  effect_stack MoveY0 = go_low _
-  effect_stack (MoveZ m) = go_low _
-  effect_stack MoveZ0 = go_low _
+  effect_stack (set_char c) = font_low c p.font
+  effect_stack nop = h
+  effect_stack eop = end_low p.stack
+  effect_stack push = push_low
+  effect_stack pop = pop_low p.stack h
+  effect_stack (vert_rule a w) = show_low _ _
+  effect_stack (horz_rule a w) = h
+  effect_stack (horz_char c) = still_low c p.font
+  effect_stack (set_font f) = h
+  effect_stack (move_w m) = go_low _
+  effect_stack move_w0 = go_low _
+  effect_stack (move_x m) = go_low _
+  effect_stack move_x0 = go_low _
+  effect_stack (move_y m) = go_low _
+  effect_stack move_y0 = go_low _
+  effect_stack (move_z m) = go_low _
+  effect_stack move_z0 = go_low _

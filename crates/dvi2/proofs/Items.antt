@@ -13,7 +13,7 @@ use mir.Val.{SFits}
 use Rattle.integers.specs.Parts.{integers, dif_parts, scale_parts}
 use Rattle.octets.specs.Octets.{bytes, signed_bytes}
 use Rattle.octets.specs.OctetsLaws.{signed_first, signed_bytes_pos}
-use Rattle.measure.specs.Place.{carriage_end, height_end}
+use Rattle.measure.specs.Place.{height_end}
 use Rattle.octets.specs.Transducer.{transduced}
 use Rattle.galley_file.specs.declared.character.Character.{Character}
 use Rattle.galley_file.specs.declared.item.Item.{Item}
@@ -25,7 +25,7 @@ use Rattle.sheet.specs.Sheet.{Mark, page_mark}
 use Rattle.dvi.specs.Page.{Page, new_page}
 use Rattle.extents.specs.FontMarks.{uses}
 use Rattle.dvi.specs.Writer.{Position, start_position}
-use Rattle.dvi.specs.ItemMarks.{mark_at, marks_at}
+use Rattle.dvi.specs.EditionLaws.{mark_at, marks_at}
 use Rattle.dvi2.specs.Command.{BOP, EOP, first_layouts, layout_of, with_parameters, decode}
 use Rattle.dvi2.specs.Page.{per_unit, between, inside, end_page, effect}
 use Rattle.dvi2.specs.File.{go_on, after_effect, in_page, begin_page, between_pages, step}
@@ -36,19 +36,16 @@ use Rattle.dvi2.proofs.Leads.{Stands, Reached, Leads, leads_append, position_in,
 use Rattle.dvi2.proofs.FontPieces.{leads_font}
 use Rattle.dvi2.proofs.Pieces.{leads_right, leads_down, leads_put}
 
--- where an x and a height are shown
+-- where an x is shown
 abbrev pub across : ℤ → ℤ
 across x = per_unit *ℤ x
-
-abbrev pub down : ℤ → ℤ
-down h = per_unit *ℤ (pos 3 *ℤ h)
 
 -- ---- a character
 
 -- the position stands at the place of a valid character, or at a page's start
 pub record OnPage (position : Position) : Type 0 where
   left : negsuc 54 ≤ℤ position.x
-  right : position.x ≤ℤ carriage_end
+  right : position.x ≤ℤ pos 3239
   top : pos 0 ≤ℤ position.y
   bottom : position.y ≤ℤ pos 3000000
 
@@ -70,20 +67,25 @@ on_at c v =
     }
 
 -- moves between such places fit four bytes
-x_small : (a b : ℤ) → negsuc 54 ≤ℤ a → a ≤ℤ carriage_end → negsuc 54 ≤ℤ b → b ≤ℤ carriage_end → SFits w32 (a -ℤ b)
+x_small : (a b : ℤ) → negsuc 54 ≤ℤ a → a ≤ℤ pos 3239 → negsuc 54 ≤ℤ b → b ≤ℤ pos 3239 → SFits w32 (a -ℤ b)
 x_small a b l r l' r' = omega (integers, dif_parts a b)
 
 y_small : (a b : ℤ) → pos 0 ≤ℤ a → a ≤ℤ pos 3000000 → pos 0 ≤ℤ b → b ≤ℤ pos 3000000 → SFits w32 (a -ℤ b)
 y_small a b l r l' r' = omega (integers, dif_parts a b)
 
+three_times : (h : ℤ) → per_unit *ℤ (pos 3 *ℤ h) ≡ pos 3 *ℤ (pos 32768 *ℤ h)
+three_times h =
+    omega (integers, scale_parts 32768 (pos 3 *ℤ h), scale_parts 3 h, scale_parts 3 (pos 32768 *ℤ h), scale_parts 32768 h)
+
 leads_character : (cs : List Character) (position : Position) (c : Character) → OnPage position → Valid height_end c
-    → Leads cs position (commands_of (uses c.font cs) position c) (mark_at across down c ∷ []) (cs ++ (c ∷ [])) (position_at c)
+    → Leads cs position (commands_of (uses c.font cs) position c) (mark_at across c ∷ []) (cs ++ (c ∷ [])) (position_at c)
 unfolding commands_of mark_at position_at
 leads_character cs position c o v =
-    leads_append (leads_font cs position c)
+    rw (three_times c.height.0) at
+    (leads_append (leads_font cs position c)
     (leads_append (leads_right (cs ++ (c ∷ [])) (position_in position c.font) (h_of c) (x_small (h_of c) position.x to.left to.right o.left o.right).sfits)
     (leads_append (leads_down (cs ++ (c ∷ [])) (position_x (position_in position c.font) (h_of c)) (v_of c) (y_small (v_of c) position.y to.top to.bottom o.top o.bottom).sfits)
-    (leads_put (cs ++ (c ∷ [])) (position_at c) c.font c.code refl)))
+    (leads_put (cs ++ (c ∷ [])) (position_at c) c.font c.code refl))))
   where
     to : OnPage (position_at c)
     to = on_at c v
@@ -116,7 +118,7 @@ unfolding start_position new_page
 stands_new cs position fs p h = record { at_x = refl; at_y = refl; at_font = refl; at_stack = refl; used = h.used; current = λ f e. cc }
 
 pub prints_items : (from : Writing) {is : List Item} → OnPage from.position → Small from (length is) → AllValid height_end is → (fs : List ℤ) (p : Page) → Stands from.behind from.position fs p
-    → Reached fs p (items_bytes from is) (marks_at across down from.page is) (writing_after_all from is).behind (writing_after_all from is).position
+    → Reached fs p (items_bytes from is) (marks_at across from.page is) (writing_after_all from is).behind (writing_after_all from is).position
 unfolding transduced item_bytes marks_at writing_after
 prints_items from o s galley.nil fs p h = record { fonts = fs; page = p; stands = h; goes = goes_nil (inside fs p) }
 prints_items from o s (galley.more {i = Placed c} {is = is} v vs) fs p h =

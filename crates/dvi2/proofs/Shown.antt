@@ -1,6 +1,6 @@
 -- What the file of a list of items shows: the preamble, bop, the items, eop, and post.
 --     file_shows     its marks
---     exact          each x is shown at its place, and exact_down each height
+--     exact          each x is shown at its place
 -- Assumes nothing.
 use mathlib.Core.Path.{◌≡◌, refl, ap, ◌∙◌}
 use mathlib.Core.List.{List, [], ◌∷◌, ◌++◌, append_assoc, append-nil}
@@ -10,7 +10,7 @@ use native.Mathlib.Omega.{arith}
 use borrow.Author.Tests.{le-leb}
 use lib.IntN.{ℤ, pos, negsuc, nat_abs, ◌-ℤ◌, ◌*ℤ◌}
 use lib.ListN.{length}
-use Rattle.integers.specs.Parts.{integers, dif_parts, scale_parts, abs_le_lem}
+use Rattle.integers.specs.Parts.{dif_parts, abs_le_lem}
 use Rattle.measure.specs.Place.{height_end}
 use Rattle.octets.specs.Octets.{number_from, bytes}
 use Rattle.galley_file.specs.declared.character.Character.{Character}
@@ -21,7 +21,7 @@ use Rattle.sheet.specs.Sheet.{Mark, page_mark}
 use Rattle.dvi.specs.Page.{new_page}
 use Rattle.extents.specs.FontMarks.{uses}
 use Rattle.dvi.specs.Writer.{start_position}
-use Rattle.dvi.specs.ItemMarks.{marks_at}
+use Rattle.dvi.specs.EditionLaws.{marks_at}
 use Rattle.dvi2.specs.Command.{EOP}
 use Rattle.dvi2.specs.Page.{between}
 use Rattle.dvi2.specs.File.{is_unit, preamble, between_pages, step, shows_first, follow, run, show_dvi2}
@@ -29,7 +29,7 @@ use Rattle.dvi2.specs.Writer.{unit_bytes, preamble_bytes, bop_bytes, first_writi
 use Rattle.dvi2.specs.WriterLaws.{small_first}
 use Rattle.dvi2.proofs.Runs.{goes_append}
 use Rattle.dvi2.proofs.Leads.{Stands, Reached}
-use Rattle.dvi2.proofs.Items.{across, down, on_new, begin_page_lem, end_page_lem, prints_items}
+use Rattle.dvi2.proofs.Items.{across, on_new, begin_page_lem, end_page_lem, prints_items}
 
 stands_first : Stands [] start_position [] new_page
 unfolding start_position new_page uses
@@ -47,18 +47,18 @@ shows_post fs last pages post cs rest = refl
 
 -- the first page's bop, the items, and the last page's eop
 shows_pages : {is : List Item} → AllValid height_end is → length is ≤ max_items → (rest : List ℕ) → ((fs : List ℤ) → run (between fs) 0 rest ≡ some [])
-    → run (between []) 0 ((bop_bytes 1 (negsuc 0) ++ (items_bytes first_writing is ++ (EOP ∷ []))) ++ rest) ≡ some (page_mark (pos 1) ∷ marks_at across down 1 is)
+    → run (between []) 0 ((bop_bytes 1 (negsuc 0) ++ (items_bytes first_writing is ++ (EOP ∷ []))) ++ rest) ≡ some (page_mark (pos 1) ∷ marks_at across 1 is)
 unfolding first_writing shows_first
 shows_pages {is} v h rest e = whole (prints_items first_writing on_new (small_first (length is) h) v [] new_page stands_first)
   where
-    whole : Reached [] new_page (items_bytes first_writing is) (marks_at across down 1 is) (writing_after_all first_writing is).behind (writing_after_all first_writing is).position
-        → run (between []) 0 ((bop_bytes 1 (negsuc 0) ++ (items_bytes first_writing is ++ (EOP ∷ []))) ++ rest) ≡ some (page_mark (pos 1) ∷ marks_at across down 1 is)
+    whole : Reached [] new_page (items_bytes first_writing is) (marks_at across 1 is) (writing_after_all first_writing is).behind (writing_after_all first_writing is).position
+        → run (between []) 0 ((bop_bytes 1 (negsuc 0) ++ (items_bytes first_writing is ++ (EOP ∷ []))) ++ rest) ≡ some (page_mark (pos 1) ∷ marks_at across 1 is)
     whole r =
         (goes_append (begin_page_lem [] 1 (negsuc 0) (omega arith)) (goes_append r.goes (end_page_lem r.fonts r.page r.stands.at_stack))).goes rest
-        ∙ ap (shows_first (page_mark (pos 1) ∷ (marks_at across down 1 is ++ []))) (e r.fonts)
-        ∙ ap (λ (ms : List Mark). some (page_mark (pos 1) ∷ ms)) (append-nil (marks_at across down 1 is ++ []) ∙ append-nil (marks_at across down 1 is))
+        ∙ ap (shows_first (page_mark (pos 1) ∷ (marks_at across 1 is ++ []))) (e r.fonts)
+        ∙ ap (λ (ms : List Mark). some (page_mark (pos 1) ∷ ms)) (append-nil (marks_at across 1 is ++ []) ∙ append-nil (marks_at across 1 is))
 
-pub file_shows : {is : List Item} → AllValid height_end is → length is ≤ max_items → show_dvi2 (dvi2_file is) ≡ some (page_mark (pos 1) ∷ marks_at across down 1 is)
+pub file_shows : {is : List Item} → AllValid height_end is → length is ≤ max_items → show_dvi2 (dvi2_file is) ≡ some (page_mark (pos 1) ∷ marks_at across 1 is)
 unfolding dvi2_file command_bytes pages_bytes
 file_shows {is} v h =
     rw (append_assoc (pages_bytes is) post end, append_assoc preamble_bytes pages (post ++ end))
@@ -74,13 +74,6 @@ file_shows {is} v h =
     end : List ℕ
     end = bytes223 (fillers (length (command_bytes is)))
 
--- 32,768 thirds of an rsu to a unit, and so exactly the place; three units to a quantum
-pub exact : (x : ℤ) → nat_abs (pos 1 *ℤ across x -ℤ pos 32768 *ℤ x) ≤ 0
-exact x =
-    let s = pos 1 *ℤ across x in
-    let t = pos 32768 *ℤ x in
-    abs_le_lem (s -ℤ t) (omega (arith, dif_parts s t, scale_parts 1 (across x)))
-
-pub exact_down : (h : ℤ) → pos 1 *ℤ down h ≡ pos 3 *ℤ (pos 32768 *ℤ h)
-exact_down h =
-    omega (integers, scale_parts 1 (down h), scale_parts 32768 (pos 3 *ℤ h), scale_parts 3 h, scale_parts 3 (pos 32768 *ℤ h), scale_parts 32768 h)
+-- 32,768 thirds of an rsu to a unit, and so exactly the place
+pub exact : (x : ℤ) → nat_abs (across x -ℤ pos 32768 *ℤ x) ≤ 0
+exact x = abs_le_lem (across x -ℤ pos 32768 *ℤ x) (omega (arith, dif_parts (across x) (pos 32768 *ℤ x)))

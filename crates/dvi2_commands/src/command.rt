@@ -1,12 +1,9 @@
 // The commands of a character: its font, the moves to its place, and put1.
-ghost use Rattle.std.specs.Prelude.{◌≡◌, true, ◌++◌, ◌+◌, ◌≤◌, ◌<◌, pos, ◌*ℤ◌, length};
-ghost use Rattle.std.specs.Int.{w32};
-ghost use Rattle.std.proofs.Common.{SFits};
+ghost use Rattle.std.specs.Prelude.{◌≡◌, true, ◌+◌, ◌≤◌, ◌<◌, length};
 ghost use Rattle.octets.specs.Octets.{signed_bytes};
 ghost use Rattle.octets.specs.Write.{Wrote};
 ghost use Rattle.measure.specs.Place.{height_end};
 ghost use Rattle.galley_file.specs.Character.{valid};
-ghost use Rattle.dvi2.specs.Command.{RIGHT1, DOWN1};
 ghost use Rattle.dvi2.specs.Writer.{parameter_width, move, commands_of};
 ghost use Rattle.octets.specs.PutIfRoom.{PutIfRoom};
 ghost use Rattle.dvi2_commands.specs.Position.{position_of, OnPage};
@@ -15,7 +12,6 @@ use crate::position::Position;
 use crate::{font, position, put};
 use dvi2::opcode;
 use galley_file::character::Character;
-use measure::{Quanta, Units};
 use octets::number;
 
 // The fewest of 1, 2, 3 and 4 bytes that hold z in two's complement.
@@ -44,31 +40,20 @@ fn put_signed(out: &mut [u8], at: usize, width: usize, z: i32) -> usize
     }
 }
 
-// Writes a move by z of the file's units, if it is not 0, by the shortest of four commands: op takes one byte, and the next three take two, three and four.
-fn put_shortest(out: &mut [u8], at: usize, op: u8, z: i32) -> usize
+// Writes a move, if it is not 0, by the shortest of four commands: op takes one byte, and the next three take two, three and four.
+fn put_move(out: &mut [u8], at: usize, op: u8, m: i32) -> usize
     requires { (at < 4294967296) × (op ≤ 200) }
-    ensures { PutIfRoom out.old at (move op z) out.new result }
+    ensures { PutIfRoom out.old at (move op m) out.new result }
 {
-    if z == 0 {
+    if m == 0 {
         return at;
     }
-    let width = parameter_width(z);
+    let width = parameter_width(m);
     if out.len() < at + 1 + width {
         return at + 1 + width;
     }
     let to = number::put_byte(out, at, op + (width - 1) as u8);
-    put_signed(out, to, width, z)
-}
-
-// Writes the moves, to the right and then down, h and v of the file's units: a quantum is three.
-fn put_moves(out: &mut [u8], at: usize, right: Units, down: Quanta) -> usize
-    requires { (at + 5 < 4294967296) × SFits w32 (pos 3 *ℤ down.0) }
-    ensures { PutIfRoom out.old at (move RIGHT1 right.0 ++ move DOWN1 (pos 3 *ℤ down.0)) out.new result }
-{
-    let h = right.0;
-    let v = measure::PER_QUANTUM * down.0;
-    let to = put_shortest(out, at, opcode::RIGHT1, h);
-    put_shortest(out, to, opcode::DOWN1, v)
+    put_signed(out, to, width, m)
 }
 
 // Writes the commands that set c after the position `last`; `known` says whether its font is defined.
@@ -79,6 +64,7 @@ pub fn put_commands(out: &mut [u8], at: usize, known: bool, last: Position, c: C
     let right = position::right_to(last, c);
     let down = position::down_to(last, c);
     let mut to = font::put_font(out, at, known, last.font, c.font);
-    to = put_moves(out, to, right, down);
+    to = put_move(out, to, opcode::RIGHT1, right);
+    to = put_move(out, to, opcode::DOWN1, down);
     put::put_two(out, to, opcode::PUT1, c.code)
 }

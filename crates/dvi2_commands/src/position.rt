@@ -3,7 +3,7 @@ ghost use Rattle.std.specs.Prelude.{◌≡◌, true, ◌-ℤ◌};
 ghost use Rattle.measure.specs.Place.{height_end};
 ghost use Rattle.galley_file.specs.Character.{valid};
 ghost use Rattle.dvi.specs.Writer.{start_position};
-ghost use Rattle.dvi2.specs.Writer.{h_of, position_at};
+ghost use Rattle.dvi2.specs.Writer.{h_of, v_of, position_at};
 ghost use Rattle.dvi2_commands.specs.Position.{position_of, OnPage, PositionIs};
 
 use dvi::font_byte;
@@ -43,18 +43,18 @@ pub fn position_at(c: Character) -> Position
     }
 }
 
-// The move to the right from the position to c.
-pub fn right_to(last: Position, c: Character) -> Units
+// The move to the right from the position to c, in the file's units of 1/432 inch.
+pub fn right_to(last: Position, c: Character) -> i32
     requires { OnPage (position_of last) × (valid height_end c ≡ true) }
-    ensures { result.0 ≡ h_of c -ℤ (position_of last).x }
+    ensures { result ≡ h_of c -ℤ (position_of last).x }
 {
-    Units(c.x.0 - last.x.0)
+    c.x.0 - last.x.0
 }
 
-// The move down from the position to c.
-pub fn down_to(last: Position, c: Character) -> Quanta
+// The move down from the position to c, in the same units.
+pub fn down_to(last: Position, c: Character) -> i32
     requires { OnPage (position_of last) × (valid height_end c ≡ true) }
-    ensures { result.0 ≡ c.height.0 -ℤ last.height.0 }
+    ensures { result ≡ v_of c -ℤ (position_of last).y }
 {
-    Quanta(c.height.0 - last.height.0)
+    measure::PER_QUANTUM * (c.height.0 - last.height.0)
 }

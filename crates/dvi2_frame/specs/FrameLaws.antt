@@ -1,10 +1,10 @@
 -- How long the commands around the pages are, and what post is.
 -- Assumes nothing.
-use Rattle.std.specs.Prelude.{◌≡◌, refl, ℕ, ◌%◌, ◌≤◌, ℤ, pos, ◌*ℤ◌, length, ◌≤ℤ◌, List, ◌∷◌, ◌++◌, map}
+use Rattle.std.specs.Prelude.{◌≡◌, refl, ℕ, ◌≤◌, ℤ, pos, ◌*ℤ◌, length, ◌≤ℤ◌, List, map}
 use Rattle.std.proofs.Common.{sym, ap, ◌∙◌, arith}
 use Rattle.integers.specs.Parts.{integers, scale_parts}
 use Rattle.octets.specs.Octets.{bytes, signed_bytes}
-use Rattle.measure.specs.Place.{carriage_end, height_end}
+use Rattle.measure.specs.Place.{height_end}
 use Rattle.galley_file.specs.declared.item.Item.{Item}
 use Rattle.galley_file.specs.Item.{characters_of}
 use Rattle.galley_file.specs.CharacterLaws.{valid_parts, x_range, height_range}
@@ -12,20 +12,19 @@ use Rattle.galley_file.specs.Galley.{AllValid}
 use Rattle.extents.specs.declared.Extents.{Extents}
 use Rattle.extents.specs.Extents.{largest, x_in, height_in, ExtentsAre}
 use Rattle.extents.specs.ExtentsLaws.{largest_target, largest_least, largest_most}
-use Rattle.dvi2.specs.Command.{POST}
 use Rattle.dvi2.specs.Writer.{v_of, unit_bytes, preamble_bytes, post_bytes}
-use Rattle.dvi2_frame.specs.Frame.{Ranged, extent_bytes, post_of, post_post_of}
+use Rattle.dvi2_frame.specs.Frame.{Ranged, post_with, post_of, post_post_of}
 
 pub length_preamble : length preamble_bytes ≡ 15
 unfolding preamble_bytes unit_bytes bytes
 length_preamble = refl
 
-pub length_post : (last : ℕ) (e : Extents) (pages : ℕ) → length (post_of last e pages) ≡ 29
-unfolding post_of extent_bytes unit_bytes bytes signed_bytes
-length_post last e pages = refl
+pub length_post : (last : ℕ) (height width : ℤ) (pages : ℕ) → length (post_with last height width pages) ≡ 29
+unfolding post_with unit_bytes bytes signed_bytes
+length_post last height width pages = refl
 
-pub post_most : (last : ℕ) (e : Extents) (pages : ℕ) → length (post_of last e pages) ≤ 29
-post_most last e pages = omega (arith, length_post last e pages)
+pub post_most : (last : ℕ) (height width : ℤ) (pages : ℕ) → length (post_with last height width pages) ≤ 29
+post_most last height width pages = omega (arith, length_post last height width pages)
 
 pub length_post_post : (post : ℕ) → length (post_post_of post) ≡ 6
 unfolding post_post_of bytes
@@ -42,14 +41,14 @@ module _ (e : Extents) (is : List Item) (a : ExtentsAre e (characters_of is)) wh
 
   -- post is that of the characters
   pub post_is : (last pages : ℕ) → post_of last e pages ≡ post_bytes last pages (characters_of is)
-  unfolding post_of extent_bytes post_bytes
-  post_is last pages = λ i. POST ∷ bytes 4 last ++ (unit_bytes ++ (signed_bytes 4 (heights_are i) ++ (signed_bytes 4 (a.x_is i) ++ (bytes 2 0 ++ bytes 2 (pages % 65536)))))
+  unfolding post_with post_bytes
+  post_is last pages = (λ i. post_with last (heights_are i) (a.x_is i) pages)
 
   pub ranged : AllValid height_end is → Ranged e
   ranged v =
       record {
         left = rw a.x_is (largest_least (map x_in (characters_of is)));
-        right = rw a.x_is (largest_most x_in carriage_end (λ c w. (x_range (valid_parts w)).1) is v (omega integers));
+        right = rw a.x_is (largest_most x_in (pos 3239) (λ c w. (x_range (valid_parts w)).1) is v (omega integers));
         low = rw a.height_is (largest_least (map height_in (characters_of is)));
         high = rw a.height_is (largest_most height_in height_end (λ c w. (height_range (valid_parts w)).1) is v (omega integers));
       }

@@ -1,10 +1,10 @@
 // The commands around the pages of a file of the second edition (document 02, "The second edition of DVI"): the preamble, bop, post and post_post.
 ghost use Rattle.std.specs.Prelude.{◌≡◌, ◌++◌, ◌+◌, ◌%◌, ◌≤◌, ◌<◌, length};
-ghost use Rattle.octets.specs.Octets.{bytes};
+ghost use Rattle.octets.specs.Octets.{bytes, signed_bytes};
 ghost use Rattle.octets.specs.Write.{Wrote};
 ghost use Rattle.octets.specs.PutIfRoom.{PutIfRoom};
 ghost use Rattle.dvi2.specs.Writer.{unit_bytes, preamble_bytes, bop_bytes};
-ghost use Rattle.dvi2_frame.specs.Frame.{Ranged, extent_bytes, post_of, post_post_of};
+ghost use Rattle.dvi2_frame.specs.Frame.{Ranged, post_with, post_of, post_post_of};
 
 use dvi2::opcode;
 use extents::Extents;
@@ -84,21 +84,21 @@ pub fn put_bop(out: &mut [u8], at: usize, page: u32, previous: i32) -> usize
     number::put_signed4(out, to, previous)
 }
 
-// Writes height and width of the largest page, in the file's units, the stack's depth, 0, and the number of pages.
-fn put_extents(out: &mut [u8], at: usize, e: Extents, pages: u32) -> usize
-    requires { (at + 12 ≤ length out.old) × Ranged e }
-    ensures { Wrote out.old at (extent_bytes e pages) out.new result }
+// Writes height and width of the largest page, the stack's depth, 0, and the number of pages.
+fn put_extents(out: &mut [u8], at: usize, height: i32, width: i32, pages: u32) -> usize
+    requires { at + 12 ≤ length out.old }
+    ensures { Wrote out.old at (signed_bytes 4 height ++ (signed_bytes 4 width ++ (bytes 2 0 ++ bytes 2 (pages % 65536)))) out.new result }
 {
-    let mut to = number::put_signed4(out, at, measure::PER_QUANTUM * e.height.0);
-    to = number::put_signed4(out, to, e.x.0);
+    let mut to = number::put_signed4(out, at, height);
+    to = number::put_signed4(out, to, width);
     to = number::put_nat2(out, to, 0);
     number::put_nat2(out, to, pages % 65_536)
 }
 
-// Writes post: the last bop's offset, the extents of all characters, and the number of pages.
-pub fn put_post(out: &mut [u8], at: usize, last: u32, e: Extents, pages: u32) -> usize
-    requires { (at < 4294967296) × Ranged e }
-    ensures { PutIfRoom out.old at (post_of last e pages) out.new result }
+// Writes post, of these numbers.
+fn put_numbers(out: &mut [u8], at: usize, last: u32, height: i32, width: i32, pages: u32) -> usize
+    requires { at < 4294967296 }
+    ensures { PutIfRoom out.old at (post_with last height width pages) out.new result }
 {
     if out.len() < at + POST_LENGTH {
         return at + POST_LENGTH;
@@ -106,7 +106,17 @@ pub fn put_post(out: &mut [u8], at: usize, last: u32, e: Extents, pages: u32) ->
     let mut to = number::put_byte(out, at, opcode::POST);
     to = number::put_nat4(out, to, last);
     to = put_unit(out, to);
-    put_extents(out, to, e, pages)
+    put_extents(out, to, height, width, pages)
+}
+
+// Writes post: the last bop's offset, the extents of all characters, and the number of pages.
+pub fn put_post(out: &mut [u8], at: usize, last: u32, e: Extents, pages: u32) -> usize
+    requires { (at < 4294967296) × Ranged e }
+    ensures { PutIfRoom out.old at (post_of last e pages) out.new result }
+{
+    let height = measure::PER_QUANTUM * e.height.0;
+    let width = e.x.0;
+    put_numbers(out, at, last, height, width, pages)
 }
 
 // Writes post_post, with the offset of post.

@@ -16,7 +16,6 @@ use lib.IntN.{ℤ, pos, negsuc, nat_abs, ◌+ℤ◌}
 use lib.ListN.{length, get_or, drop, length-drop, drop_of_length-le}
 use lib.Seq.{drop-cons}
 use lib.Signed.{mag, le_z, lt_z, ◌≤ℤ◌}
-use Rattle.measure.specs.Place.{carriage_end, double_end, places}
 use Rattle.integers.specs.Parts.{integers}
 use Rattle.integers.specs.Equality.{eq_z}
 use Rattle.octets.specs.Octets.{Bytes, signed_at}
@@ -30,7 +29,7 @@ use Rattle.dvi2.specs.Writer.{parameter_width}
 use Rattle.measure.specs.Target.{entry_x}
 use Rattle.dvi2_reading.specs.PageReading as Page
 use Rattle.dvi2_reading.specs.PageReading.{some_below, valid_in, is_downward, across, downward, lowest}
-use Rattle.dvi2_reading.specs.Reading.{step, in_page, go, height_of, page_state_after, heights}
+use Rattle.dvi2_reading.specs.Reading.{step, in_page, go, height_of, page_state_after, places, heights}
 use mir.Syntax.{w32}
 use mir.Val.{SFits}
 use Rattle.dvi2_reading.specs.PieceLaws.{between_mag, x_mag}
@@ -38,7 +37,7 @@ use Rattle.dvi2_reading.specs.WayLaws.{font_there}
 use Rattle.dvi2_state.specs.declared.page_state.PageState.{PageState}
 use Rattle.dvi.specs.FontOrNone.{font_or_none}
 use Rattle.dvi2_state.specs.declared.page_state.Stepped.TheVariants.{Bad, Short, Put}
-use Rattle.dvi2_state.specs.Page.{page_state_of, page_position, SoundPage, StepIs, MayMove, right_begins, down_begins}
+use Rattle.dvi2_state.specs.Page.{stage_of, page_state_of, page_position, SoundPage, StepIs, MayMove, right_begins, down_begins}
 use Rattle.dvi2_state.proofs.Searches.{false_right, true_right, no_move, a_move}
 use Rattle.dvi2_moves.proofs.CommandKinds.{no_truth}
 use Rattle.dvi2_moves.proofs.MoveSteps.{right_not, right_bad, right_go, right_found, right_none, parts_right, right_parts, down_not, down_bad, down_go, down_found, down_none, parts_down, down_parts}
@@ -57,7 +56,7 @@ out_left (some f) t e = go (is_double (size_index f))
     go true = let l : le_z (negsuc 54) t ≡ false = omega (integers, e) in rw l
     go false = let l : le_z (pos 0) t ≡ false = omega (integers, e) in rw l
 
-pub out_right : (o : Option ℕ) (t : ℤ) → lt_z carriage_end t ≡ true → false ≡ valid_in o t
+pub out_right : (o : Option ℕ) (t : ℤ) → lt_z (pos 3239) t ≡ true → false ≡ valid_in o t
 out_right none t e = refl
 out_right (some f) t e = go (is_double (size_index f))
   where
@@ -66,8 +65,8 @@ out_right (some f) t e = go (is_double (size_index f))
     right_false false v e = refl
 
     go : (d : Bool) → false ≡ valid_x d t
-    go true = right_false (le_z (negsuc 54) t) (le_z t double_end) (omega (integers, e))
-    go false = right_false (le_z (pos 0) t) (le_z t carriage_end) (omega (integers, e))
+    go true = right_false (le_z (negsuc 54) t) (le_z t (pos 3184)) (omega (integers, e))
+    go false = right_false (le_z (pos 0) t) (le_z t (pos 3239)) (omega (integers, e))
 
 pub not_down : (t : ℤ) → lt_z t (pos 0) ≡ true → false ≡ is_downward t
 unfolding is_downward
@@ -104,7 +103,7 @@ valid_fits o t v = let f = font_there o t v in let m = x_mag (is_double (size_in
 
 -- ---- moves
 
-x_near : {h : PageState} → SoundPage h → mag h.x.0 < 1000000
+x_near : {h : PageState} → SoundPage h → mag h.x.0 < 4000
 x_near {h} s = between_mag h.x.0 (s.on_page.left, s.on_page.right)
 
 y_near : {h : PageState} → SoundPage h → mag (page_position h).y < 4000000
@@ -137,10 +136,10 @@ module _ (S : List ℕ) (at op k : ℕ) (h : PageState) (g : MayMove S at op k h
     opcode_right : get_or S at 0 ≡ 142 + k
     opcode_right = g.opcode_is ∙ o
 
-    pub r_not : Page.before_right h.stage ≡ false → StepIs S at h is Bad
+    pub r_not : Page.before_right (stage_of h.stage) ≡ false → StepIs S at h is Bad
     r_not e = sym (right_not H (get_or S at 0) P k (x_near g.sound) g.some_bytes g.few_bytes opcode_right e)
 
-    module _ (b : Page.before_right h.stage ≡ true) (c : length S - at ≤ k) where
+    module _ (b : Page.before_right (stage_of h.stage) ≡ true) (c : length S - at ≤ k) where
       pub r_found : some_below places (λ n. right_begins (drop at S) (page_position h) (entry_x n)) ≡ true → StepIs S at h is Short
       r_found e =
           sym (right_found H (get_or S at 0) P k (x_near g.sound) g.some_bytes g.few_bytes opcode_right more b (cut_short c)
@@ -157,7 +156,7 @@ module _ (S : List ℕ) (at op k : ℕ) (h : PageState) (g : MayMove S at op k h
           sym (right_bad H (get_or S at 0) P k (x_near g.sound) g.some_bytes g.few_bytes opcode_right (whole c)
           (λ w n. let p = right_parts H (get_or S at 0) P k m n in f w (not_zero m p.1.1.0) p.1.1.1))
 
-      pub r_go : Bytes S → Page.before_right h.stage ≡ true → parameter_width m ≡ k → (m ≡ pos 0 → ⊥)
+      pub r_go : Bytes S → Page.before_right (stage_of h.stage) ≡ true → parameter_width m ≡ k → (m ≡ pos 0 → ⊥)
           → valid_in (font_or_none h.font) (h.x.0 +ℤ m) ≡ true → step (in_page H) (get_or S at 0) P ≡ go (page_state_after H (across m)) k
       r_go y b w n v =
           right_go H (get_or S at 0) P k (x_near g.sound) g.some_bytes g.few_bytes opcode_right (whole c) (bytes_drop (at + 1) S y) w
@@ -167,7 +166,7 @@ module _ (S : List ℕ) (at op k : ℕ) (h : PageState) (g : MayMove S at op k h
     opcode_down : get_or S at 0 ≡ 156 + k
     opcode_down = g.opcode_is ∙ o
 
-    pub d_not : (Page.before_down h.stage ≡ true → valid_in (font_or_none h.font) h.x.0 ≡ true → ⊥) → StepIs S at h is Bad
+    pub d_not : (Page.before_down (stage_of h.stage) ≡ true → valid_in (font_or_none h.font) h.x.0 ≡ true → ⊥) → StepIs S at h is Bad
     d_not e = sym (down_not H (get_or S at 0) P k (y_near g.sound) g.some_bytes g.few_bytes opcode_down e)
 
     pub d_bad : k < length S - at → (parameter_width m ≡ k → (m ≡ pos 0 → ⊥) → is_downward ((page_position h).y +ℤ m) ≡ true → ⊥) → StepIs S at h is Bad
@@ -175,7 +174,7 @@ module _ (S : List ℕ) (at op k : ℕ) (h : PageState) (g : MayMove S at op k h
         sym (down_bad H (get_or S at 0) P k (y_near g.sound) g.some_bytes g.few_bytes opcode_down (whole c)
         (λ w n. let p = down_parts H (get_or S at 0) P k m n in f w (not_zero m p.1.1.0) p.1.1.1.1))
 
-    module _ (b : Page.before_down h.stage ≡ true) (v : valid_in (font_or_none h.font) h.x.0 ≡ true) where
+    module _ (b : Page.before_down (stage_of h.stage) ≡ true) (v : valid_in (font_or_none h.font) h.x.0 ≡ true) where
       pub d_found : length S - at ≤ k → some_below heights (λ n. down_begins (drop at S) (page_position h) (pos (3 * n))) ≡ true → StepIs S at h is Short
       d_found c e =
           sym (down_found H (get_or S at 0) P k (y_near g.sound) g.some_bytes g.few_bytes opcode_down more b v (cut_short c)
@@ -195,7 +194,7 @@ module _ (S : List ℕ) (at op k : ℕ) (h : PageState) (g : MayMove S at op k h
 -- ---- put
 
 module _ (S : List ℕ) (at : ℕ) (h : PageState) (a : at < length S) (o : get_or S at 0 ≡ 133) (is : List Item) (l : length is < max_items) where
-  pub p_not : (Page.before_put h.stage ≡ true → valid_in (font_or_none h.font) h.x.0 ≡ true → ⊥) → StepIs S at h is Bad
+  pub p_not : (Page.before_put (stage_of h.stage) ≡ true → valid_in (font_or_none h.font) h.x.0 ≡ true → ⊥) → StepIs S at h is Bad
   p_not f = sym (put_not (page_state_of is h) (get_or S at 0) (drop (at + 1) S) o f)
 
   next_here : at + 1 < length S → drop (at + 1) S ≡ get_or S (at + 1) 0 ∷ drop (suc (at + 1)) S
@@ -204,7 +203,7 @@ module _ (S : List ℕ) (at : ℕ) (h : PageState) (a : at < length S) (o : get_
   pub p_bad : at + 1 < length S → (1 ≤ get_or S (at + 1) 0 → get_or S (at + 1) 0 ≤ 108 → ⊥) → StepIs S at h is Bad
   p_bad n f = sym (put_bad (page_state_of is h) (get_or S at 0) (drop (at + 1) S) o (get_or S (at + 1) 0) (drop (suc (at + 1)) S) (next_here n) f)
 
-  module _ (b : Page.before_put h.stage ≡ true) (v : valid_in (font_or_none h.font) h.x.0 ≡ true) where
+  module _ (b : Page.before_put (stage_of h.stage) ≡ true) (v : valid_in (font_or_none h.font) h.x.0 ≡ true) where
     pub p_short : length S - at < 2 → StepIs S at h is Short
     p_short n = sym (put_short (page_state_of is h) (get_or S at 0) (drop (at + 1) S) o (lt-ltb (length is) max_items l) b v (drop_of_length-le S {i = at + 1} (omega arith)))
 

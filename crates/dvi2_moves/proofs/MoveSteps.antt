@@ -19,8 +19,7 @@ use Rattle.galley_file.specs.Font.{size_index, is_double}
 use Rattle.dvi2.specs.Command.{RIGHT1, DOWN1}
 use Rattle.dvi2.specs.Writer.{parameter_width, shortest}
 use Rattle.dvi2_reading.specs.PageReading.{begins, across, downward, in_bytes, PageState, before_right, before_down, is_more, valid_in, is_downward, may_come, some_below, lowest}
-use Rattle.measure.specs.Place.{places}
-use Rattle.dvi2_reading.specs.Reading.{in_page, page_state_after, refuse, short, go, step, heights}
+use Rattle.dvi2_reading.specs.Reading.{in_page, page_state_after, refuse, short, go, step, places, heights}
 use Rattle.dvi2_reading.specs.BytesLaws.{both_true, begins_is, some_found, found_some}
 use Rattle.dvi2_reading.specs.PieceLaws.{move_between, x_mag}
 use Rattle.dvi2_reading.specs.WayLaws.{font_there}
@@ -58,7 +57,7 @@ module _ (h : PageState) (b : ℕ) (ps : List ℕ) (k : ℕ) where
   unfolding may_come
   parts_right m a c d e = rw (a, c, d) e
 
-  right_case : mag h.position.x < 1000000 → 1 ≤ k → k ≤ 4 → b ≡ 142 + k → MoveCase h b ps k
+  right_case : mag h.position.x < 4000 → 1 ≤ k → k ≤ 4 → b ≡ 142 + k → MoveCase h b ps k
   unfolding in_bytes
   right_case x l u o =
       record {
@@ -76,7 +75,7 @@ module _ (h : PageState) (b : ℕ) (ps : List ℕ) (k : ℕ) where
         only_move = move_right b ps (omega arith) (omega arith);
       }
 
-  module _ (x : mag h.position.x < 1000000) (lo : 1 ≤ k) (hi : k ≤ 4) (o : b ≡ 142 + k) where
+  module _ (x : mag h.position.x < 4000) (lo : 1 ≤ k) (hi : k ≤ 4) (o : b ≡ 142 + k) where
     pub right_not : before_right h.stage ≡ false → step (in_page h) b ps ≡ refuse
     unfolding may_come right_case
     right_not e = move_not h b ps k (right_case x lo hi o) (λ m. no m)

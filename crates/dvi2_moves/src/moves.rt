@@ -7,8 +7,7 @@ ghost use Rattle.dvi2_reading.specs.Reading as R;
 ghost use Rattle.dvi2_state.specs.Page.{StepsAs, MayMove};
 
 use dvi2_commands::command;
-use dvi2_reading::Stage;
-use dvi2_state::page_state::{PageState, Stepped};
+use dvi2_state::page_state::{PageState, Stage, Stepped};
 use dvi2_state::{begin, page_state};
 use galley_file::character;
 use measure::{Quanta, Units};
@@ -40,7 +39,7 @@ fn signed_at(s: &[u8], at: usize, k: usize) -> i32
 }
 
 // Whether a character of font f may stand at t.
-pub fn valid_at(f: u8, t: i64) -> bool
+fn valid_at(f: u8, t: i64) -> bool
     ensures { result ≡ Page.valid_in (font_or_none f) t }
 {
     if t < FIRST_X {

@@ -22,7 +22,7 @@ use Rattle.dvi2_reading.specs.BytesLaws.{some_found, found_some}
 use Rattle.dvi2_state.specs.declared.page_state.PageState.{PageState}
 use Rattle.dvi2_page.specs.declared.matching.Match.TheVariants.{Whole, Short, Other}
 use Rattle.dvi2_page.specs.Match.{compared}
-use Rattle.dvi2_state.specs.Page.{page_state_of}
+use Rattle.dvi2_state.specs.Page.{stage_of, page_state_of}
 use Rattle.dvi2_page.specs.Fonts.{Known, is_free}
 use Rattle.dvi2_page.proofs.Choices.{define_none, define_some, define_not, define_other, define_short, define_go}
 use Rattle.dvi2_moves.proofs.CommandKinds.{no_truth}
@@ -38,14 +38,14 @@ module _ (S : List ℕ) (at : ℕ) (h : PageState) (is : List Item) (l : length 
   abbrev P : List ℕ
   P = drop (at + 1) S
 
-  define_is : (f : ℕ) → may_come H (defining f) ≡ (is_ready h.stage && (ltb f 120 && not (uses f (characters_of is))))
+  define_is : (f : ℕ) → may_come H (defining f) ≡ (is_ready (stage_of h.stage) && (ltb f 120 && not (uses f (characters_of is))))
   unfolding may_come
   define_is f = rw (lt-ltb (length is) max_items l)
 
-  pub d_not_ready : is_ready h.stage ≡ false → refuse ≡ step (in_page H) B P
+  pub d_not_ready : is_ready (stage_of h.stage) ≡ false → refuse ≡ step (in_page H) B P
   d_not_ready e = sym (define_none H B P o (λ f u. define_is f ∙ ap (λ (t : Bool). t && (ltb f 120 && not (uses f (characters_of is)))) e))
 
-  module _ (r : is_ready h.stage ≡ true) where
+  module _ (r : is_ready (stage_of h.stage) ≡ true) where
     ready_is : (f : ℕ) → may_come H (defining f) ≡ (ltb f 120 && not (uses f (characters_of is)))
     ready_is f = define_is f ∙ ap (λ (t : Bool). t && (ltb f 120 && not (uses f (characters_of is)))) r
 

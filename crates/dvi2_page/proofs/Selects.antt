@@ -16,13 +16,12 @@ use Rattle.galley_file.specs.declared.item.Item.{Item}
 use Rattle.galley_file.specs.Galley.{max_items}
 use Rattle.galley_file.specs.Item.{characters_of}
 use Rattle.dvi2_reading.specs.PageReading as Page
-use Rattle.dvi2_reading.specs.declared.Stage.{Stage}
 use Rattle.dvi2_reading.specs.PageReading.{some_below, may_come, may_choose, selecting}
 use Rattle.dvi2_reading.specs.Reading.{step, in_page, refuse, short, go, page_state_after}
 use Rattle.dvi2_reading.specs.BytesLaws.{some_found, found_some}
 use Rattle.dvi2_state.specs.declared.page_state.PageState.{PageState}
 use Rattle.dvi.specs.FontOrNone.{font_or_none}
-use Rattle.dvi2_state.specs.Page.{page_state_of, SoundPage}
+use Rattle.dvi2_state.specs.Page.{stage_of, page_state_of, SoundPage}
 use Rattle.dvi2_page.specs.Fonts.{Known, chooses_high, is_free}
 use Rattle.dvi2_page.proofs.Choices.{low_bad, low_go, high_none, high_some, high_bad, high_go}
 use Rattle.extents.specs.FontMarks.{is_marked}
@@ -31,12 +30,12 @@ use Rattle.dvi2_page.proofs.Marks.{choose_big}
 use Rattle.dvi2_moves.proofs.CommandKinds.{no_truth}
 
 -- no font below 64
-pub none_low : (n : ℕ) (s : Stage) (cs : List Character) (o : Option ℕ) → n ≤ 64 → some_below n (chooses_high s cs o) ≡ false
+pub none_low : (n : ℕ) (s : Page.Stage) (cs : List Character) (o : Option ℕ) → n ≤ 64 → some_below n (chooses_high s cs o) ≡ false
 unfolding some_below chooses_high
 none_low zero s cs o l = refl
 none_low (suc n) s cs o l = rw (lt-leb 64 n (omega arith)) (none_low n s cs o (omega arith))
 
-pub chooses_high_lem : (s : Stage) (cs : List Character) (o : Option ℕ) (f : ℕ) → 64 ≤ f → chooses_high s cs o f ≡ may_choose s cs o f
+pub chooses_high_lem : (s : Page.Stage) (cs : List Character) (o : Option ℕ) (f : ℕ) → 64 ≤ f → chooses_high s cs o f ≡ may_choose s cs o f
 unfolding chooses_high
 chooses_high_lem s cs o f l = rw (le-leb 64 f l)
 
@@ -51,7 +50,7 @@ module _ (S : List ℕ) (at : ℕ) (h : PageState) (sound : SoundPage h) (is : L
   P = drop (at + 1) S
 
   abbrev chooses : ℕ → Bool
-  chooses f = may_choose h.stage (characters_of is) (font_or_none h.font) f
+  chooses f = may_choose (stage_of h.stage) (characters_of is) (font_or_none h.font) f
 
   select_is : (f : ℕ) → may_come H (selecting f) ≡ chooses f
   unfolding may_come
@@ -67,14 +66,14 @@ module _ (S : List ℕ) (at : ℕ) (h : PageState) (sound : SoundPage h) (is : L
     none_here : length S - at < 2 → P ≡ []
     none_here n = drop_of_length-le S {i = at + 1} (omega arith)
 
-    pub s_short : length S - at < 2 → some_below 120 (chooses_high h.stage (characters_of is) (font_or_none h.font)) ≡ true → short ≡ step (in_page H) B P
+    pub s_short : length S - at < 2 → some_below 120 (chooses_high (stage_of h.stage) (characters_of is) (font_or_none h.font)) ≡ true → short ≡ step (in_page H) B P
     unfolding chooses_high
     s_short n e =
-        let f = some_found 120 (chooses_high h.stage (characters_of is) (font_or_none h.font)) e in
+        let f = some_found 120 (chooses_high (stage_of h.stage) (characters_of is) (font_or_none h.font)) e in
         let b = both (leb 64 f.found) (chooses f.found) f.holds in
         sym (high_some H B P o (none_here n) f.found (leb-true 64 f.found b.0) f.is_below (select_is f.found ∙ b.1))
 
-    pub s_none : length S - at < 2 → some_below 120 (chooses_high h.stage (characters_of is) (font_or_none h.font)) ≡ false → refuse ≡ step (in_page H) B P
+    pub s_none : length S - at < 2 → some_below 120 (chooses_high (stage_of h.stage) (characters_of is) (font_or_none h.font)) ≡ false → refuse ≡ step (in_page H) B P
     s_none n e =
         sym (high_none H B P o (none_here n)
         (λ f a b. select_is f ∙ off f (chooses f) refl a b)
@@ -82,11 +81,11 @@ module _ (S : List ℕ) (at : ℕ) (h : PageState) (sound : SoundPage h) (is : L
       where
         off : (f : ℕ) (t : Bool) → chooses f ≡ t → 64 ≤ f → f < 120 → t ≡ false
         off f true q a b =
-            absurd (no_truth _ (found_some 120 (chooses_high h.stage (characters_of is) (font_or_none h.font)) f b (chooses_high_lem h.stage (characters_of is) (font_or_none h.font) f a ∙ q)) e)
+            absurd (no_truth _ (found_some 120 (chooses_high (stage_of h.stage) (characters_of is) (font_or_none h.font)) f b (chooses_high_lem (stage_of h.stage) (characters_of is) (font_or_none h.font) f a ∙ q)) e)
         off f false q a b = refl
 
         small : (f : ℕ) (t : Bool) → leb 120 f ≡ t → chooses f ≡ true → f < 120
-        small f true q c = absurd (no_truth (chooses f) c (sym (choose_big h.font f low high is k h.stage (leb-true 120 f q) sound.font_valid)))
+        small f true q c = absurd (no_truth (chooses f) c (sym (choose_big h.font f low high is k (stage_of h.stage) (leb-true 120 f q) sound.font_valid)))
         small f false q c = leb-false 120 f q
 
     module _ (n : at + 1 < length S) where

@@ -13,7 +13,7 @@ use Rattle.dvi2_reading.specs.PageReading as Page
 use Rattle.dvi2_reading.specs.PageReading.{PageCommand, ending, defining, selecting, across, downward, putting, is_ready}
 use Rattle.dvi2_reading.specs.Reading.{step, in_page, between, refuse, go}
 use Rattle.dvi2_state.specs.declared.page_state.PageState.{PageState}
-use Rattle.dvi2_state.specs.Page.{page_state_of}
+use Rattle.dvi2_state.specs.Page.{stage_of, page_state_of}
 use Rattle.dvi2_moves.proofs.CommandKinds.{Kind}
 use Rattle.dvi2_moves.proofs.Pages.{eop_go, eop_bad, full_bad, other_bad}
 
@@ -27,10 +27,10 @@ module _ (S : List ℕ) (at : ℕ) (h : PageState) (is : List Item) where
   abbrev P : List ℕ
   P = drop (at + 1) S
 
-  pub s_end : B ≡ 140 → is_ready h.stage ≡ true → go (between is) 0 ≡ step (in_page H) B P
+  pub s_end : B ≡ 140 → is_ready (stage_of h.stage) ≡ true → go (between is) 0 ≡ step (in_page H) B P
   s_end e r = sym (eop_go H B P e r)
 
-  pub s_early : B ≡ 140 → is_ready h.stage ≡ false → refuse ≡ step (in_page H) B P
+  pub s_early : B ≡ 140 → is_ready (stage_of h.stage) ≡ false → refuse ≡ step (in_page H) B P
   s_early e r = sym (eop_bad H B P e r)
 
   pub s_full : (B ≡ 140 → ⊥) → max_items ≤ length is → refuse ≡ step (in_page H) B P

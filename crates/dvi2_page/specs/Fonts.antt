@@ -12,7 +12,6 @@ use Rattle.galley_file.specs.Galley.{max_items}
 use Rattle.extents.specs.declared.fonts.Fonts.{Fonts}
 use Rattle.extents.specs.FontMarks.{uses, FontsAre}
 use Rattle.dvi2_reading.specs.PageReading as Page
-use Rattle.dvi2_reading.specs.declared.Stage.{Stage}
 use Rattle.dvi2_state.specs.declared.page_state.PageState.{PageState}
 use Rattle.dvi2_state.specs.declared.page_state.Stepped.{Stepped}
 use Rattle.dvi2_state.specs.Page.{StepIs}
@@ -26,7 +25,7 @@ abbrev pub StepsWith : List ℕ → ℕ → PageState → Fonts → Stepped → 
 StepsWith s at h used r = (is : List Item) → length is < max_items → Known used.low used.high is → StepIs s at h is r
 
 -- a font from 64 on that may be chosen
-unfoldable pub chooses_high : Stage → List Character → Option ℕ → ℕ → Bool
+unfoldable pub chooses_high : Page.Stage → List Character → Option ℕ → ℕ → Bool
 chooses_high s cs o f = leb 64 f && Page.may_choose s cs o f
 
 -- a font that is not used

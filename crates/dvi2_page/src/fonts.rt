@@ -6,23 +6,22 @@ ghost use Rattle.galley_file.specs.Item.{characters_of};
 ghost use Rattle.dvi2.specs.Writer as W;
 ghost use Rattle.dvi.specs.FontOrNone.{font_or_none};
 ghost use Rattle.dvi2_reading.specs.PageReading as Page;
-ghost use Rattle.dvi2_state.specs.Page.{SoundPage};
+ghost use Rattle.dvi2_state.specs.Page.{stage_of, SoundPage};
 ghost use Rattle.dvi2_page.specs.Fonts.{Known, StepsWith, chooses_high, is_free};
 
 use crate::matching;
 use crate::matching::Match;
 use dvi2::opcode;
 use dvi2_commands::font;
-use dvi2_reading::Stage;
 use dvi2_state::page_state;
-use dvi2_state::page_state::{PageState, Stepped};
+use dvi2_state::page_state::{PageState, Stage, Stepped};
 use extents::fonts;
 use extents::fonts::Fonts;
 
 // Whether font f may be chosen at a stage, after the font `last`.
 fn may_choose(stage: Stage, last: u8, used: Fonts, f: u8) -> bool
     requires { (g : ℕ) → font_or_none last ≡ some g → g < 120 }
-    ensures { (is : List Item) → Known used.low used.high is → result ≡ Page.may_choose stage (characters_of is) (font_or_none last) f }
+    ensures { (is : List Item) → Known used.low used.high is → result ≡ Page.may_choose (stage_of stage) (characters_of is) (font_or_none last) f }
 {
     if galley_file::font::FONTS <= f {
         return false;
@@ -44,7 +43,7 @@ fn may_choose(stage: Stage, last: u8, used: Fonts, f: u8) -> bool
 // Whether some font from 64 on may be chosen.
 fn may_begin_font(stage: Stage, last: u8, used: Fonts) -> bool
     requires { (g : ℕ) → font_or_none last ≡ some g → g < 120 }
-    ensures { (is : List Item) → Known used.low used.high is → result ≡ Page.some_below 120 (chooses_high stage (characters_of is) (font_or_none last)) }
+    ensures { (is : List Item) → Known used.low used.high is → result ≡ Page.some_below 120 (chooses_high (stage_of stage) (characters_of is) (font_or_none last)) }
 {
     let mut f: u8 = opcode::FNTNUMS;
     while f < galley_file::font::FONTS {
@@ -121,7 +120,7 @@ pub fn definition(f: u8) -> [u8; font::DEFINITION]
 
 // fnt_def1, with font f after it.
 fn define_font(s: &[u8], at: usize, h: PageState, used: Fonts, f: u8) -> Stepped
-    requires { ((at + 1 < length s.now) × ((get_or s.now at 0 ≡ 243) × (get_or s.now (at + 1) 0 ≡ f))) × (Page.is_ready h.stage ≡ true) }
+    requires { ((at + 1 < length s.now) × ((get_or s.now at 0 ≡ 243) × (get_or s.now (at + 1) 0 ≡ f))) × (Page.is_ready (stage_of h.stage) ≡ true) }
     ensures { StepsWith s.now at h used result }
 {
     if galley_file::font::FONTS <= f {

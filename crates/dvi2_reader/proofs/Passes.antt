@@ -28,10 +28,16 @@ use Rattle.dvi2_state.specs.declared.page_state.PageState.{PageState}
 use Rattle.dvi2_state.specs.Page.{page_state_of}
 use Rattle.dvi2_turn.specs.declared.tally.Tally.{Tally}
 use Rattle.dvi2_turn.specs.Tally.{TallyIs, TallyRanged}
-use Rattle.dvi2_reader.specs.Pass.{Given, Going}
+use Rattle.dvi2_reader.specs.Pass.{Given}
 use Rattle.dvi2_turn.specs.Turn.{Turning}
 use Rattle.dvi2_turn.proofs.Stands.{last_valid}
 use Rattle.dvi2_turn.proofs.Tallies.{tally_ranged}
+
+pub record Going (s before : List ℕ) (at : ℕ) (h : PageState) (t : Tally) (to : ℕ) (out : List ℕ) : Type 0 where
+  pub items : List Item
+  pub standing : Standing s (in_page (page_state_of items h)) at
+  pub tally : TallyIs t items
+  pub puts : PutIfRoom before 0 (fields New items) out to
 
 pub going_start : (s before : List ℕ) (at : ℕ) (h : PageState) (t : Tally) → Standing s (in_page (new_page_state [])) at → page_state_of [] h ≡ new_page_state [] → TallyIs t [] → Going s before at h t 0 before
 unfolding fields

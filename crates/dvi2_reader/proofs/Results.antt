@@ -7,7 +7,7 @@ use native.Mathlib.Nat.{suc-ne-zero}
 use native.Mathlib.Omega.{arith}
 use borrow.Author.Tests.{lt-ltb, le-ltb}
 use lib.ListN.{length, drop}
-use Rattle.octets.specs.Answer.{Outcome, accepted, refused, Result, Gives, refusal, written, if_room, file_too_long, no_galley_room, not_ours}
+use Rattle.octets.specs.Answer.{accepted, refused, Gives, refusal, written, if_room, file_too_long, no_galley_room, not_ours}
 use Rattle.octets.specs.AnswerLaws.{room_short, room_enough, gives as outcome-gives}
 use Rattle.octets.specs.PutIfRoom.{PutIfRoom}
 use Rattle.octets.specs.Write.{sets_start}
@@ -15,8 +15,6 @@ use Rattle.galley_file.specs.declared.form.Form.TheVariants.{New}
 use Rattle.galley_file.specs.declared.item.Item.{Item}
 use Rattle.galley_file.specs.Galley.{galley}
 use Rattle.dvi2.specs.File.{max_dvi2}
-use Rattle.dvi2_reading.specs.Beginning.{Reads}
-use Rattle.dvi2_reading.specs.ReadingLaws.{result_reads}
 use Rattle.dvi2_reading.specs.Reading.{gives, bad, read_file, galley_result, read2_result}
 use Rattle.dvi2_close.specs.declared.expect.Reading.{Reading}
 use Rattle.dvi2_close.specs.declared.expect.Reading.TheVariants.{To, Fault}
@@ -24,10 +22,6 @@ use Rattle.dvi2_reader.specs.Pass.{Given, Passed}
 
 items_same : {is js : List Item} → gives is ≡ gives js → is ≡ js
 items_same e = cc
-
--- what is given is what the reader is to give
-pub as_read : {o : Outcome} {s buffer later : List ℕ} → Gives o (read2_result s) buffer later → (result : ℕ → Result) × (Reads s result × Gives o result buffer later)
-as_read {s = s} g = (read2_result s, (result_reads s, g))
 
 module _ (s : List ℕ) where
   -- 20

@@ -1,13 +1,10 @@
 // The files of the second edition, read back into galleys (document 02, "The second edition of DVI").
-mod quick;
-
-ghost use Rattle.std.specs.Prelude.{[], ℕ, ◌≤◌, ◌<◌, length};
-ghost use Rattle.octets.specs.Answer.{outcome_of, Result, Gives};
+ghost use Rattle.std.specs.Prelude.{[], ◌≤◌, ◌<◌, length};
+ghost use Rattle.octets.specs.Answer.{outcome_of, Gives};
 ghost use Rattle.octets.specs.Field.{end_field};
 ghost use Rattle.octets.specs.PutIfRoom.{PutIfRoom};
 ghost use Rattle.galley_file.specs.declared.form.Form.TheVariants.{New};
 ghost use Rattle.galley_file.specs.Item.{item_field};
-ghost use Rattle.dvi2_reading.specs.Beginning.{Reads};
 ghost use Rattle.dvi2_reading.specs.Reading.{in_page, new_page_state, read2_result};
 ghost use Rattle.dvi2_reading.specs.Standing.{Standing};
 ghost use Rattle.dvi2_reader.specs.Pass.{Passed};
@@ -57,32 +54,23 @@ fn pass(dvi: &[u8], first: usize, out: &mut [u8]) -> Reading
     let mut t = tally::none();
     let mut to: usize = 0;
     while at < dvi.len() {
-        let k = quick::run(dvi, out, at, to, h, t);
-        at = k.at;
-        to = k.to;
-        let state = k.state;
-        h = state;
-        let counts = k.tally;
-        t = counts;
-        if at < dvi.len() {
-            let r = turn::take_turn(dvi, at, h, t);
-            match r {
-                Turn::Bad(place) => {
-                    return Reading::Fault(place);
-                }
-                Turn::Whole => {
-                    return Reading::To(put_end(out, to, t.characters));
-                }
-                Turn::On(g, next) => {
-                    h = g;
-                    at = next;
-                }
-                Turn::Set(i, g, next) => {
-                    to = put_item(out, to, i);
-                    t = tally::with_item(t, i, next);
-                    h = g;
-                    at = next;
-                }
+        let r = turn::take_turn(dvi, at, h, t);
+        match r {
+            Turn::Bad(place) => {
+                return Reading::Fault(place);
+            }
+            Turn::Whole => {
+                return Reading::To(put_end(out, to, t.characters));
+            }
+            Turn::On(g, next) => {
+                h = g;
+                at = next;
+            }
+            Turn::Set(i, g, next) => {
+                to = put_item(out, to, i);
+                t = tally::with_item(t, i, next);
+                h = g;
+                at = next;
             }
         }
     }
@@ -110,7 +98,7 @@ fn read_pages(dvi: &[u8], first: usize, galley: &mut [u8]) -> Answer
 
 // Reads a file of the second edition into the lent galley buffer.
 pub fn read_dvi2(dvi: &[u8], galley: &mut [u8]) -> Answer
-    ensures* { λ r. ⌜ ((result : ℕ → Result) × (Reads dvi.now result × Gives (outcome_of r) result galley.old galley.new)) ⌝ }
+    ensures { Gives (outcome_of result) (read2_result dvi.now) galley.old galley.new }
 {
     if MAX_DVI2 < dvi.len() {
         return Answer::Refused(answer::FILE_TOO_LONG, 0);

@@ -26,9 +26,7 @@ use Rattle.extents.specs.FontMarks.{uses}
 use Rattle.dvi.specs.Writer.{Position}
 use Rattle.dvi2.specs.Command.{PUT1, RIGHT1, DOWN1}
 use Rattle.dvi2.specs.Writer.{h_of, v_of, position_at, selects, definition, font_commands, font_change, shortest, move, commands_of}
-use Rattle.dvi2_reading.specs.PageReading.{defining, selecting, across, downward, putting, in_bytes, PageState, before_right, before_down, before_put, is_more, is_font, valid_in, is_downward, may_come, lowest}
-use Rattle.dvi2_reading.specs.declared.Stage.{Stage}
-use Rattle.dvi2_reading.specs.declared.Stage.TheVariants.{Ready, Named, Chosen, Moved, Lowered}
+use Rattle.dvi2_reading.specs.PageReading.{defining, selecting, across, downward, putting, in_bytes, Stage, ready, named, chosen, moved, lowered, PageState, before_right, before_down, before_put, is_more, is_font, valid_in, is_downward, may_come, lowest}
 use Rattle.dvi2_reading.specs.Reading.{in_page, height_of, character_of, with_font, page_state_after}
 use Rattle.dvi2_reading.specs.BytesLaws.{both_true}
 use Rattle.dvi2_reading.specs.SizeLaws.{put_command, definition_command, selects_command, right_command, down_command}
@@ -78,32 +76,32 @@ module _ (is : List Item) (l : length is < max_items) where
 
   -- a font that differs
   select_path : (position : Position) (f : ℕ) → f < 120 → is_font position.font f ≡ false
-      → Path (in_page (midpage Ready position)) (font_commands (uses f (characters_of is)) f) (in_page (midpage Chosen (with_font position f)))
+      → Path (in_page (midpage ready position)) (font_commands (uses f (characters_of is)) f) (in_page (midpage chosen (with_font position f)))
   unfolding font_commands may_come page_state_after in_bytes with_font
   select_path position f s n = go (uses f (characters_of is)) refl
     where
       go : (t : Bool) → uses f (characters_of is) ≡ t
-          → Path (in_page (midpage Ready position)) (cond t (selects f) (definition f ++ selects f)) (in_page (midpage Chosen (with_font position f)))
+          → Path (in_page (midpage ready position)) (cond t (selects f) (definition f ++ selects f)) (in_page (midpage chosen (with_font position f)))
       go true u =
           path_one
-          (page_next_lem (midpage Ready position) (selecting f) tt
+          (page_next_lem (midpage ready position) (selecting f) tt
           (both_true (is_more is) (uses f (characters_of is) && not (is_font position.font f)) is_more_lem
           (both_true (uses f (characters_of is)) (not (is_font position.font f)) u (not_so (is_font position.font f) n))))
           (selects_command f)
       go false u =
           step
-          (page_next_lem (midpage Ready position) (defining f) tt
+          (page_next_lem (midpage ready position) (defining f) tt
           (both_true (is_more is) (true && (ltb f 120 && not (uses f (characters_of is)))) is_more_lem
           (both_true (ltb f 120) (not (uses f (characters_of is))) (lt-ltb f 120 s) (not_so (uses f (characters_of is)) u))))
           (definition_command f)
           (path_one
-          (page_next_lem (midpage Named (with_font position f)) (selecting f) tt (both_true (is_more is) (eqb f f) is_more_lem (eq-eqb f f refl)))
+          (page_next_lem (midpage named (with_font position f)) (selecting f) tt (both_true (is_more is) (eqb f f) is_more_lem (eq-eqb f f refl)))
           (selects_command f))
 
   record Fonted (position : Position) (f : ℕ) : Type 0 where
     pub at_stage : Stage
     pub before : before_right at_stage ≡ true
-    pub path : Path (in_page (midpage Ready position)) (font_change (uses f (characters_of is)) position.font f) (in_page (midpage at_stage (with_font position f)))
+    pub path : Path (in_page (midpage ready position)) (font_change (uses f (characters_of is)) position.font f) (in_page (midpage at_stage (with_font position f)))
 
   font_path : (position : Position) (f : ℕ) → f < 120 → Fonted position f
   unfolding font_change with_font
@@ -112,10 +110,10 @@ module _ (is : List Item) (l : length is < max_items) where
       other : (o : Option ℕ) → position.font ≡ o → is_font o f ≡ false → font_change (uses f (characters_of is)) o f ≡ font_commands (uses f (characters_of is)) f → Fonted position f
       other o e n w =
           record {
-            at_stage = Chosen;
+            at_stage = chosen;
             before = refl;
             path =
-                subst (λ (b : List ℕ). Path (in_page (midpage Ready position)) b (in_page (midpage Chosen (with_font position f))))
+                subst (λ (b : List ℕ). Path (in_page (midpage ready position)) b (in_page (midpage chosen (with_font position f))))
                 (sym (ap (λ (p : Option ℕ). font_change (uses f (characters_of is)) p f) e ∙ w))
                 (select_path position f s (ap (λ (p : Option ℕ). is_font p f) e ∙ n));
           }
@@ -128,12 +126,12 @@ module _ (is : List Item) (l : length is < max_items) where
           by_font true q =
               let p : position.font ≡ some f = e ∙ ap (λ (n : ℕ). some n) (eqb-true g f q) in
               record {
-                at_stage = Ready;
+                at_stage = ready;
                 before = refl;
                 path =
-                    subst (λ (b : List ℕ). Path (in_page (midpage Ready position)) b (in_page (midpage Ready (with_font position f))))
+                    subst (λ (b : List ℕ). Path (in_page (midpage ready position)) b (in_page (midpage ready (with_font position f))))
                     (sym (ap (λ (o : Option ℕ). font_change (uses f (characters_of is)) o f) e ∙ rw q))
-                    (subst (λ (o : Option ℕ). Path (in_page (midpage Ready position)) [] (in_page (midpage Ready (record { font = o; x = position.x; y = position.y })))) p stop);
+                    (subst (λ (o : Option ℕ). Path (in_page (midpage ready position)) [] (in_page (midpage ready (record { font = o; x = position.x; y = position.y })))) p stop);
               }
           by_font false q = other (some g) e q (rw q)
 
@@ -173,11 +171,11 @@ module _ (is : List Item) (l : length is < max_items) where
                 (subst (λ (a : ℤ). Path (in_page (midpage s (at from))) (shortest op m) (in_page (midpage after (at a)))) (move_ends from to) (one q));
           }
 
-  right_path : (s : Stage) (f : ℕ) (x y to : ℤ) → before_right s ≡ true → mag x < 1000000 → valid_x (is_double (size_index f)) to ≡ true
+  right_path : (s : Stage) (f : ℕ) (x y to : ℤ) → before_right s ≡ true → mag x < 4000 → valid_x (is_double (size_index f)) to ≡ true
       → Moves RIGHT1 s before_down (λ a. record { font = some f; x = a; y = y }) x to
   unfolding may_come page_state_after in_bytes
   right_path s f x y to b k v =
-      move_path RIGHT1 s Moved before_down (λ a. record { font = some f; x = a; y = y }) x to (before_down_lem s b) refl
+      move_path RIGHT1 s moved before_down (λ a. record { font = some f; x = a; y = y }) x to (before_down_lem s b) refl
       (λ q.
       let m = to -ℤ x in
       let a : valid_in (some f) (x +ℤ m) ≡ true = subst (λ (z : ℤ). valid_x (is_double (size_index f)) z ≡ true) (sym (move_ends x to)) v in
@@ -190,17 +188,17 @@ module _ (is : List Item) (l : length is < max_items) where
       (right_command m))
     where
       before_down_lem : (s : Stage) → before_right s ≡ true → before_down s ≡ true
-      before_down_lem Ready e = e
-      before_down_lem Named e = e
-      before_down_lem Chosen e = e
-      before_down_lem Moved e = refl
-      before_down_lem Lowered e = e
+      before_down_lem ready e = e
+      before_down_lem named e = e
+      before_down_lem chosen e = e
+      before_down_lem moved e = refl
+      before_down_lem lowered e = e
 
   down_path : (s : Stage) (f : ℕ) (x y to : ℤ) → before_down s ≡ true → is_downward y ≡ true → valid_x (is_double (size_index f)) x ≡ true → is_downward to ≡ true
       → Moves DOWN1 s before_put (λ a. record { font = some f; x = x; y = a }) y to
   unfolding may_come page_state_after in_bytes
   down_path s f x y to b k v d =
-      move_path DOWN1 s Lowered before_put (λ a. record { font = some f; x = x; y = a }) y to (before_put_lem s b) refl
+      move_path DOWN1 s lowered before_put (λ a. record { font = some f; x = x; y = a }) y to (before_put_lem s b) refl
       (λ q.
       let m = to -ℤ y in
       let a : is_downward (y +ℤ m) ≡ true = subst (λ (z : ℤ). is_downward z ≡ true) (sym (move_ends y to)) d in
@@ -213,18 +211,18 @@ module _ (is : List Item) (l : length is < max_items) where
       (down_command m))
     where
       before_put_lem : (s : Stage) → before_down s ≡ true → before_put s ≡ true
-      before_put_lem Ready e = e
-      before_put_lem Named e = e
-      before_put_lem Chosen e = e
-      before_put_lem Moved e = e
-      before_put_lem Lowered e = refl
+      before_put_lem ready e = e
+      before_put_lem named e = e
+      before_put_lem chosen e = e
+      before_put_lem moved e = e
+      before_put_lem lowered e = refl
 
   put_path : (s : Stage) (c : Character) → before_put s ≡ true → Valid height_end c → height_of (v_of c) ≡ c.height.0
-      → Path (in_page (midpage s (position_at c))) (PUT1 ∷ c.code ∷ []) (in_page (record { items = is ++ (Placed c ∷ []); stage = Ready; position = position_at c }))
+      → Path (in_page (midpage s (position_at c))) (PUT1 ∷ c.code ∷ []) (in_page (record { items = is ++ (Placed c ∷ []); stage = ready; position = position_at c }))
   unfolding may_come page_state_after in_bytes character_of position_at
   put_path s c b v e =
       subst (λ (h : ℤ). Path (in_page (midpage s (position_at c))) (PUT1 ∷ c.code ∷ [])
-      (in_page (record { items = is ++ (Placed (record { x = c.x; height = record { 0 = h }; font = c.font; code = c.code }) ∷ []); stage = Ready; position = position_at c }))) e
+      (in_page (record { items = is ++ (Placed (record { x = c.x; height = record { 0 = h }; font = c.font; code = c.code }) ∷ []); stage = ready; position = position_at c }))) e
       (path_one
       (page_next_lem (midpage s (position_at c)) (putting c.code) tt
       (both_true (is_more is) (before_put s && (valid_in (some c.font) c.x.0 && (leb 1 c.code && leb c.code 108))) is_more_lem
@@ -233,8 +231,8 @@ module _ (is : List Item) (l : length is < max_items) where
       (both_true (leb 1 c.code) (leb c.code 108) (le-leb 1 c.code v.first) (le-leb c.code 108 v.last))))))
       (put_command c.code))
 
-  pub character_path : (position : Position) (c : Character) → mag position.x < 1000000 → is_downward position.y ≡ true → valid height_end c ≡ true
-      → Path (in_page (midpage Ready position)) (commands_of (uses c.font (characters_of is)) position c) (in_page (record { items = is ++ (Placed c ∷ []); stage = Ready; position = position_at c }))
+  pub character_path : (position : Position) (c : Character) → mag position.x < 4000 → is_downward position.y ≡ true → valid height_end c ≡ true
+      → Path (in_page (midpage ready position)) (commands_of (uses c.font (characters_of is)) position c) (in_page (record { items = is ++ (Placed c ∷ []); stage = ready; position = position_at c }))
   unfolding commands_of position_at with_font
   character_path position c kx ky u =
       let v = valid_parts {c = c} u in

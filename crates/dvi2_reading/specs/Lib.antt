@@ -25,4 +25,3 @@ pub mod ReadingLaws
 pub mod Standing
 pub mod StandingLaws
 pub mod Demand3
-pub mod Demand3Laws

@@ -15,9 +15,7 @@ use Rattle.extents.specs.FontMarks.{uses}
 use Rattle.dvi2.specs.Command.{PUT1, EOP, RIGHT1, DOWN1}
 use Rattle.dvi2.specs.Writer.{h_of, v_of, selects, font_change, move, commands_of, Writing, item_bytes, dvi2_file}
 use Rattle.dvi2_reading.specs.Beginning.{Writable, Begins}
-use Rattle.dvi2_reading.specs.PageReading.{across, PageState, is_downward}
-use Rattle.dvi2_reading.specs.declared.Stage.{Stage}
-use Rattle.dvi2_reading.specs.declared.Stage.TheVariants.{Ready, Named, Chosen, Moved, Lowered}
+use Rattle.dvi2_reading.specs.PageReading.{across, Stage, ready, named, chosen, moved, lowered, PageState, is_downward}
 use Rattle.dvi2_reading.specs.Reading.{height_of}
 use Rattle.dvi2_reading.specs.Reached.{writing_of, open_bytes, Way, Staged, PageReached}
 use Rattle.dvi2_reading.specs.PieceLaws.{writable_more, open_more, close_bytes, file_open, thrice, height_valid, zero_valid}
@@ -86,10 +84,10 @@ page_live h bs k = go h.stage k.staged
         (font_first P c k.rest m e)
 
     go : (s : Stage) → Staged s h.items h.position k.rest → Begins bs
-    go Ready a = gone_out h.items bs k.rest k.writable k.bytes_are a.rest_is
-    go Named a = from_font a.font a.small a.more (selects a.font) (a.change ∙ ap (λ (s : List ℕ). s ++ selects a.font) (sym a.rest_is))
-    go Chosen a =
+    go ready a = gone_out h.items bs k.rest k.writable k.bytes_are a.rest_is
+    go named a = from_font a.font a.small a.more (selects a.font) (a.change ∙ ap (λ (s : List ℕ). s ++ selects a.font) (sym a.rest_is))
+    go chosen a =
         from_font a.way.font a.way.small a.more []
         (sym (a.way.rest_is ∙ way_here P a.way.font h.position a.x_is a.y_is) ∙ sym (append-nil k.rest))
-    go Moved a = put a.way a.more a.x_valid
-    go Lowered a = put a.way a.more a.x_valid
+    go moved a = put a.way a.more a.x_valid
+    go lowered a = put a.way a.more a.x_valid

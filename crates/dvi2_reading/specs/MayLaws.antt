@@ -2,7 +2,7 @@
 --     may_lead      where it may begin, some command leads on that begins so
 --     lead_may      and the other way
 -- Assumes nothing.
-use Rattle.std.specs.Prelude.{◌≡◌, refl, Bool, false, ◌&&◌, ◌||◌, ℕ, ◌+◌, ◌-◌, ◌*◌, ◌/◌, ◌%◌, ◌<◌, ltb, eqb, nat_abs, ℤ, negsuc, ◌+ℤ◌, ◌-ℤ◌}
+use Rattle.std.specs.Prelude.{◌≡◌, refl, Bool, false, ◌&&◌, ◌||◌, ℕ, ◌+◌, ◌-◌, ◌*◌, ◌/◌, ◌%◌, ◌<◌, ltb, eqb, ℤ, negsuc, ◌+ℤ◌, ◌-ℤ◌}
 use Rattle.std.proofs.Common.{sym, subst, ◌∙◌, suc-ne-zero, arith, lt-ltb, ltb-true, leb-true, eqb-true}
 use Rattle.std.proofs.Math.Path.{ap}
 use Rattle.std.proofs.Math.Bool.{true, not}
@@ -12,7 +12,6 @@ use Rattle.std.proofs.Math.Dec.{leb}
 use Rattle.std.proofs.Math.IntN.{pos}
 use Rattle.std.proofs.Math.ListN.{length}
 use Rattle.std.specs.Int.Signed.{mag, le_z}
-use Rattle.measure.specs.Place.{carriage_end, double_end, places}
 use Rattle.integers.specs.Parts.{integers, up, dn, dif_parts}
 use Rattle.integers.specs.Equality.{eq_z}
 use Rattle.octets.specs.FieldLaws.{both}
@@ -26,7 +25,7 @@ use Rattle.extents.specs.FontMarks.{uses}
 use Rattle.dvi2.specs.Command.{PUT1}
 use Rattle.dvi2.specs.Writer.{preamble_bytes}
 use Rattle.dvi2_reading.specs.PageReading.{begins, some_below, PageCommand, ending, defining, selecting, across, downward, putting, in_bytes, PageState, is_ready, before_right, before_down, before_put, is_more, valid_in, is_downward, may_come, lowest}
-use Rattle.dvi2_reading.specs.Reading.{State, start, opened, in_page, between, closing, with_font, page_state_after, new_page_state, first_bop, further_bop, post_of, closing_of, next, may_begin_as, may_begin_in, may_begin, heights}
+use Rattle.dvi2_reading.specs.Reading.{State, start, opened, in_page, between, closing, with_font, page_state_after, new_page_state, first_bop, further_bop, post_of, closing_of, next, may_begin_as, may_begin_in, may_begin, places, heights}
 use Rattle.dvi2_reading.specs.BytesLaws.{both_true, either, left_true, right_true, Longer, begins_is, is_begins, some_found, found_some}
 use Rattle.dvi2_reading.specs.CommandLaws.{MoveFits, page_next_lem, next_page_lem, only_is, is_only}
 use Rattle.dvi2_reading.specs.Reached.{writing_of, PageReached, Reached}
@@ -52,16 +51,16 @@ pub record Counted (z : ℤ) : Type 0 where
 
 pub counted : (d : Bool) (z : ℤ) → valid_x d z ≡ true → Counted z
 counted true (pos n) e =
-    let b = both (le_z (negsuc 54) (pos n)) (le_z (pos n) double_end) e in
-    let l = leb-true n (nat_abs double_end) b.1 in
+    let b = both (le_z (negsuc 54) (pos n)) (le_z (pos n) (pos 3184)) e in
+    let l = leb-true n 3184 b.1 in
     record { count = n + 55; is_below = omega arith; place_is = omega (integers, dif_parts (pos (n + 55)) (pos 55)) }
 counted true (negsuc n) e =
-    let b = both (le_z (negsuc 54) (negsuc n)) (le_z (negsuc n) double_end) e in
+    let b = both (le_z (negsuc 54) (negsuc n)) (le_z (negsuc n) (pos 3184)) e in
     let l = leb-true n 54 b.0 in
     record { count = 54 - n; is_below = omega arith; place_is = omega (integers, dif_parts (pos (54 - n)) (pos 55)) }
 counted false (pos n) e =
-    let b = both (le_z (pos 0) (pos n)) (le_z (pos n) carriage_end) e in
-    let l = leb-true n (nat_abs carriage_end) b.1 in
+    let b = both (le_z (pos 0) (pos n)) (le_z (pos n) (pos 3239)) e in
+    let l = leb-true n 3239 b.1 in
     record { count = n + 55; is_below = omega arith; place_is = omega (integers, dif_parts (pos (n + 55)) (pos 55)) }
 counted false (negsuc n) e = absurd (suc-ne-zero 0 cc)
 

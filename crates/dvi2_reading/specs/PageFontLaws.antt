@@ -15,9 +15,7 @@ use Rattle.galley_file.specs.Galley.{max_items, more}
 use Rattle.extents.specs.FontMarks.{uses}
 use Rattle.dvi.specs.Writer.{Position}
 use Rattle.dvi2.specs.Writer.{selects, definition, font_change, Writing}
-use Rattle.dvi2_reading.specs.PageReading.{defining, selecting, in_bytes, PageState, is_ready, is_more, is_font, may_choose, may_come}
-use Rattle.dvi2_reading.specs.declared.Stage.{Stage}
-use Rattle.dvi2_reading.specs.declared.Stage.TheVariants.{Ready, Named, Chosen, Moved, Lowered}
+use Rattle.dvi2_reading.specs.PageReading.{defining, selecting, in_bytes, Stage, ready, named, chosen, moved, lowered, PageState, is_ready, is_more, is_font, may_choose, may_come}
 use Rattle.dvi2_reading.specs.Reading.{with_font, page_state_after}
 use Rattle.dvi2_reading.specs.Reached.{writing_of, open_bytes, Staged, PageReached, Reached}
 use Rattle.dvi2_reading.specs.PieceLaws.{more_bytes, behind_is, x_between, change_new, change_used, used_small}
@@ -62,7 +60,7 @@ module _ (h : PageState) (bs : List ℕ) (k : PageReached h bs) where
       P = writing_of h.items
 
       made : is_more h.items ≡ true → f < 120 → h.position.x ≡ P.position.x → h.position.y ≡ P.position.y → k.rest ++ selects f ≡ font_change (uses f P.behind) P.position.font f
-          → PageReached (record { items = h.items; stage = Chosen; position = with_font h.position f }) (bs ++ selects f)
+          → PageReached (record { items = h.items; stage = chosen; position = with_font h.position f }) (bs ++ selects f)
       made m s x_is y_is w =
           record {
             writable = k.writable;
@@ -80,14 +78,14 @@ module _ (h : PageState) (bs : List ℕ) (k : PageReached h bs) where
           }
 
       go : (s : Stage) → Staged s h.items h.position k.rest → is_more h.items ≡ true → may_choose s (characters_of h.items) h.position.font f ≡ true
-          → PageReached (record { items = h.items; stage = Chosen; position = with_font h.position f }) (bs ++ selects f)
-      go Ready a m c =
+          → PageReached (record { items = h.items; stage = chosen; position = with_font h.position f }) (bs ++ selects f)
+      go ready a m c =
           let b = both (uses f (characters_of h.items)) (not (is_font h.position.font f)) c in
           let n : is_font P.position.font f ≡ false = ap (λ (p : Position). is_font p.font f) (sym a.position_is) ∙ not-true (is_font h.position.font f) b.1 in
           made m (used_small f h.items k.writable.all_valid b.0) (ap (λ (p : Position). p.x) a.position_is) (ap (λ (p : Position). p.y) a.position_is)
           (ap (λ (l : List ℕ). l ++ selects f) a.rest_is
           ∙ sym (change_used P.behind P.position.font f (ap (uses f) (behind_is h.items) ∙ b.0) n))
-      go Named a m c =
+      go named a m c =
           let q : f ≡ a.font = same_font h.position.font (ap (λ (p : Position). p.font) a.position_is) c in
           made m (subst (λ (g : ℕ). g < 120) (sym q) a.small) (ap (λ (p : Position). p.x) a.position_is) (ap (λ (p : Position). p.y) a.position_is)
           (ap (λ (l : List ℕ). l ++ selects f) a.rest_is
@@ -96,6 +94,6 @@ module _ (h : PageState) (bs : List ℕ) (k : PageReached h bs) where
           same_font : (o : Option ℕ) → o ≡ some a.font → is_font o f ≡ true → f ≡ a.font
           same_font none e t = absurd (suc-ne-zero 0 cc)
           same_font (some g) e t = sym (eqb-true g f t) ∙ cc
-      go Chosen a m c = absurd (suc-ne-zero 0 cc)
-      go Moved a m c = absurd (suc-ne-zero 0 cc)
-      go Lowered a m c = absurd (suc-ne-zero 0 cc)
+      go chosen a m c = absurd (suc-ne-zero 0 cc)
+      go moved a m c = absurd (suc-ne-zero 0 cc)
+      go lowered a m c = absurd (suc-ne-zero 0 cc)

@@ -18,8 +18,6 @@ use Rattle.extents.specs.FontMarks.{uses}
 use Rattle.dvi.specs.Writer.{Position}
 use Rattle.dvi2.specs.Command.{PUT1, EOP, RIGHT1, DOWN1, FNTNUM0, FNT1, FNTDEF1}
 use Rattle.dvi2.specs.Writer.{selects, definition, shortest}
-use Rattle.dvi2_reading.specs.declared.Stage.{Stage}
-use Rattle.dvi2_reading.specs.declared.Stage.TheVariants.{Ready, Named, Chosen, Moved, Lowered}
 
 -- ---- lists of bytes
 
@@ -71,42 +69,49 @@ command_of (op ∷ ps) =
 
 -- ---- how far a page is read
 
+-- what is there of the next character
+pub data Stage : Type 0 where
+  ready : Stage  -- nothing
+  named : Stage  -- the definition of its font
+  chosen : Stage  -- its font, that differs from the last
+  moved : Stage  -- a move right, and perhaps the font
+  lowered : Stage  -- a move down, and perhaps these
+
 pub record PageState : Type 0 where
   -- the items before it
   pub items : List Item
-  -- what is there of the next character, as the code declares it
   pub stage : Stage
   -- the font and the place to which the commands so far lead
   pub position : Position
 
 abbrev pub is_ready : Stage → Bool
-is_ready Ready = true
-is_ready Named = false
-is_ready Chosen = false
-is_ready Moved = false
-is_ready Lowered = false
+is_ready ready = true
+is_ready named = false
+is_ready chosen = false
+is_ready moved = false
+is_ready lowered = false
 
 -- a move right, a move down, a put may follow
 abbrev pub before_right : Stage → Bool
-before_right Ready = true
-before_right Named = false
-before_right Chosen = true
-before_right Moved = false
-before_right Lowered = false
+before_right ready = true
+before_right named = false
+before_right chosen = true
+before_right moved = false
+before_right lowered = false
 
 abbrev pub before_down : Stage → Bool
-before_down Ready = true
-before_down Named = false
-before_down Chosen = true
-before_down Moved = true
-before_down Lowered = false
+before_down ready = true
+before_down named = false
+before_down chosen = true
+before_down moved = true
+before_down lowered = false
 
 abbrev pub before_put : Stage → Bool
-before_put Ready = true
-before_put Named = false
-before_put Chosen = true
-before_put Moved = true
-before_put Lowered = true
+before_put ready = true
+before_put named = false
+before_put chosen = true
+before_put moved = true
+before_put lowered = true
 
 -- one item more is within the limit
 abbrev pub is_more : List Item → Bool
@@ -118,11 +123,11 @@ is_font (some g) f = eqb g f
 
 -- after its definition only the font itself; else one that was defined and differs
 abbrev pub may_choose : Stage → List Character → Option ℕ → ℕ → Bool
-may_choose Ready cs o f = uses f cs && not (is_font o f)
-may_choose Named cs o f = is_font o f
-may_choose Chosen cs o f = false
-may_choose Moved cs o f = false
-may_choose Lowered cs o f = false
+may_choose ready cs o f = uses f cs && not (is_font o f)
+may_choose named cs o f = is_font o f
+may_choose chosen cs o f = false
+may_choose moved cs o f = false
+may_choose lowered cs o f = false
 
 -- a character of this font may stand there
 abbrev pub valid_in : Option ℕ → ℤ → Bool

@@ -16,8 +16,7 @@ use Rattle.dvi.specs.Writer.{Position, start_position}
 use Rattle.dvi2.specs.Command.{EOP}
 use Rattle.dvi2.specs.Writer.{position_at, commands_of, preamble_bytes, bop_bytes, Writing, first_writing, item_bytes, writing_after, items_bytes, pages_bytes, dvi2_file}
 use Rattle.dvi2_reading.specs.Beginning.{Writable}
-use Rattle.dvi2_reading.specs.PageReading.{same, ending, in_bytes, may_come}
-use Rattle.dvi2_reading.specs.declared.Stage.TheVariants.{Ready}
+use Rattle.dvi2_reading.specs.PageReading.{same, ending, in_bytes, ready, may_come}
 use Rattle.dvi2_reading.specs.Reading.{start, opened, in_page, between, closing, page_state_after, new_page_state, first_bop, further_bop, post_of, closing_of, next}
 use Rattle.dvi2_reading.specs.BytesLaws.{same_self}
 use Rattle.dvi2_reading.specs.SizeLaws.{preamble_command, eop_command}
@@ -40,14 +39,14 @@ first_valid j js (more u v) = u
 record ItemPath (is : List Item) (position : Position) (j : Item) : Type 0 where
   pub to_position : Position
   pub path :
-      Path (in_page (record { items = is; stage = Ready; position = position })) (item_bytes (writing_of is) j)
-      (in_page (record { items = is ++ (j ∷ []); stage = Ready; position = to_position }))
+      Path (in_page (record { items = is; stage = ready; position = position })) (item_bytes (writing_of is) j)
+      (in_page (record { items = is ++ (j ∷ []); stage = ready; position = to_position }))
 
 pub page_path : (is : List Item) → length is < max_items → next (between is) (further_bop (writing_of is)) ≡ some (in_page (new_page_state (is ++ (Cut ∷ []))))
 unfolding next further_bop post_of Rattle.dvi2.specs.Writer.post_bytes bop_bytes same
 page_path is l = rw (lt-ltb (length is) max_items l) (is_only (further_bop (writing_of is)) (in_page (new_page_state (is ++ (Cut ∷ [])))))
 
-item_path : (is : List Item) (position : Position) (bs : List ℕ) → PageReached (record { items = is; stage = Ready; position = position }) bs → (j : Item) → valid_item height_end j ≡ true
+item_path : (is : List Item) (position : Position) (bs : List ℕ) → PageReached (record { items = is; stage = ready; position = position }) bs → (j : Item) → valid_item height_end j ≡ true
     → length is < max_items → ItemPath is position j
 unfolding item_bytes new_page_state may_come page_state_after in_bytes further_bop
 item_path is position bs k (Placed c) v l =
@@ -56,7 +55,7 @@ item_path is position bs k (Placed c) v l =
       path =
           subst
           (λ (w : List ℕ).
-          Path (in_page (record { items = is; stage = Ready; position = position })) w (in_page (record { items = is ++ (Placed c ∷ []); stage = Ready; position = position_at c })))
+          Path (in_page (record { items = is; stage = ready; position = position })) w (in_page (record { items = is ++ (Placed c ∷ []); stage = ready; position = position_at c })))
           (λ i. commands_of (uses c.font (sym (behind_is is) i)) (k.staged.position_is i) c)
           (character_path is l position c (between_mag position.x k.x_between) k.y_down v);
     }
@@ -64,23 +63,23 @@ item_path is position bs k Cut v l =
     record {
       to_position = start_position;
       path =
-          step {c = EOP ∷ []} (page_next_lem (record { items = is; stage = Ready; position = position }) ending tt refl) eop_command
+          step {c = EOP ∷ []} (page_next_lem (record { items = is; stage = ready; position = position }) ending tt refl) eop_command
           (path_one (page_path is l) (further_command (writing_of is)));
     }
 
 record ItemsPath (is : List Item) (position : Position) (js : List Item) : Type 0 where
   pub to_position : Position
   pub path :
-      Path (in_page (record { items = is; stage = Ready; position = position })) (items_bytes (writing_of is) js)
-      (in_page (record { items = is ++ js; stage = Ready; position = to_position }))
+      Path (in_page (record { items = is; stage = ready; position = position })) (items_bytes (writing_of is) js)
+      (in_page (record { items = is ++ js; stage = ready; position = to_position }))
 
-items_path : (js is : List Item) (position : Position) (bs : List ℕ) → PageReached (record { items = is; stage = Ready; position = position }) bs → Writable (is ++ js) → ItemsPath is position js
+items_path : (js is : List Item) (position : Position) (bs : List ℕ) → PageReached (record { items = is; stage = ready; position = position }) bs → Writable (is ++ js) → ItemsPath is position js
 unfolding transduced
 items_path [] is position bs k w =
     record {
       to_position = position;
       path =
-          subst (λ (l : List Item). Path (in_page (record { items = is; stage = Ready; position = position })) [] (in_page (record { items = l; stage = Ready; position = position })))
+          subst (λ (l : List Item). Path (in_page (record { items = is; stage = ready; position = position })) [] (in_page (record { items = l; stage = ready; position = position })))
           (sym (append-nil is)) stop;
     }
 items_path (j ∷ js) is position bs k w =
@@ -97,13 +96,13 @@ items_path (j ∷ js) is position bs k w =
           path_append one.path
           (subst
           (λ (p : Writing).
-          Path (in_page (record { items = is ++ (j ∷ []); stage = Ready; position = one.to_position })) (items_bytes p js)
-          (in_page (record { items = is ++ (j ∷ js); stage = Ready; position = rest.to_position })))
+          Path (in_page (record { items = is ++ (j ∷ []); stage = ready; position = one.to_position })) (items_bytes p js)
+          (in_page (record { items = is ++ (j ∷ js); stage = ready; position = rest.to_position })))
           (foldl-append writing_after first_writing is (j ∷ []))
           (subst
           (λ (l : List Item).
-          Path (in_page (record { items = is ++ (j ∷ []); stage = Ready; position = one.to_position })) (items_bytes (writing_of (is ++ (j ∷ []))) js)
-          (in_page (record { items = l; stage = Ready; position = rest.to_position })))
+          Path (in_page (record { items = is ++ (j ∷ []); stage = ready; position = one.to_position })) (items_bytes (writing_of (is ++ (j ∷ []))) js)
+          (in_page (record { items = l; stage = ready; position = rest.to_position })))
           a rest.path));
     }
 
@@ -124,9 +123,9 @@ pub opened_path : next opened first_bop ≡ some (in_page (new_page_state []))
 unfolding next
 opened_path = is_only first_bop (in_page (new_page_state []))
 
-end_path : (is : List Item) (position : Position) → next (in_page (record { items = is; stage = Ready; position = position })) (EOP ∷ []) ≡ some (between is)
+end_path : (is : List Item) (position : Position) → next (in_page (record { items = is; stage = ready; position = position })) (EOP ∷ []) ≡ some (between is)
 unfolding may_come page_state_after in_bytes
-end_path is position = page_next_lem (record { items = is; stage = Ready; position = position }) ending tt refl
+end_path is position = page_next_lem (record { items = is; stage = ready; position = position }) ending tt refl
 
 pub file_path : (is : List Item) → Writable is → Path start (dvi2_file is) (closing is [])
 unfolding new_page_state first_bop pages_bytes

@@ -14,7 +14,7 @@ use Rattle.std.specs.Int.Signed.{mag, le_z}
 use Rattle.integers.specs.Parts.{integers, sum_parts, dif_parts}
 use Rattle.integers.specs.Equality.{eq_z, true_eq_z}
 use Rattle.octets.specs.FieldLaws.{both}
-use Rattle.measure.specs.Place.{carriage_end, double_end, height_end, within}
+use Rattle.measure.specs.Place.{height_end, within}
 use Rattle.octets.specs.TransducerLaws.{transduced_more}
 use Rattle.galley_file.specs.declared.character.Character.{Character}
 use Rattle.galley_file.specs.declared.item.Item.{Item}
@@ -110,15 +110,15 @@ height_valid (pos n) e =
     both_true (leb 0 (n / 3)) (leb (n / 3) 1000000) (le-leb 0 (n / 3) (omega arith)) (le-leb (n / 3) 1000000 (omega arith))
 height_valid (negsuc n) e = absurd (suc-ne-zero 0 cc)
 
-pub x_between : (d : Bool) (x : ℤ) → valid_x d x ≡ true → (negsuc 54 ≤ℤ x) × (x ≤ℤ carriage_end)
-x_between true x e = let h = both (le_z (negsuc 54) x) (le_z x double_end) e in (omega (integers, h.0), omega (integers, h.1))
-x_between false x e = let h = both (le_z (pos 0) x) (le_z x carriage_end) e in (omega (integers, h.0), omega (integers, h.1))
+pub x_between : (d : Bool) (x : ℤ) → valid_x d x ≡ true → (negsuc 54 ≤ℤ x) × (x ≤ℤ pos 3239)
+x_between true x e = let h = both (le_z (negsuc 54) x) (le_z x (pos 3184)) e in (omega (integers, h.0), omega (integers, h.1))
+x_between false x e = let h = both (le_z (pos 0) x) (le_z x (pos 3239)) e in (omega (integers, h.0), omega (integers, h.1))
 
-pub between_mag : (x : ℤ) → (negsuc 54 ≤ℤ x) × (x ≤ℤ carriage_end) → mag x < 1000000
+pub between_mag : (x : ℤ) → (negsuc 54 ≤ℤ x) × (x ≤ℤ pos 3239) → mag x < 4000
 between_mag (pos n) b = omega integers
 between_mag (negsuc n) b = omega integers
 
-pub x_mag : (d : Bool) (x : ℤ) → valid_x d x ≡ true → mag x < 1000000
+pub x_mag : (d : Bool) (x : ℤ) → valid_x d x ≡ true → mag x < 4000
 x_mag d x e = between_mag x (x_between d x e)
 
 pub zero_valid : (d : Bool) → valid_x d (pos 0) ≡ true

@@ -7,7 +7,6 @@
 use Rattle.std.specs.Prelude.{◌≡◌, true, ℕ, ◌<◌, pos, negsuc, ◌-ℤ◌, length, ◌≤ℤ◌}
 use mathlib.Core.List.{List, [], ◌∷◌, ◌++◌, flatten}
 use Rattle.std.proofs.Math.Option.{some}
-use Rattle.measure.specs.Place.{carriage_end}
 use Rattle.galley_file.specs.Font.{size_index, is_double}
 use Rattle.galley_file.specs.Character.{valid_x}
 use Rattle.galley_file.specs.declared.item.Item.{Item}
@@ -19,9 +18,7 @@ use Rattle.dvi2.specs.Command.{RIGHT1, DOWN1}
 use Rattle.dvi2.specs.Writer.{selects, definition, font_change, move, preamble_bytes, Writing, first_writing, items_bytes, writing_after_all, pages_bytes, dvi2_file}
 use Rattle.dvi2_reading.specs.Beginning.{Writable}
 use Rattle.dvi2_reading.specs.SizeLaws.{Command}
-use Rattle.dvi2_reading.specs.PageReading.{PageState, is_downward}
-use Rattle.dvi2_reading.specs.declared.Stage.{Stage}
-use Rattle.dvi2_reading.specs.declared.Stage.TheVariants.{Ready, Named, Chosen, Moved, Lowered}
+use Rattle.dvi2_reading.specs.PageReading.{Stage, ready, named, chosen, moved, lowered, PageState, is_downward}
 use Rattle.dvi2_reading.specs.Reading.{with_font, first_bop, State, start, opened, in_page, between, closing}
 
 abbrev pub writing_of : List Item → Writing
@@ -73,15 +70,15 @@ pub record AtLowered (is : List Item) (position : Position) (rest : List ℕ) : 
   pub x_valid : valid_x (is_double (size_index way.font)) position.x ≡ true
 
 abbrev pub Staged : Stage → List Item → Position → List ℕ → Type 0
-Staged Ready is position rest = AtReady is position rest
-Staged Named is position rest = AtNamed is position rest
-Staged Chosen is position rest = AtChosen is position rest
-Staged Moved is position rest = AtMoved is position rest
-Staged Lowered is position rest = AtLowered is position rest
+Staged ready is position rest = AtReady is position rest
+Staged named is position rest = AtNamed is position rest
+Staged chosen is position rest = AtChosen is position rest
+Staged moved is position rest = AtMoved is position rest
+Staged lowered is position rest = AtLowered is position rest
 
 pub record PageReached (h : PageState) (bs : List ℕ) : Type 0 where
   pub writable : Writable h.items
-  pub x_between : (negsuc 54 ≤ℤ h.position.x) × (h.position.x ≤ℤ carriage_end)
+  pub x_between : (negsuc 54 ≤ℤ h.position.x) × (h.position.x ≤ℤ pos 3239)
   pub y_down : is_downward h.position.y ≡ true
   pub rest : List ℕ
   pub bytes_are : bs ≡ open_bytes h.items ++ rest

@@ -1,5 +1,5 @@
 -- How a file of the second edition is read: command by command, each only if the writer may have made it there (document 02, "The second edition of DVI"). `Beginning`
--- says what this comes to, and is what the reader promises; the proofs of the reader go by this.
+-- says what this comes to.
 --     State              how far a file is read
 --     page_state_after     the state after a command of a page
 --     next               the state after a whole command
@@ -9,7 +9,6 @@
 --     read2_result        what the reader gives for a file and a buffer of so many bytes
 use Rattle.std.specs.Prelude.{ℕ, zero, suc, ◌+◌, ◌-◌, ◌*◌, ◌/◌, Bool, false, cond, ◌&&◌, ◌||◌, List, [], ◌∷◌, ◌++◌, map, ltb, leb, ℤ, pos, negsuc, ◌+ℤ◌, ◌-ℤ◌, length, take}
 use Rattle.std.proofs.Math.Option.{Option, none, some, get_or}
-use Rattle.measure.specs.Place.{places}
 use Rattle.octets.specs.Octets.{bytes}
 use Rattle.octets.specs.Answer.{Result, refusal, written, if_room, file_too_long, no_galley_room, not_ours}
 use Rattle.measure.specs.Target.{entry_x}
@@ -25,8 +24,7 @@ use Rattle.dvi2.specs.Command.{POSTPOST}
 use Rattle.dvi2.specs.File.{max_dvi2}
 use Rattle.dvi2.specs.Writer.{definition, preamble_bytes, bop_bytes, Writing, first_writing, writing_after_all, pages_bytes, post_bytes, command_bytes, fillers}
 use Rattle.dvi2_reading.specs.Beginning.{parameters}
-use Rattle.dvi2_reading.specs.PageReading.{same, begins, some_below, PageCommand, ending, defining, selecting, across, downward, putting, in_bytes, command_of, PageState, is_more, may_come}
-use Rattle.dvi2_reading.specs.declared.Stage.TheVariants.{Ready, Named, Chosen, Moved, Lowered}
+use Rattle.dvi2_reading.specs.PageReading.{same, begins, some_below, PageCommand, ending, defining, selecting, across, downward, putting, in_bytes, command_of, ready, named, chosen, moved, lowered, PageState, is_more, may_come}
 
 -- ---- the file
 
@@ -53,17 +51,17 @@ with_font p f = record { font = some f; x = p.x; y = p.y }
 
 unfoldable pub page_state_after : PageState → PageCommand → State
 page_state_after h ending = between h.items
-page_state_after h (defining f) = in_page (record { items = h.items; stage = Named; position = with_font h.position f })
-page_state_after h (selecting f) = in_page (record { items = h.items; stage = Chosen; position = with_font h.position f })
+page_state_after h (defining f) = in_page (record { items = h.items; stage = named; position = with_font h.position f })
+page_state_after h (selecting f) = in_page (record { items = h.items; stage = chosen; position = with_font h.position f })
 page_state_after h (across m) =
-    in_page (record { items = h.items; stage = Moved; position = record { font = h.position.font; x = h.position.x +ℤ m; y = h.position.y } })
+    in_page (record { items = h.items; stage = moved; position = record { font = h.position.font; x = h.position.x +ℤ m; y = h.position.y } })
 page_state_after h (downward m) =
-    in_page (record { items = h.items; stage = Lowered; position = record { font = h.position.font; x = h.position.x; y = h.position.y +ℤ m } })
-page_state_after h (putting c) = in_page (record { items = h.items ++ (Placed (character_of h.position c) ∷ []); stage = Ready; position = h.position })
+    in_page (record { items = h.items; stage = lowered; position = record { font = h.position.font; x = h.position.x; y = h.position.y +ℤ m } })
+page_state_after h (putting c) = in_page (record { items = h.items ++ (Placed (character_of h.position c) ∷ []); stage = ready; position = h.position })
 
 -- at the start of a page
 unfoldable pub new_page_state : List Item → PageState
-new_page_state is = record { items = is; stage = Ready; position = start_position }
+new_page_state is = record { items = is; stage = ready; position = start_position }
 
 -- the bop that may come, of the first page and of a further one
 unfoldable pub first_bop : List ℕ
@@ -108,11 +106,14 @@ next (closing is (e ∷ es)) c = only c e (closing is es)
 unfoldable pub may_begin_as : PageState → List ℕ → PageCommand → Bool
 may_begin_as h s d = begins s (in_bytes d) && may_come h d
 
--- the heights, from 0 to 1,000,000
+-- the places across, from -55 to 3,239; the heights, from 0 to 1,000,000
+abbrev pub places : ℕ
+places = 3295
+
 abbrev pub heights : ℕ
 heights = 1000001
 
--- all that may come, but for eop, which is not cut short, at every place across and every height, and with one character for all
+-- all that may come, but for eop, which is not cut short, and with one character for all
 unfoldable pub may_begin_in : PageState → List ℕ → Bool
 may_begin_in h s =
     some_below 120 (λ f. may_begin_as h s (defining f))

@@ -4,13 +4,12 @@
 --     bad_exactly                     and refuses the others where `Refused` says
 --     made_once                       a file is that of one list of items only
 --     result_made, result_refused     what the reader gives
---     result_reads, reads_once        that is what `Reads` says, and nothing else
 --     accepts_exactly                 it gives bytes exactly for the writer's files, and they are the galley
 -- Assumes nothing.
-use Rattle.std.specs.Prelude.{◌≡◌, refl, Bool, true, false, cond, List, [], ◌∷◌, ◌++◌, ◌↔◌, ℕ, suc, ◌+◌, ◌≤◌, ◌<◌, ltb, leb, length, take}
-use Rattle.std.proofs.Common.{sym, ap, subst, ◌∙◌, suc-ne-zero, arith, lt-ltb, le-ltb, le-leb, ltb-true, ltb-false, length-append, take_at, drop_at}
+use Rattle.std.specs.Prelude.{◌≡◌, refl, Bool, true, false, cond, List, [], ◌∷◌, ◌++◌, ◌↔◌, ℕ, suc, ◌+◌, ◌≤◌, ltb, leb, length, take}
+use Rattle.std.proofs.Common.{sym, ap, subst, ◌∙◌, suc-ne-zero, arith, le-ltb, le-leb, length-append, take_at, drop_at}
 use Rattle.std.proofs.Math.Option.{some}
-use Rattle.octets.specs.Answer.{Result, refusal, written, outcome, if_room, file_too_long, no_galley_room, not_ours}
+use Rattle.octets.specs.Answer.{refusal, written, outcome, if_room, file_too_long, no_galley_room, not_ours}
 use Rattle.octets.specs.AnswerLaws.{room_made, room_enough, accepted_room}
 use Rattle.galley_file.specs.declared.form.Form.TheVariants.{New}
 use Rattle.galley_file.specs.declared.item.Item.{Item}
@@ -18,7 +17,7 @@ use Rattle.galley_file.specs.Galley.{galley}
 use Rattle.dvi2.specs.File.{max_dvi2}
 use Rattle.dvi2.specs.Writer.{dvi2_file}
 use Rattle.dvi2.specs.WriterLaws.{file_fits}
-use Rattle.dvi2_reading.specs.Beginning.{Writable, FileOf, parameters, command_size, next, Refused, Reads, too_long, foreign, ours}
+use Rattle.dvi2_reading.specs.Beginning.{Writable, FileOf, parameters, command_size, next, Refused}
 use Rattle.dvi2_reading.specs.Reading.{State, may_begin, Read, gives, bad, at_end, refuse, short, go, whole_step, step, follow, read, read_file, galley_result, read2_result}
 use Rattle.dvi2_reading.specs.Reading as R
 use Rattle.dvi2_reading.specs.SizeLaws.{Command}
@@ -102,27 +101,6 @@ result_made s is room m =
 pub result_refused : (s : List ℕ) (place room : ℕ) → length s ≤ max_dvi2 → Refused s place → read2_result s room ≡ refusal not_ours place
 unfolding read2_result galley_result if_room
 result_refused s place room l f = rw (le-ltb max_dvi2 (length s) l, (bad_exactly s place).1 f)
-
--- for a longer file: 20
-result_long : (s : List ℕ) (room : ℕ) → max_dvi2 < length s → read2_result s room ≡ refusal file_too_long 0
-unfolding read2_result
-result_long s room l = rw (lt-ltb max_dvi2 (length s) l)
-
-pub result_reads : (s : List ℕ) → Reads s (read2_result s)
-result_reads s = by_length (ltb max_dvi2 (length s)) refl
-  where
-    by_read : length s ≤ max_dvi2 → (r : Read) → read_file s ≡ r → Reads s (read2_result s)
-    by_read l (gives is) e = let m = (gives_exactly s is).0 e in ours m (λ room. result_made s is room m)
-    by_read l (bad place) e = let f = (bad_exactly s place).0 e in foreign l f (λ room. result_refused s place room l f)
-
-    by_length : (t : Bool) → ltb max_dvi2 (length s) ≡ t → Reads s (read2_result s)
-    by_length true e = let l = ltb-true max_dvi2 (length s) e in too_long l (λ room. result_long s room l)
-    by_length false e = by_read (ltb-false max_dvi2 (length s) e) (read_file s) refl
-
-pub reads_once : (s : List ℕ) (result : ℕ → Result) → Reads s result → (room : ℕ) → result room ≡ read2_result s room
-reads_once s result (too_long l e) room = e room ∙ sym (result_long s room l)
-reads_once s result (foreign {place = place} l f e) room = e room ∙ sym (result_refused s place room l f)
-reads_once s result (ours {is = is} m e) room = e room ∙ sym (result_made s is room m)
 
 -- what is given back for a file
 pub record GivenBack (s g : List ℕ) (room : ℕ) : Type 0 where

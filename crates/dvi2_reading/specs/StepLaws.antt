@@ -16,8 +16,7 @@ use Rattle.galley_file.specs.Galley.{max_items}
 use Rattle.dvi2.specs.Writer.{preamble_bytes}
 use Rattle.dvi2_reading.specs.Beginning.{parameters, command_size}
 use Rattle.dvi2_reading.specs.PageReading.{begins, some_below, PageCommand, defining, selecting, across, downward, putting, in_bytes, PageState, is_more, may_come}
-use Rattle.measure.specs.Place.{places}
-use Rattle.dvi2_reading.specs.Reading.{State, start, opened, in_page, between, closing, new_page_state, first_bop, further_bop, post_of, only, next, may_begin_as, may_begin_in, may_begin, refuse, short, go, whole_step, step, heights}
+use Rattle.dvi2_reading.specs.Reading.{State, start, opened, in_page, between, closing, new_page_state, first_bop, further_bop, post_of, only, next, may_begin_as, may_begin_in, may_begin, refuse, short, go, whole_step, step, places, heights}
 use Rattle.dvi2_reading.specs.BytesLaws.{either, begins_is, some_found}
 use Rattle.dvi2_reading.specs.SizeLaws.{Command}
 use Rattle.dvi2_reading.specs.StableLaws.{parameters_kept}

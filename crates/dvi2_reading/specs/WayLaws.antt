@@ -14,9 +14,7 @@ use Rattle.extents.specs.FontMarks.{uses}
 use Rattle.dvi.specs.Writer.{Position}
 use Rattle.dvi2.specs.Command.{PUT1, RIGHT1, DOWN1}
 use Rattle.dvi2.specs.Writer.{h_of, v_of, font_change, move, commands_of, Writing, item_bytes}
-use Rattle.dvi2_reading.specs.PageReading.{is_ready, before_right, before_down, before_put, valid_in}
-use Rattle.dvi2_reading.specs.declared.Stage.{Stage}
-use Rattle.dvi2_reading.specs.declared.Stage.TheVariants.{Ready, Named, Chosen, Moved, Lowered}
+use Rattle.dvi2_reading.specs.PageReading.{Stage, ready, named, chosen, moved, lowered, is_ready, before_right, before_down, before_put, valid_in}
 use Rattle.dvi2_reading.specs.Reached.{writing_of, way_to, AtReady, Way, Staged}
 use Rattle.dvi2_reading.specs.PieceLaws.{nowhere, move_none, change_none}
 
@@ -60,25 +58,25 @@ font_there none x e = absurd (suc-ne-zero 0 cc)
 font_there (some f) x e = record { font = f; font_is = refl; x_valid = e }
 
 pub right_put : (s : Stage) → before_right s ≡ true → before_put s ≡ true
-right_put Ready e = e
-right_put Named e = e
-right_put Chosen e = e
-right_put Moved e = absurd (suc-ne-zero 0 cc)
-right_put Lowered e = absurd (suc-ne-zero 0 cc)
+right_put ready e = e
+right_put named e = e
+right_put chosen e = e
+right_put moved e = absurd (suc-ne-zero 0 cc)
+right_put lowered e = absurd (suc-ne-zero 0 cc)
 
 pub right_down : (s : Stage) → before_right s ≡ true → before_down s ≡ true
-right_down Ready e = e
-right_down Named e = e
-right_down Chosen e = e
-right_down Moved e = absurd (suc-ne-zero 0 cc)
-right_down Lowered e = absurd (suc-ne-zero 0 cc)
+right_down ready e = e
+right_down named e = e
+right_down chosen e = e
+right_down moved e = absurd (suc-ne-zero 0 cc)
+right_down lowered e = absurd (suc-ne-zero 0 cc)
 
 pub down_put : (s : Stage) → before_down s ≡ true → before_put s ≡ true
-down_put Ready e = e
-down_put Named e = e
-down_put Chosen e = e
-down_put Moved e = e
-down_put Lowered e = absurd (suc-ne-zero 0 cc)
+down_put ready e = e
+down_put named e = e
+down_put chosen e = e
+down_put moved e = e
+down_put lowered e = absurd (suc-ne-zero 0 cc)
 
 module _ (is : List Item) (position : Position) (rest : List ℕ) where
   ready_way : AtReady is position rest → (f : ℕ) → position.font ≡ some f → Way is position rest
@@ -99,32 +97,32 @@ module _ (is : List Item) (position : Position) (rest : List ℕ) where
       }
 
   pub staged_way : (s : Stage) → Staged s is position rest → before_put s ≡ true → (f : ℕ) → position.font ≡ some f → Way is position rest
-  staged_way Ready a b f e = ready_way a f e
-  staged_way Named a b f e = absurd (suc-ne-zero 0 cc)
-  staged_way Chosen a b f e = a.way
-  staged_way Moved a b f e = a.way
-  staged_way Lowered a b f e = a.way
+  staged_way ready a b f e = ready_way a f e
+  staged_way named a b f e = absurd (suc-ne-zero 0 cc)
+  staged_way chosen a b f e = a.way
+  staged_way moved a b f e = a.way
+  staged_way lowered a b f e = a.way
 
   pub staged_x : (s : Stage) → Staged s is position rest → before_right s ≡ true → position.x ≡ (writing_of is).position.x
-  staged_x Ready a b = ap (λ (p : Position). p.x) a.position_is
-  staged_x Named a b = absurd (suc-ne-zero 0 cc)
-  staged_x Chosen a b = a.x_is
-  staged_x Moved a b = absurd (suc-ne-zero 0 cc)
-  staged_x Lowered a b = absurd (suc-ne-zero 0 cc)
+  staged_x ready a b = ap (λ (p : Position). p.x) a.position_is
+  staged_x named a b = absurd (suc-ne-zero 0 cc)
+  staged_x chosen a b = a.x_is
+  staged_x moved a b = absurd (suc-ne-zero 0 cc)
+  staged_x lowered a b = absurd (suc-ne-zero 0 cc)
 
   pub staged_y : (s : Stage) → Staged s is position rest → before_down s ≡ true → position.y ≡ (writing_of is).position.y
-  staged_y Ready a b = ap (λ (p : Position). p.y) a.position_is
-  staged_y Named a b = absurd (suc-ne-zero 0 cc)
-  staged_y Chosen a b = a.y_is
-  staged_y Moved a b = a.y_is
-  staged_y Lowered a b = absurd (suc-ne-zero 0 cc)
+  staged_y ready a b = ap (λ (p : Position). p.y) a.position_is
+  staged_y named a b = absurd (suc-ne-zero 0 cc)
+  staged_y chosen a b = a.y_is
+  staged_y moved a b = a.y_is
+  staged_y lowered a b = absurd (suc-ne-zero 0 cc)
 
   pub staged_ready : (s : Stage) → is_ready s ≡ true → Staged s is position rest → AtReady is position rest
-  staged_ready Ready b a = a
-  staged_ready Named b a = absurd (suc-ne-zero 0 cc)
-  staged_ready Chosen b a = absurd (suc-ne-zero 0 cc)
-  staged_ready Moved b a = absurd (suc-ne-zero 0 cc)
-  staged_ready Lowered b a = absurd (suc-ne-zero 0 cc)
+  staged_ready ready b a = a
+  staged_ready named b a = absurd (suc-ne-zero 0 cc)
+  staged_ready chosen b a = absurd (suc-ne-zero 0 cc)
+  staged_ready moved b a = absurd (suc-ne-zero 0 cc)
+  staged_ready lowered b a = absurd (suc-ne-zero 0 cc)
 
 -- the font of a way
 pub font_same : {is : List Item} {position : Position} {rest : List ℕ} (w : Way is position rest) {x : ℤ} (t : There position.font x) → t.font ≡ w.font

@@ -10,7 +10,6 @@ use lib.IntN.{ℤ, pos, negsuc, ◌-ℤ◌}
 use lib.Signed.{◌≤ℤ◌}
 use mir.Syntax.{w32}
 use mir.Val.{SFits}
-use Rattle.measure.specs.Place.{carriage_end, places}
 use Rattle.integers.specs.Parts.{integers, dif_parts}
 use Rattle.integers.specs.Equality.{eq_z, eq_z_true, true_eq_z}
 use Rattle.measure.specs.Target.{entry_x}
@@ -18,7 +17,7 @@ use Rattle.dvi.specs.Writer.{Position}
 use Rattle.dvi2.specs.Command.{RIGHT1, DOWN1}
 use Rattle.dvi2.specs.Writer.{shortest}
 use Rattle.dvi2_reading.specs.PageReading.{begins, some_below, valid_in}
-use Rattle.dvi2_reading.specs.Reading.{heights}
+use Rattle.dvi2_reading.specs.Reading.{places, heights}
 use Rattle.dvi2_state.specs.Page.{right_begins, down_begins}
 
 -- ---- no move, and a move
@@ -79,7 +78,7 @@ some_none p = refl
 pub count_fits : (k : ℕ) → k < heights → SFits w32 (pos k)
 count_fits k l = record { sfits = omega arith }
 
-pub place_between : (k : ℕ) → k < places → (negsuc 54 ≤ℤ entry_x k) × (entry_x k ≤ℤ carriage_end)
+pub place_between : (k : ℕ) → k < places → (negsuc 54 ≤ℤ entry_x k) × (entry_x k ≤ℤ pos 3239)
 place_between k l = (omega (integers, dif_parts (pos k) (pos 55)), omega (integers, dif_parts (pos k) (pos 55)))
 
 pub place_fits : (k : ℕ) → k < places → SFits w32 (entry_x k)

@@ -1,5 +1,5 @@
 -- The code's types as those of the definitions, and what a step is.
---     page_state_of                 a state of a page, after some items, which the code does not keep
+--     stage_of, page_state_of        a state of a page, after some items
 --     page_position                its position
 --     SoundPage                   its position is on the page, and its font is one of the 120
 --     step_of                      a step
@@ -19,18 +19,26 @@ use Rattle.dvi2.specs.Command.{RIGHT1, DOWN1}
 use Rattle.dvi2.specs.Writer.{shortest}
 use Rattle.dvi2_commands.specs.Position.{OnPage}
 use Rattle.dvi2_reading.specs.PageReading as Page
-use Rattle.dvi2_reading.specs.declared.Stage.TheVariants.{Ready}
 use Rattle.dvi2_reading.specs.Reading as R
+use Rattle.dvi2_state.specs.declared.page_state.Stage.{Stage}
+use Rattle.dvi2_state.specs.declared.page_state.Stage.TheVariants.{Ready, Named, Chosen, Moved, Lowered}
 use Rattle.dvi2_state.specs.declared.page_state.PageState.{PageState}
 use Rattle.dvi2_state.specs.declared.page_state.Stepped.{Stepped}
 use Rattle.dvi2_state.specs.declared.page_state.Stepped.TheVariants.{Bad, Short, End, Put, Go}
+
+abbrev pub stage_of : Stage → Page.Stage
+stage_of Ready = Page.ready
+stage_of Named = Page.named
+stage_of Chosen = Page.chosen
+stage_of Moved = Page.moved
+stage_of Lowered = Page.lowered
 
 -- a quantum is three units
 abbrev pub page_position : PageState → Position
 page_position h = record { font = font_or_none h.font; x = h.x.0; y = pos 3 *ℤ h.height.0 }
 
 abbrev pub page_state_of : List Item → PageState → Page.PageState
-page_state_of is h = record { items = is; stage = h.stage; position = page_position h }
+page_state_of is h = record { items = is; stage = stage_of h.stage; position = page_position h }
 
 pub record SoundPage (h : PageState) : Type 0 where
   pub on_page : OnPage (page_position h)
@@ -41,7 +49,7 @@ step_of is h Bad = R.refuse
 step_of is h Short = R.short
 step_of is h End = R.go (R.between is) 0
 step_of is h (Put c) =
-    R.go (R.in_page (record { items = is ++ (Placed (R.character_of (page_position h) c) ∷ []); stage = Ready; position = page_position h })) 1
+    R.go (R.in_page (record { items = is ++ (Placed (R.character_of (page_position h) c) ∷ []); stage = Page.ready; position = page_position h })) 1
 step_of is h (Go g n) = R.go (R.in_page (page_state_of is g)) n
 
 abbrev pub StepIs : List ℕ → ℕ → PageState → List Item → Stepped → Type 0

@@ -1,6 +1,6 @@
 // Moves that are cut short: whether one that may come begins so.
 ghost use Rattle.std.specs.Prelude.{◌≡◌, ◌*◌, ◌≤◌, ◌<◌, pos, negsuc, ◌*ℤ◌, length, drop, ◌≤ℤ◌};
-ghost use Rattle.measure.specs.Place.{carriage_end, height_end, places};
+ghost use Rattle.measure.specs.Place.{carriage_end, height_end};
 ghost use Rattle.measure.specs.Target.{entry_x};
 ghost use Rattle.dvi2.specs.Writer as W;
 ghost use Rattle.dvi2_commands.specs.Position.{OnPage};
@@ -73,7 +73,7 @@ fn right_begins(s: &[u8], at: usize, h: PageState, to: Units) -> bool
 // The same of any such place.
 pub fn may_begin_right(s: &[u8], at: usize, h: PageState) -> bool
     requires { (at < length s.now) × OnPage (page_position h) }
-    ensures { result ≡ Page.some_below places (λ k. right_begins (drop at s.now) (page_position h) (entry_x k)) }
+    ensures { result ≡ Page.some_below R.places (λ k. right_begins (drop at s.now) (page_position h) (entry_x k)) }
 {
     let mut k: u32 = 0;
     while k < PLACES {

@@ -2,11 +2,21 @@
 ghost use Rattle.std.specs.Prelude.{◌≡◌};
 ghost use Rattle.dvi.specs.FontOrNone.{font_or_none};
 ghost use Rattle.dvi2_reading.specs.PageReading as Page;
+ghost use Rattle.dvi2_state.specs.Page.{stage_of};
 
 use dvi::font_byte;
-use dvi2_reading::Stage;
 use galley_file::{character, font};
 use measure::{Quanta, Units};
+
+// What is there of the next character.
+#[derive(Drop)]
+pub enum Stage {
+    Ready,
+    Named,
+    Chosen,
+    Moved,
+    Lowered,
+}
 
 // The font and the place to which the commands so far lead, and what is there of the next character, side by side: a value inside a
 // value is packed and unpacked at each command.
@@ -34,7 +44,7 @@ pub enum Stepped {
 }
 
 pub fn is_ready(s: Stage) -> bool
-    ensures { result ≡ Page.is_ready s }
+    ensures { result ≡ Page.is_ready (stage_of s) }
 {
     match s {
         Stage::Ready => true,
@@ -46,7 +56,7 @@ pub fn is_ready(s: Stage) -> bool
 }
 
 pub fn before_right(s: Stage) -> bool
-    ensures { result ≡ Page.before_right s }
+    ensures { result ≡ Page.before_right (stage_of s) }
 {
     match s {
         Stage::Ready => true,
@@ -58,7 +68,7 @@ pub fn before_right(s: Stage) -> bool
 }
 
 pub fn before_down(s: Stage) -> bool
-    ensures { result ≡ Page.before_down s }
+    ensures { result ≡ Page.before_down (stage_of s) }
 {
     match s {
         Stage::Ready => true,
@@ -70,7 +80,7 @@ pub fn before_down(s: Stage) -> bool
 }
 
 pub fn before_put(s: Stage) -> bool
-    ensures { result ≡ Page.before_put s }
+    ensures { result ≡ Page.before_put (stage_of s) }
 {
     match s {
         Stage::Ready => true,

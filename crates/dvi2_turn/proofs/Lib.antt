@@ -1,4 +1,3 @@
 pub mod Tallies
 pub mod Stands
 mod Turns
-mod Pairs

@@ -25,21 +25,19 @@ use Rattle.dvi.specs.Writer.{Position}
 use Rattle.dvi2.specs.Writer.{position_at, unit_bytes, preamble_bytes, bop_bytes, Writing, first_writing, writing_after, pages_bytes}
 use Rattle.dvi2.specs.WriterLaws.{writing_at, length_pages}
 use Rattle.dvi.specs.FontOrNone.{font_or_none, font_is}
-use Rattle.dvi2_reading.specs.PageReading.{is_downward, lowest}
-use Rattle.dvi2_reading.specs.declared.Stage.{Stage}
-use Rattle.dvi2_reading.specs.declared.Stage.TheVariants.{Ready, Named, Chosen, Moved, Lowered}
+use Rattle.dvi2_reading.specs.PageReading.{Stage, ready, named, chosen, moved, lowered, is_downward, lowest}
 use Rattle.dvi2_reading.specs.Reading.{with_font, first_bop, height_of, character_of, in_page, between}
 use Rattle.dvi2_reading.specs.Reached.{writing_of, open_bytes, Staged}
 use Rattle.dvi2_reading.specs.Standing.{Standing}
 use Rattle.dvi2_state.specs.declared.page_state.PageState.{PageState}
-use Rattle.dvi2_state.specs.Page.{page_state_of, page_position, SoundPage}
+use Rattle.dvi2_state.specs.Page.{stage_of, page_state_of, page_position, SoundPage}
 
 length_open : (is : List Item) → length (open_bytes is) ≡ (writing_of is).at
 unfolding open_bytes preamble_bytes first_bop unit_bytes bop_bytes bytes signed_bytes first_writing
 length_open is = omega (arith, writing_at first_writing is)
 
 -- before a character, after whole items
-pub ready_place : (s : List ℕ) (is : List Item) (position : Position) (at : ℕ) → Standing s (in_page (record { items = is; stage = Ready; position = position })) at → at ≡ (writing_of is).at
+pub ready_place : (s : List ℕ) (is : List Item) (position : Position) (at : ℕ) → Standing s (in_page (record { items = is; stage = ready; position = position })) at → at ≡ (writing_of is).at
 ready_place s is position at k =
     let h = k.reached in
     omega (arith, ap length h.bytes_are, length-append (open_bytes is) h.rest, ap length h.staged.rest_is, length-take-le at s k.inside, length_open is)
@@ -55,7 +53,7 @@ cut_after s is at to k e =
     omega (arith, between_place s is at k, length_pages is, writing_at first_writing is, e, p)
 
 -- the font of a character that was put
-pub put_font : (s : List ℕ) (is : List Item) (c : Character) (position : Position) (at : ℕ) → Standing s (in_page (record { items = is ++ (Placed c ∷ []); stage = Ready; position = position })) at → position.font ≡ some c.font
+pub put_font : (s : List ℕ) (is : List Item) (c : Character) (position : Position) (at : ℕ) → Standing s (in_page (record { items = is ++ (Placed c ∷ []); stage = ready; position = position })) at → position.font ≡ some c.font
 unfolding writing_after position_at
 put_font s is c position at k = ap (λ (p : Position). p.font) (k.reached.staged.position_is ∙ ap (λ (w : Writing). w.position) (foldl-append writing_after first_writing is (Placed c ∷ [])))
 
@@ -66,13 +64,13 @@ same_font f g e = cc
 
 staged_font : (st : Stage) (is : List Item) (position : Position) (rest : List ℕ) → Staged st is position rest → (f : ℕ) → position.font ≡ some f → f < 120
 unfolding with_font
-staged_font Ready is position rest a f e = (a.fonts f e).0
-staged_font Named is position rest a f e =
+staged_font ready is position rest a f e = (a.fonts f e).0
+staged_font named is position rest a f e =
     let q = same_font f a.font (sym e ∙ ap (λ (p : Position). p.font) a.position_is) in
     omega (arith, a.small)
-staged_font Chosen is position rest a f e = let q = same_font f a.way.font (sym e ∙ a.way.font_is) in omega (arith, a.way.small)
-staged_font Moved is position rest a f e = let q = same_font f a.way.font (sym e ∙ a.way.font_is) in omega (arith, a.way.small)
-staged_font Lowered is position rest a f e = let q = same_font f a.way.font (sym e ∙ a.way.font_is) in omega (arith, a.way.small)
+staged_font chosen is position rest a f e = let q = same_font f a.way.font (sym e ∙ a.way.font_is) in omega (arith, a.way.small)
+staged_font moved is position rest a f e = let q = same_font f a.way.font (sym e ∙ a.way.font_is) in omega (arith, a.way.small)
+staged_font lowered is position rest a f e = let q = same_font f a.way.font (sym e ∙ a.way.font_is) in omega (arith, a.way.small)
 
 down_between : (y : ℤ) → is_downward y ≡ true → (pos 0 ≤ℤ y) × (y ≤ℤ pos lowest)
 unfolding is_downward
@@ -89,7 +87,7 @@ module _ (s : List ℕ) (is : List Item) (h : PageState) (at : ℕ) (k : Standin
       let y = down_between (page_position h).y is_down in
       record {
         on_page = record { left = x.0; right = x.1; top = y.0; bottom = y.1 };
-        font_valid = λ f e. staged_font h.stage is (page_position h) k.reached.rest k.reached.staged f e;
+        font_valid = λ f e. staged_font (stage_of h.stage) is (page_position h) k.reached.rest k.reached.staged f e;
       }
 
 -- ---- the character that is put

@@ -15,13 +15,13 @@ use Rattle.dvi2.specs.Writer.{bop_bytes}
 use Rattle.dvi.specs.FontOrNone.{font_or_none}
 use Rattle.dvi2_frame.specs.Frame.{post_of}
 use Rattle.dvi2_reading.specs.PageReading as Page
-use Rattle.dvi2_reading.specs.declared.Stage.TheVariants.{Ready}
 use Rattle.dvi2_reading.specs.Reading as R
 use Rattle.dvi2_reading.specs.Reading.{in_page, between, closing, closing_of, new_page_state, character_of, further_bop}
 use Rattle.dvi2_reading.specs.Reached.{writing_of}
 use Rattle.dvi2_reading.specs.Standing.{Standing}
 use Rattle.dvi2_reading.specs.StandingLaws.{here, sole_post, sole_page}
 use Rattle.dvi2_state.specs.declared.page_state.PageState.{PageState}
+use Rattle.dvi2_state.specs.declared.page_state.Stage.TheVariants.{Ready}
 use Rattle.dvi2_state.specs.Page.{page_state_of, page_position}
 use Rattle.dvi2_close.specs.declared.expect.Reading.{Reading}
 use Rattle.dvi2_turn.specs.declared.tally.Tally.{Tally}
@@ -56,13 +56,13 @@ cut_turned s is at to h st e k =
     (cut_after s is at to st p, (p, subst (λ (g : Page.PageState). Standing s (in_page g) to) (sym e) k))
 
 pub put_turned : (s : List ℕ) (is : List Item) (at : ℕ) (h g : PageState) (code : ℕ) (c : Character)
-    → Standing s (in_page (record { items = is ++ (Placed (character_of (page_position h) code) ∷ []); stage = Ready; position = page_position h })) (at + 2)
+    → Standing s (in_page (record { items = is ++ (Placed (character_of (page_position h) code) ∷ []); stage = Page.ready; position = page_position h })) (at + 2)
     → ((f : ℕ) → font_or_none h.font ≡ some f → c ≡ character_of (page_position h) code) → g ≡ record { stage = Ready; font = h.font; x = h.x; height = h.height } → Turned s is at (Set (Placed c) g (at + 2))
 put_turned s is at h g code c k f e =
     let d = character_of (page_position h) code in
     let q : d ≡ c = sym (f d.font (put_font s is d (page_position h) (at + 2) k)) in
-    let j : Standing s (in_page (record { items = is ++ (Placed c ∷ []); stage = Ready; position = page_position h })) (at + 2) =
-    subst (λ (x : Character). Standing s (in_page (record { items = is ++ (Placed x ∷ []); stage = Ready; position = page_position h })) (at + 2)) q k in
+    let j : Standing s (in_page (record { items = is ++ (Placed c ∷ []); stage = Page.ready; position = page_position h })) (at + 2) =
+    subst (λ (x : Character). Standing s (in_page (record { items = is ++ (Placed x ∷ []); stage = Page.ready; position = page_position h })) (at + 2)) q k in
     (omega arith, (ready_place s (is ++ (Placed c ∷ [])) (page_position h) (at + 2) j, subst (λ (x : PageState). Standing s (in_page (page_state_of (is ++ (Placed c ∷ [])) x)) (at + 2)) (sym e) j))
 
 pub turned_before : (s : List ℕ) (is : List Item) (at to : ℕ) (r : Turn) → at ≤ to → Turned s is to r → Turned s is at r

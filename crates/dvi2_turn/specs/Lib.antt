@@ -1,4 +1,3 @@
 -- What the contracts cite: one turn, and what is known of the items.
 pub mod Tally
 pub mod Turn
-pub mod Pair

@@ -1,4 +1,3 @@
 // One turn of reading a file of the second edition (document 02, "The second edition of DVI"), and what is known of the items that are read so far.
-pub mod pair;
 pub mod tally;
 pub mod turn;

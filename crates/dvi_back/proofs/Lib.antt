@@ -1,3 +1,2 @@
 mod Items
 mod Passes
-mod Quicks

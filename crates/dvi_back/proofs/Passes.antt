@@ -34,7 +34,7 @@ use Rattle.octets.specs.declared.pass.Reading.TheVariants.{Needs}
 use Rattle.dvi_galley.specs.Back.{item_shown, Made, nothing, made, broken, pages_of, with_one_item, with_mark, makes, made_result, shown_galley}
 use Rattle.dvi_galley.specs.BackLaws.{makes_append}
 use Rattle.dvi_galley.specs.Taken.{taken_of}
-use Rattle.dvi_back.specs.Tally.{tally_of, pages_in, place_in, added_by, end_of, tally_reading, fields_of, Tallied}
+use Rattle.dvi_back.specs.Tally.{tally_of, pages_in, place_in, added_by, end_of, tally_reading}
 use Rattle.dvi_galley.specs.declared.item.Taken.{Taken}
 use Rattle.dvi_galley.specs.declared.item.Taken.TheVariants.{Is, Not}
 use Rattle.dvi_back.specs.declared.tally.Tally.{Tally}
@@ -86,6 +86,16 @@ standing_fits {ws} {s} {l} {q} {at} {ps} b room y = go (run_as placed_at ws at (
         y.enough
 
 -- ---- the counts and the buffer
+
+abbrev pub fields_of : Made → List ℕ
+fields_of nothing = []
+fields_of (made is) = fields New is
+fields_of (broken place) = []
+
+pub record Tallied (w : Bool) (first out : List ℕ) (b : Made) (g : Tally) : Type 0 where
+  pub counted : g ≡ tally_of b
+  pub wrote : out ≡ put_if w first 0 (fields_of b)
+  pub same : length out ≡ length first
 
 pub tallied_start : (w : Bool) (first : List ℕ) → Tallied w first first nothing Nothing
 tallied_start w first = record { counted = refl; wrote = put_if_none w first 0; same = refl }

@@ -1,3 +1,2 @@
 -- The code's counts as those of the definitions.
 pub mod Tally
-pub mod Run

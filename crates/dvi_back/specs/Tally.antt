@@ -3,16 +3,13 @@
 --     place_in                        the place after the fields so far
 --     added_by                        the field that an item adds
 --     end_of, tally_reading            what a pass ends with
---     fields_of, Tallied              the fields of what is made; the counts and the buffer are those of it
-use Rattle.std.specs.Prelude.{◌≡◌, Bool, List, [], ℕ, ◌+◌, ◌*◌, length}
+use Rattle.std.specs.Prelude.{List, [], ℕ, ◌+◌, ◌*◌, length}
 use Rattle.octets.specs.Answer.{no_galley}
 use Rattle.octets.specs.Field.{end_field}
-use Rattle.octets.specs.Write.{put_if}
 use Rattle.octets.specs.declared.pass.Reading.{Reading}
 use Rattle.octets.specs.declared.pass.Reading.TheVariants.{Needs, Fault}
 use Rattle.galley_file.specs.declared.form.Form.TheVariants.{New}
 use Rattle.galley_file.specs.Item.{item_field, characters_of, cuts_of}
-use Rattle.galley_file.specs.Galley.{fields}
 use Rattle.dvi_galley.specs.Back.{Made, nothing, made, broken}
 use Rattle.dvi_galley.specs.declared.item.Taken.{Taken}
 use Rattle.dvi_galley.specs.declared.item.Taken.TheVariants.{Is, Not}
@@ -54,15 +51,3 @@ abbrev pub tally_reading : Tally → Reading
 tally_reading Nothing = Fault no_galley 0
 tally_reading (Items cuts characters) = Needs (place_in (Items cuts characters) + 7)
 tally_reading (Broken place) = Fault no_galley place
-
--- ---- the buffer
-
-abbrev pub fields_of : Made → List ℕ
-fields_of nothing = []
-fields_of (made is) = fields New is
-fields_of (broken place) = []
-
-pub record Tallied (w : Bool) (first out : List ℕ) (b : Made) (g : Tally) : Type 0 where
-  pub counted : g ≡ tally_of b
-  pub wrote : out ≡ put_if w first 0 (fields_of b)
-  pub same : length out ≡ length first

@@ -1,5 +1,4 @@
 // DVI files of 1980 made into galleys again (document 02, "DVI back to a galley").
-mod quick;
 mod tally;
 
 ghost use Rattle.std.specs.Prelude.{◌≡◌, true, ◌≤◌, length};
@@ -30,32 +29,24 @@ fn pass(dvi: &[u8], widths: &[i32], out: &mut [u8], writing: bool) -> Reading
     let mut at: usize = 0;
     let mut g = Tally::Nothing;
     while at < dvi.len() {
-        let k = quick::quickly(dvi, &targets, out, at, g, q, writing);
-        at = k.at;
-        let counts = k.tally;
-        g = counts;
-        let here = k.state;
-        q = here;
-        if at < dvi.len() {
-            let r = dvi_step::step(dvi, widths, &mut stack, at, q);
-            match r {
-                Stepped::Refuse(k) => {
-                    return Reading::Fault(k, at);
-                }
-                Stepped::Go(t, n) => {
-                    q = t;
-                    at = at + 1 + n;
-                }
-                Stepped::Show(t, m, n) => {
-                    let i = item::item_of(&targets, tally::next_page(g), m);
-                    tally::show_item(out, g, i, writing);
-                    g = tally::with_item(g, at, i);
-                    q = t;
-                    at = at + 1 + n;
-                }
-                Stepped::Finish => {
-                    return tally::finish(out, g, writing);
-                }
+        let r = dvi_step::step(dvi, widths, &mut stack, at, q);
+        match r {
+            Stepped::Refuse(k) => {
+                return Reading::Fault(k, at);
+            }
+            Stepped::Go(t, n) => {
+                q = t;
+                at = at + 1 + n;
+            }
+            Stepped::Show(t, m, n) => {
+                let i = item::item_of(&targets, tally::next_page(g), m);
+                tally::show_item(out, g, i, writing);
+                g = tally::with_item(g, at, i);
+                q = t;
+                at = at + 1 + n;
+            }
+            Stepped::Finish => {
+                return tally::finish(out, g, writing);
             }
         }
     }

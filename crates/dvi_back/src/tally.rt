@@ -81,16 +81,6 @@ fn place(cuts: u32, characters: u32) -> usize
     form::NEW_FIELD * characters as usize + item::CUT_FIELD * cuts as usize
 }
 
-// Whether a character's field has room after these, if writing.
-pub fn has_room(room: usize, cuts: u32, characters: u32, writing: bool) -> bool
-    ensures { result ≡ true → writing ≡ true → 11 * characters + 3 * cuts + 11 ≤ room }
-{
-    if writing {
-        return place(cuts, characters) + form::NEW_FIELD <= room;
-    }
-    true
-}
-
 // Writes an item's field, if writing.
 fn show_taken(out: &mut [u8], to: usize, i: Taken, writing: bool)
     requires { writing ≡ true → to + length (field_of i) ≤ length out.old }

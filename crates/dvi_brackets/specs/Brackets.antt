@@ -9,9 +9,7 @@
 --     read_brackets    what a file shows, with these widths
 use Rattle.std.specs.Prelude.{ℕ, zero, suc, ◌+◌, cond, List, [], ◌∷◌, ◌++◌, eqb, ℤ, negsuc, get_or, drop}
 use Rattle.octets.specs.Answer.{bad_command, dvi_ends_early, stack_full, stack_empty, entries_left}
-use Rattle.dvi.specs.Command.{PUSH, POP, decode}
-use Rattle.dvi.specs.declared.command.Decoded.{Decoded}
-use Rattle.dvi.specs.declared.command.Decoded.TheVariants.{NoCommand, CutShort, Whole}
+use Rattle.dvi.specs.Command.{PUSH, POP, Decoded, no_command, cut_short, command, decode}
 use Rattle.sheet.specs.Sheet.{Mark}
 use Rattle.dvi.specs.Page.{max_stack, Page, Effect, fault, moved, marked, ended, with_numbers, effect}
 use Rattle.sheet.specs.Shown.{Shown, refused_at, shows, shows_first}
@@ -43,9 +41,9 @@ effect_item at n (marked q m) = past_item q (m ∷ []) n
 effect_item at n ended = page_end
 
 unfoldable pub command_item : List ℤ → ℕ → Page → Decoded → Item
-command_item ws at p NoCommand = bad_item bad_command at
-command_item ws at p CutShort = bad_item dvi_ends_early at
-command_item ws at p (Whole c n) = effect_item at n (effect ws p c)
+command_item ws at p no_command = bad_item bad_command at
+command_item ws at p cut_short = bad_item dvi_ends_early at
+command_item ws at p (command c n) = effect_item at n (effect ws p c)
 
 -- on leaving a group the six numbers are what they were on entering; 26: EOP inside it
 unfoldable pub leave : ℕ → Page → Run → Item

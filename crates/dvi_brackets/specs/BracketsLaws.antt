@@ -14,9 +14,7 @@ use Rattle.std.proofs.Math.Nat.{add-zero}
 use native.Mathlib.Omega.{arith}
 use Rattle.octets.specs.OctetsLaws.{by_cond}
 use Rattle.octets.specs.Answer.{dvi_ends_early}
-use Rattle.dvi.specs.Command.{PUSH, POP, layout_of, decode}
-use Rattle.dvi.specs.declared.command.Decoded.{Decoded}
-use Rattle.dvi.specs.declared.command.Decoded.TheVariants.{NoCommand, CutShort, Whole}
+use Rattle.dvi.specs.Command.{PUSH, POP, layout_of, Decoded, no_command, cut_short, command, decode}
 use Rattle.sheet.specs.Sheet.{Mark}
 use Rattle.dvi.specs.Page.{Page, Effect, fault, moved, marked, ended, effect}
 use Rattle.dvi.specs.FileLaws.{Held, held}
@@ -129,9 +127,9 @@ effect_sound at n k ended h = tt
 module _ (ws : List ℤ) where
   command_sound : (at k : ℕ) (p : Page) (d : Decoded) → Held k d → SoundItem k (command_item ws at p d)
   unfolding command_item
-  command_sound at k p NoCommand h = tt
-  command_sound at k p CutShort h = tt
-  command_sound at k p (Whole c n) h = effect_sound at n k (effect ws p c) h
+  command_sound at k p no_command h = tt
+  command_sound at k p cut_short h = tt
+  command_sound at k p (command c n) h = effect_sound at n k (effect ws p c) h
 
   leave_sound : (at k : ℕ) (p : Page) (r : Run) → SoundRun 0 k r → SoundItem k (leave at p r)
   unfolding leave

@@ -10,11 +10,7 @@ use mathlib.Core.List.{List, [], ◌∷◌}
 use Prim.Native.Nat.{ℕ, zero, suc}
 use Rattle.std.proofs.lemmas.Bool.{eqb-false}
 use Rattle.octets.specs.OctetsLaws.{by_cond}
-use Rattle.dvi.specs.Command.{PUSH, POP, decode}
-use Rattle.dvi.specs.declared.command.Command.{Command}
-use Rattle.dvi.specs.declared.command.Command.TheVariants.{Eop}
-use Rattle.dvi.specs.declared.command.Decoded.{Decoded}
-use Rattle.dvi.specs.declared.command.Decoded.TheVariants.{NoCommand, CutShort, Whole}
+use Rattle.dvi.specs.Command.{PUSH, POP, Command, eop, Decoded, no_command, cut_short, command, decode}
 use Rattle.sheet.specs.Sheet.{Mark}
 use Rattle.dvi.specs.Page.{Numbers, Page, Effect, fault, moved, marked, ended, with_numbers, end_page, effect}
 use Rattle.dvi_brackets.specs.Brackets.{Item, bad_item, past_item, page_end, Run, bad_run, to_pop, to_eop, effect_item, command_item, leave, group, item, first, then_run, run}
@@ -57,22 +53,22 @@ effect_item_clean at n ended h = tt
 
 module _ (ws : List ℤ) where
   -- EOP ends a page with an empty stack
-  pub eop_ends : (p : Page) → p.stack ≡ [] → effect ws p Eop ≡ ended
+  pub eop_ends : (p : Page) → p.stack ≡ [] → effect ws p eop ≡ ended
   unfolding effect end_page
   eop_ends p s = ap end_page s
 
   pub effect_clean : (p : Page) (c : Command) (n : ℕ) → p.stack ≡ [] → Inner c n → HasStack [] (effect ws p c)
   effect_clean p c n s h = by_kind (effect_onto ws p p.stack c n h)
     where
-      by_kind : (c ≡ Eop) ⊎ Onto p.stack (effect ws (onto p p.stack) c) (effect ws p c) → HasStack [] (effect ws p c)
+      by_kind : (c ≡ eop) ⊎ Onto p.stack (effect ws (onto p p.stack) c) (effect ws p c) → HasStack [] (effect ws p c)
       by_kind (inl e) = subst (HasStack []) (sym (ap (effect ws p) e ∙ eop_ends p s)) tt
       by_kind (inr e) = subst (λ (st : List Numbers). HasStack st (effect ws p c)) s (has_stack p.stack (effect ws p c) e.0)
 
   command_clean : (at : ℕ) (p : Page) (d : Decoded) → p.stack ≡ [] → InnerDecoded d → CleanItem (command_item ws at p d)
   unfolding command_item
-  command_clean at p NoCommand s h = tt
-  command_clean at p CutShort s h = tt
-  command_clean at p (Whole c n) s h = effect_item_clean at n (effect ws p c) (effect_clean p c n s h)
+  command_clean at p no_command s h = tt
+  command_clean at p cut_short s h = tt
+  command_clean at p (command c n) s h = effect_item_clean at n (effect ws p c) (effect_clean p c n s h)
 
   leave_clean : (at : ℕ) (p : Page) (r : Run) → Clean r → CleanItem (leave at p r)
   unfolding leave with_numbers

@@ -13,13 +13,7 @@ use Rattle.octets.specs.Octets.{fits32}
 use Rattle.octets.specs.OctetsLaws.{by_cond}
 use Rattle.octets.specs.Answer.{cannot_set, out_of32_bits}
 use Rattle.sheet.specs.Readable.{font_chars}
-use Rattle.measure.specs.declared.Rsu.{Rsu}
-use Rattle.dvi.specs.Command.{PUSH, POP, FONTNUM, Layout, barred, bare, takes, takes_two, layouts, layout_of, with_parameters, decode}
-use Rattle.dvi.specs.declared.command.Command.{Command}
-use Rattle.dvi.specs.declared.command.Command.TheVariants.{SetChar, Nop, Eop, Push, Pop, VertRule, HorzRule, HorzChar, SetFont, MoveW, MoveW0, MoveX, MoveX0, MoveY, MoveY0, MoveZ, MoveZ0}
-use Rattle.dvi.specs.declared.command.Decoded.{Decoded}
-use Rattle.dvi.specs.declared.command.Decoded.TheVariants.{NoCommand, CutShort, Whole}
-use Rattle.dvi_effect.specs.NoBracket.{NoBracket}
+use Rattle.dvi.specs.Command.{PUSH, POP, FONTNUM, Command, NoBracket, set_char, nop, eop, push, pop, vert_rule, horz_rule, horz_char, set_font, move_w, move_w0, move_x, move_x0, move_y, move_y0, move_z, move_z0, Layout, barred, bare, takes, takes_two, layouts, layout_of, Decoded, no_command, cut_short, command, with_parameters, decode}
 use Rattle.sheet.specs.Sheet.{Mark}
 use Rattle.dvi.specs.Page.{Numbers, Page, Effect, fault, moved, marked, ended, with_numbers, with_font, if_fits, go_to, show_and_go_to, char_here, rule_here, width_in, set_moving, set_in_font, set_still, effect}
 
@@ -27,18 +21,18 @@ use Rattle.dvi.specs.Page.{Numbers, Page, Effect, fault, moved, marked, ended, w
 
 -- the command c with n bytes of parameters is neither; EOP has no parameters
 abbrev pub Inner : Command → ℕ → Type 0
-Inner c n = NoBracket c × (c ≡ Eop → n ≡ 0)
+Inner c n = NoBracket c × (c ≡ eop → n ≡ 0)
 
 abbrev pub InnerDecoded : Decoded → Type 0
-InnerDecoded NoCommand = Unit {0}
-InnerDecoded CutShort = Unit {0}
-InnerDecoded (Whole c n) = Inner c n
+InnerDecoded no_command = Unit {0}
+InnerDecoded cut_short = Unit {0}
+InnerDecoded (command c n) = Inner c n
 
 abbrev InnerLayout : Layout → Type 0
 InnerLayout barred = Unit {0}
 InnerLayout (bare c) = Inner c 0
 InnerLayout (takes n c) = (z : ℤ) → Inner (c z) n
-InnerLayout (takes_two c) = (z w : Rsu) → Inner (c z w) 8
+InnerLayout (takes_two c) = (z w : ℤ) → Inner (c z w) 8
 
 abbrev AllInner : List Layout → Type 0
 AllInner [] = Unit {0}
@@ -138,22 +132,22 @@ module _ (ws : List ℤ) (p : Page) (st : List Numbers) where
   still_onto (pos c) (some f) = if_onto (ltb c font_chars) (marked p (char_here p f c)) cannot_set tt
   still_onto (negsuc c) (some f) = (refl, tt)
 
-  pub effect_onto : (c : Command) (n : ℕ) → Inner c n → (c ≡ Eop) ⊎ Onto st (effect ws (onto p st) c) (effect ws p c)
+  pub effect_onto : (c : Command) (n : ℕ) → Inner c n → (c ≡ eop) ⊎ Onto st (effect ws (onto p st) c) (effect ws p c)
   unfolding effect with_font rule_here
-  effect_onto Push n h = absurd h.0
-  effect_onto Pop n h = absurd h.0
-  effect_onto Eop n h = inl refl
-  effect_onto (SetChar c) n h = inr (font_onto c p.font)
-  effect_onto Nop n h = inr (refl, tt)
-  effect_onto (VertRule a w) n h = inr (show_onto _ _)
-  effect_onto (HorzRule a w) n h = inr (refl, tt)
-  effect_onto (HorzChar c) n h = inr (still_onto c p.font)
-  effect_onto (SetFont f) n h = inr (refl, tt)
-  effect_onto (MoveW m) n h = inr (go_onto _)
-  effect_onto MoveW0 n h = inr (go_onto _)
-  effect_onto (MoveX m) n h = inr (go_onto _)
-  effect_onto MoveX0 n h = inr (go_onto _)
-  effect_onto (MoveY m) n h = inr (go_onto _)
-  effect_onto MoveY0 n h = inr (go_onto _)
-  effect_onto (MoveZ m) n h = inr (go_onto _)
-  effect_onto MoveZ0 n h = inr (go_onto _)
+  effect_onto push n h = absurd h.0
+  effect_onto pop n h = absurd h.0
+  effect_onto eop n h = inl refl
+  effect_onto (set_char c) n h = inr (font_onto c p.font)
+  effect_onto nop n h = inr (refl, tt)
+  effect_onto (vert_rule a w) n h = inr (show_onto _ _)
+  effect_onto (horz_rule a w) n h = inr (refl, tt)
+  effect_onto (horz_char c) n h = inr (still_onto c p.font)
+  effect_onto (set_font f) n h = inr (refl, tt)
+  effect_onto (move_w m) n h = inr (go_onto _)
+  effect_onto move_w0 n h = inr (go_onto _)
+  effect_onto (move_x m) n h = inr (go_onto _)
+  effect_onto move_x0 n h = inr (go_onto _)
+  effect_onto (move_y m) n h = inr (go_onto _)
+  effect_onto move_y0 n h = inr (go_onto _)
+  effect_onto (move_z m) n h = inr (go_onto _)
+  effect_onto move_z0 n h = inr (go_onto _)

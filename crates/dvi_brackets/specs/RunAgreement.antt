@@ -11,10 +11,7 @@ use Prim.Native.Nat.{ℕ, zero, suc, ◌+◌, ◌≤◌, ◌<◌}
 use Rattle.std.proofs.lemmas.Bool.{eqb-false}
 use Rattle.octets.specs.OctetsLaws.{by_cond}
 use Rattle.octets.specs.Answer.{stack_full, stack_empty, entries_left}
-use Rattle.dvi.specs.Command.{PUSH, POP, layouts, layout_of, with_parameters, decode}
-use Rattle.dvi.specs.declared.command.Command.TheVariants.{Eop}
-use Rattle.dvi.specs.declared.command.Decoded.{Decoded}
-use Rattle.dvi.specs.declared.command.Decoded.TheVariants.{NoCommand, CutShort, Whole}
+use Rattle.dvi.specs.Command.{PUSH, POP, eop, layouts, layout_of, Decoded, no_command, cut_short, command, with_parameters, decode}
 use Rattle.sheet.specs.Sheet.{Mark}
 use Rattle.dvi.specs.Page.{max_stack, Numbers, Page, Effect, fault, moved, marked, ended, with_numbers, pushed, popped, end_page, effect}
 use Rattle.dvi.specs.File as F
@@ -90,17 +87,17 @@ module _ (ws : List ℤ) (last : ℤ) where
       eop_agrees [] = refl
       eop_agrees (x ∷ ts) = ap (refused_at entries_left) (omega arith)
 
-      end_agrees : stack_goes (after_effect last 0 (effect ws (onto p st) Eop)) ≡ bracket_goes (effect_item at 0 (effect ws p Eop))
+      end_agrees : stack_goes (after_effect last 0 (effect ws (onto p st) eop)) ≡ bracket_goes (effect_item at 0 (effect ws p eop))
       unfolding effect effect_item then_run
       end_agrees = eop_agrees st ∙ ap (λ (x : Effect). bracket_goes (effect_item at 0 x)) (sym (eop_ends ws p s))
 
       command_agrees : (k : Decoded) → InnerDecoded k → stack_goes (in_page ws last (onto p st) k) ≡ bracket_goes (command_item ws at p k)
       unfolding follow in_page command_item then_run
-      command_agrees NoCommand g = refl
-      command_agrees CutShort g = refl
-      command_agrees (Whole c n) g = by_kind (effect_onto ws p st c n g)
+      command_agrees no_command g = refl
+      command_agrees cut_short g = refl
+      command_agrees (command c n) g = by_kind (effect_onto ws p st c n g)
         where
-          by_kind : (c ≡ Eop) ⊎ Onto st (effect ws (onto p st) c) (effect ws p c) → stack_goes (after_effect last n (effect ws (onto p st) c)) ≡ bracket_goes (effect_item at n (effect ws p c))
+          by_kind : (c ≡ eop) ⊎ Onto st (effect ws (onto p st) c) (effect ws p c) → stack_goes (after_effect last n (effect ws (onto p st) c)) ≡ bracket_goes (effect_item at n (effect ws p c))
           by_kind (inr e) = ap (λ (x : Effect). stack_goes (after_effect last n x)) e.0 ∙ effect_agrees n (effect ws p c) e.1 (effect_clean ws p c n s g)
           by_kind (inl e) =
               let z : n ≡ 0 = g.1 e in

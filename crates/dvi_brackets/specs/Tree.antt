@@ -6,9 +6,7 @@
 --     Read                     what a run or an item leads to
 --     read_items, read_piece     the reading: on leaving a group the six numbers are what they were on entering
 use Rattle.std.specs.Prelude.{ℕ, zero, suc, ◌≡◌, List, [], ◌∷◌, ◌++◌, ℤ, length}
-use Rattle.dvi.specs.Command.{PUSH, POP, decode}
-use Rattle.dvi.specs.declared.command.Command.{Command}
-use Rattle.dvi.specs.declared.command.Decoded.TheVariants.{Whole}
+use Rattle.dvi.specs.Command.{PUSH, POP, Command, command, decode}
 use Rattle.sheet.specs.Sheet.{Mark}
 use Rattle.dvi.specs.Page.{Page, Effect, fault, moved, marked, ended, with_numbers, effect}
 
@@ -33,7 +31,7 @@ unfoldable mutual
   piece_bytes (bracketed xs) = PUSH ∷ items_bytes xs ++ (POP ∷ [])
 
 pub record Stands (c : Command) (b : ℕ) (ps : List ℕ) : Type 0 where
-  pub decoded : (rest : List ℕ) → decode b (ps ++ rest) ≡ Whole c (length ps)
+  pub decoded : (rest : List ℕ) → decode b (ps ++ rest) ≡ command c (length ps)
   pub no_push : b ≡ PUSH → ⊥
   pub no_pop : b ≡ POP → ⊥
 

@@ -10,9 +10,7 @@ use Rattle.std.proofs.Common.{sym, subst, ◌∙◌, append-nil, append_assoc, a
 use Prim.Native.Nat.{ℕ, zero, suc, ◌+◌}
 use Rattle.std.proofs.Math.ListN.{length, length-append}
 use Rattle.octets.specs.Octets.{number_from, twos, signed, fits32}
-use Rattle.dvi.specs.Command.{PUSH, POP, rsu, layouts, layout_of, with_parameters, decode}
-use Rattle.dvi.specs.declared.command.Command.{Command}
-use Rattle.dvi.specs.declared.command.Command.TheVariants.{SetFont, MoveX, HorzChar}
+use Rattle.dvi.specs.Command.{PUSH, POP, Command, set_font, move_x, horz_char, layouts, layout_of, with_parameters, decode}
 use Rattle.sheet.specs.Sheet.{Mark, char_mark}
 use Rattle.dvi.specs.Page.{max_stack, Numbers, Page, new_page, Effect, fault, moved, marked, ended, with_numbers, with_font, right_by, set_x, if_fits, go_to, char_here, set_still, effect}
 use Rattle.dvi.specs.File as F
@@ -201,17 +199,17 @@ group_numbers ws xs p q ms e = let k = left p (read_items xs ws p) q ms e in ap 
 
 sample : Items
 sample =
-    also (single (SetFont (pos 0)) 154 [])
-    (also (bracketed (also (single (MoveX (rsu (pos 5))) 144 (0 ∷ 5 ∷ [])) (also (single (HorzChar (pos 65)) 136 (65 ∷ [])) none)))
-    (also (single (HorzChar (pos 66)) 136 (66 ∷ [])) none))
+    also (single (set_font (pos 0)) 154 [])
+    (also (bracketed (also (single (move_x (pos 5)) 144 (0 ∷ 5 ∷ [])) (also (single (horz_char (pos 65)) 136 (65 ∷ [])) none)))
+    (also (single (horz_char (pos 66)) 136 (66 ∷ [])) none))
 
 sample_formed : Formed sample max_stack
 unfolding sample decode layout_of layouts with_parameters signed twos number_from
 sample_formed =
-    let font : Stands (SetFont (pos 0)) 154 [] = record { decoded = λ rest. refl; no_push = λ e. absurd (omega (arith, e)); no_pop = λ e. absurd (omega (arith, e)) } in
-    let move : Stands (MoveX (rsu (pos 5))) 144 (0 ∷ 5 ∷ []) = record { decoded = λ rest. rw (le-leb 2 (suc (suc (length rest))) (omega arith)); no_push = λ e. absurd (omega (arith, e)); no_pop = λ e. absurd (omega (arith, e)) } in
-    let a : Stands (HorzChar (pos 65)) 136 (65 ∷ []) = record { decoded = λ rest. rw (le-leb 1 (suc (length rest)) (omega arith)); no_push = λ e. absurd (omega (arith, e)); no_pop = λ e. absurd (omega (arith, e)) } in
-    let b : Stands (HorzChar (pos 66)) 136 (66 ∷ []) = record { decoded = λ rest. rw (le-leb 1 (suc (length rest)) (omega arith)); no_push = λ e. absurd (omega (arith, e)); no_pop = λ e. absurd (omega (arith, e)) } in
+    let font : Stands (set_font (pos 0)) 154 [] = record { decoded = λ rest. refl; no_push = λ e. absurd (omega (arith, e)); no_pop = λ e. absurd (omega (arith, e)) } in
+    let move : Stands (move_x (pos 5)) 144 (0 ∷ 5 ∷ []) = record { decoded = λ rest. rw (le-leb 2 (suc (suc (length rest))) (omega arith)); no_push = λ e. absurd (omega (arith, e)); no_pop = λ e. absurd (omega (arith, e)) } in
+    let a : Stands (horz_char (pos 65)) 136 (65 ∷ []) = record { decoded = λ rest. rw (le-leb 1 (suc (length rest)) (omega arith)); no_push = λ e. absurd (omega (arith, e)); no_pop = λ e. absurd (omega (arith, e)) } in
+    let b : Stands (horz_char (pos 66)) 136 (66 ∷ []) = record { decoded = λ rest. rw (le-leb 1 (suc (length rest)) (omega arith)); no_push = λ e. absurd (omega (arith, e)); no_pop = λ e. absurd (omega (arith, e)) } in
     (font, ((move, (a, tt)), (b, tt)))
 
 sample_read : read_items sample [] new_page ≡ leads (with_font new_page (pos 0)) (char_mark (pos 5) (pos 0) (pos 0) 65 ∷ char_mark (pos 0) (pos 0) (pos 0) 66 ∷ [])

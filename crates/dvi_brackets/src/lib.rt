@@ -7,8 +7,8 @@ ghost use Rattle.dvi_page.specs.Page.{page_of, effect_of};
 ghost use Rattle.dvi_brackets.specs.Brackets.{effect_item, command_item, run, item_here};
 ghost use Rattle.dvi_brackets.specs.Reading.{InFile, RoomyItem, ItemDone, RoomyRun, RunDone, LeavesAt, LeftBy};
 
-use dvi::command::Decoded;
 use dvi::{mark, opcode};
+use dvi_command::Decoded;
 use dvi_page::page;
 use dvi_page::page::{Effect, Page};
 use octets::answer;

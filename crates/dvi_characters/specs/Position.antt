@@ -5,7 +5,6 @@
 --     position_after     the position after an item
 --     PositionAt        a position of the code is that after a valid character of a low height
 use Rattle.std.specs.Prelude.{◌≡◌, true, pos, negsuc, ◌≤ℤ◌}
-use Rattle.measure.specs.Target.{greatest}
 use Rattle.measure.specs.Place.{low_end}
 use Rattle.galley_file.specs.declared.character.Character.{Character}
 use Rattle.galley_file.specs.declared.item.Item.{Item}
@@ -21,7 +20,7 @@ position_of p = record { font = font_or_none p.font; x = p.x.0; y = p.y.0 }
 -- moves between such places are signed 32-bit numbers
 pub record OnPage (p : W.Position) : Type 0 where
   pub left : negsuc 600746 ≤ℤ p.x
-  pub right : p.x ≤ℤ greatest
+  pub right : p.x ≤ℤ pos 35378517
   pub top : pos 0 ≤ℤ p.y
   pub bottom : p.y ≤ℤ pos 2147450880
 

@@ -4,7 +4,7 @@ use Rattle.std.specs.Prelude.{◌≡◌, true, ◌<◌, pos, negsuc, ◌≤ℤ�
 use Rattle.std.proofs.Math.Path.{ap}
 use Rattle.std.proofs.Common.{subst, ◌∙◌}
 use Rattle.integers.specs.Parts.{integers}
-use Rattle.measure.specs.Place.{carriage_end, low_end}
+use Rattle.measure.specs.Place.{low_end}
 use Rattle.measure.specs.TargetLaws.{target_least, target_greatest, y_parts}
 use Rattle.galley_file.specs.declared.character.Character.{Character}
 use Rattle.galley_file.specs.declared.item.Item.{Item}
@@ -23,7 +23,7 @@ position_start p f x y = record {
 }
 
 module _ (c : Character) (v : valid low_end c ≡ true) where
-  pub x_between : (negsuc 54 ≤ℤ c.x.0) × (c.x.0 ≤ℤ carriage_end)
+  pub x_between : (negsuc 54 ≤ℤ c.x.0) × (c.x.0 ≤ℤ pos 3239)
   x_between = x_range (valid_parts v)
 
   pub y_between : (pos 0 ≤ℤ c.height.0) × (c.height.0 ≤ℤ low_end)

@@ -1,9 +1,8 @@
 // The commands inside a page of a DVI file of 1980 (002), read from bytes.
 ghost use Rattle.std.specs.Prelude.{◌≡◌, List, ℕ, ◌+◌, ◌≤◌, ◌<◌, length, drop};
-ghost use Rattle.dvi.specs.Command.{decode as decodeOf, moves, with_parameters};
-ghost use Rattle.dvi_command.specs.Command.{parameter_of, still_of, moving_of};
+ghost use Rattle.dvi.specs.Command.{decode as decodeOf, with_parameters, takes};
+ghost use Rattle.dvi_command.specs.Command.{command_of, decoded_of, parameter_of, still_of, moving_of};
 
-use dvi::command::{Command, Decoded};
 use dvi::opcode;
 use measure::Rsu;
 use octets::number;
@@ -16,6 +15,35 @@ const X: u8 = 1;
 const Y: u8 = 2;
 
 const Z: u8 = 3;
+
+#[derive(Drop)]
+pub enum Command {
+    SetChar(u8),
+    Nop,
+    Eop,
+    Push,
+    Pop,
+    VertRule(Rsu, Rsu),
+    HorzRule(Rsu, Rsu),
+    HorzChar(i32),
+    SetFont(i32),
+    MoveW(Rsu),
+    MoveW0,
+    MoveX(Rsu),
+    MoveX0,
+    MoveY(Rsu),
+    MoveY0,
+    MoveZ(Rsu),
+    MoveZ0,
+}
+
+// A command with the number of its parameters' bytes, or why there is none.
+#[derive(Drop)]
+pub enum Decoded {
+    NoCommand,
+    CutShort,
+    Whole(Command, usize),
+}
 
 #[derive(Drop)]
 pub enum Parameter {
@@ -41,7 +69,7 @@ fn parameter_at(s: &[u8], at: usize, n: usize) -> Parameter
 
 // W0, X0, Y0 or Z0.
 fn still(amount: u8) -> Command
-    ensures { result ≡ still_of amount }
+    ensures { command_of result ≡ still_of amount }
 {
     match amount {
         W => Command::MoveW0,
@@ -53,7 +81,7 @@ fn still(amount: u8) -> Command
 
 // A move by m that sets the amount W, X, Y or Z.
 fn moving(amount: u8, m: Rsu) -> Command
-    ensures { result ≡ moving_of amount m }
+    ensures { command_of result ≡ moving_of amount m.0 }
 {
     match amount {
         W => Command::MoveW(m),
@@ -66,7 +94,7 @@ fn moving(amount: u8, m: Rsu) -> Command
 // The same, by the parameter of n bytes from `at`.
 fn decode_move(s: &[u8], at: usize, amount: u8, n: usize) -> Decoded
     requires { (at ≤ length s.now) × ((0 < n) × (n < 5)) }
-    ensures { result ≡ with_parameters (moves n (moving_of amount)) (drop at s.now) }
+    ensures { decoded_of result ≡ with_parameters (takes n (moving_of amount)) (drop at s.now) }
 {
     let p = parameter_at(s, at, n);
     match p {
@@ -78,7 +106,7 @@ fn decode_move(s: &[u8], at: usize, amount: u8, n: usize) -> Decoded
 // VERTRULE and HORZRULE.
 fn decode_rule(s: &[u8], at: usize, op: u8) -> Decoded
     requires { (at ≤ length s.now) × ((134 ≤ op) × (op < 136)) }
-    ensures { result ≡ decodeOf op (drop at s.now) }
+    ensures { decoded_of result ≡ decodeOf op (drop at s.now) }
 {
     if s.len() - at < 8 {
         return Decoded::CutShort;
@@ -94,7 +122,7 @@ fn decode_rule(s: &[u8], at: usize, op: u8) -> Decoded
 // HORZCHAR and FONT.
 fn decode_set(s: &[u8], at: usize, op: u8) -> Decoded
     requires { (at ≤ length s.now) × ((136 ≤ op) × (op < 138)) }
-    ensures { result ≡ decodeOf op (drop at s.now) }
+    ensures { decoded_of result ≡ decodeOf op (drop at s.now) }
 {
     if op == opcode::HORZCHAR {
         let p = parameter_at(s, at, 1);
@@ -114,7 +142,7 @@ fn decode_set(s: &[u8], at: usize, op: u8) -> Decoded
 // NOP, EOP, PUSH and POP; BOP and PST are not allowed inside a page.
 fn decode_bare(op: u8) -> Decoded
     requires { (128 ≤ op) × (op < 134) }
-    ensures { (ps : List ℕ) → result ≡ decodeOf op ps }
+    ensures { (ps : List ℕ) → decoded_of result ≡ decodeOf op ps }
 {
     match op {
         opcode::NOP => Decoded::Whole(Command::Nop, 0),
@@ -128,7 +156,7 @@ fn decode_bare(op: u8) -> Decoded
 // FONTNUM, and what is undefined.
 fn decode_other(op: u8) -> Decoded
     requires { 154 ≤ op }
-    ensures { (ps : List ℕ) → result ≡ decodeOf op ps }
+    ensures { (ps : List ℕ) → decoded_of result ≡ decodeOf op ps }
 {
     if opcode::UNDEFINED <= op {
         return Decoded::NoCommand;
@@ -139,7 +167,7 @@ fn decode_other(op: u8) -> Decoded
 // The command with first byte op from 128 on, before the bytes from `at`. One match with single keys makes one jump.
 fn decode_high(s: &[u8], at: usize, op: u8) -> Decoded
     requires { (at ≤ length s.now) × (128 ≤ op) }
-    ensures { result ≡ decodeOf op (drop at s.now) }
+    ensures { decoded_of result ≡ decodeOf op (drop at s.now) }
 {
     match op {
         opcode::NOP | opcode::BOP | opcode::EOP | opcode::PST | opcode::PUSH | opcode::POP =>
@@ -170,7 +198,7 @@ fn decode_high(s: &[u8], at: usize, op: u8) -> Decoded
 // The command with first byte op. Characters come first, being the commonest.
 pub fn decode(s: &[u8], at: usize, op: u8) -> Decoded
     requires { at ≤ length s.now }
-    ensures { result ≡ decodeOf op (drop at s.now) }
+    ensures { decoded_of result ≡ decodeOf op (drop at s.now) }
 {
     if op < opcode::NOP {
         return Decoded::Whole(Command::SetChar(op), 0);

@@ -1,3 +1,2 @@
--- The code's widths as those of the format, and the commands that know no stack.
+-- The code's widths as those of the format.
 pub mod Width
-pub mod NoBracket

@@ -1,14 +1,15 @@
 // What each command does to a page.
 ghost use Rattle.std.specs.Prelude.{◌≡◌, List, ◌≤◌, ℤ, length};
+ghost use Rattle.dvi.specs.Command.{NoBracket};
 ghost use Rattle.dvi.specs.Mark.{mark_of};
 ghost use Rattle.dvi.specs.Page as S;
+ghost use Rattle.dvi_command.specs.Command.{command_of};
 ghost use Rattle.dvi_page.specs.Stack.{stack_size};
 ghost use Rattle.dvi_page.specs.Page.{page_of, effect_of};
-ghost use Rattle.dvi_effect.specs.NoBracket.{NoBracket};
 ghost use Rattle.dvi_effect.specs.Width.{lent_width};
 
-use dvi::command::Command;
 use dvi::mark::Mark;
+use dvi_command::Command;
 use dvi_page::page;
 use dvi_page::page::{Effect, Page};
 use measure::Rsu;
@@ -23,7 +24,7 @@ pub enum Width {
 }
 
 // The width of character c in font f. The table has numbers, which are rsu here.
-pub fn width_of(widths: &[i32], f: i32, c: u8) -> Width
+fn width_of(widths: &[i32], f: i32, c: u8) -> Width
     ensures { lent_width result ≡ S.width_in widths.now f c }
 {
     if f < 0 {
@@ -70,7 +71,7 @@ fn rule_here(p: Page, kind: u8, h: Rsu, w: Rsu) -> Mark
 
 // 0 to 127.
 fn set_char(widths: &[i32], p: Page, c: u8) -> Effect
-    ensures { (l : List ℤ) → effect_of result l ≡ S.effect widths.now (page_of p l) (Command.SetChar c) }
+    ensures { (l : List ℤ) → effect_of result l ≡ S.effect widths.now (page_of p l) (command_of (Command.SetChar c)) }
 {
     if p.has_font {
         let f = p.font;
@@ -86,7 +87,7 @@ fn set_char(widths: &[i32], p: Page, c: u8) -> Effect
 
 // HORZCHAR: the place stays.
 fn horz_char(p: Page, c: i32) -> Effect
-    ensures { (ws l : List ℤ) → effect_of result l ≡ S.effect ws (page_of p l) (Command.HorzChar c) }
+    ensures { (ws l : List ℤ) → effect_of result l ≡ S.effect ws (page_of p l) (command_of (Command.HorzChar c)) }
 {
     if p.has_font {
         if c < 0 {
@@ -104,20 +105,20 @@ fn horz_char(p: Page, c: i32) -> Effect
 
 // VERTRULE: the place moves right by the width.
 fn vert_rule(p: Page, h: Rsu, w: Rsu) -> Effect
-    ensures { (ws l : List ℤ) → effect_of result l ≡ S.effect ws (page_of p l) (Command.VertRule h w) }
+    ensures { (ws l : List ℤ) → effect_of result l ≡ S.effect ws (page_of p l) (command_of (Command.VertRule h w)) }
 {
     page::show_right(p, rule_here(p, 0, h, w), w)
 }
 
 // HORZRULE: the place stays.
 fn horz_rule(p: Page, h: Rsu, w: Rsu) -> Effect
-    ensures { (ws l : List ℤ) → effect_of result l ≡ S.effect ws (page_of p l) (Command.HorzRule h w) }
+    ensures { (ws l : List ℤ) → effect_of result l ≡ S.effect ws (page_of p l) (command_of (Command.HorzRule h w)) }
 {
     Effect::Marked(p, rule_here(p, 1, h, w))
 }
 
 fn set_font(p: Page, f: i32) -> Effect
-    ensures { (ws l : List ℤ) → effect_of result l ≡ S.effect ws (page_of p l) (Command.SetFont f) }
+    ensures { (ws l : List ℤ) → effect_of result l ≡ S.effect ws (page_of p l) (command_of (Command.SetFont f)) }
 {
     let n = p.numbers;
     Effect::Moved(Page {
@@ -130,8 +131,8 @@ fn set_font(p: Page, f: i32) -> Effect
 
 // The effect of a command other than PUSH and POP, which alone know the stack.
 pub fn plain_effect(widths: &[i32], p: Page, c: Command) -> Effect
-    requires { NoBracket c }
-    ensures { (l : List ℤ) → effect_of result l ≡ S.effect widths.now (page_of p l) c }
+    requires { NoBracket (command_of c) }
+    ensures { (l : List ℤ) → effect_of result l ≡ S.effect widths.now (page_of p l) (command_of c) }
 {
     let mut n = p.numbers;
     match c {
@@ -170,7 +171,7 @@ pub fn plain_effect(widths: &[i32], p: Page, c: Command) -> Effect
 // The effect of a command.
 pub fn effect_of(widths: &[i32], entries: &mut [i32], p: Page, c: Command) -> Effect
     requires { (length entries.old ≡ stack_size) × (p.depth ≤ S.max_stack) }
-    ensures { effect_of result entries.new ≡ S.effect widths.now (page_of p entries.old) c }
+    ensures { effect_of result entries.new ≡ S.effect widths.now (page_of p entries.old) (command_of c) }
 {
     match c {
         Command::Push => page::push(entries, p),

@@ -5,7 +5,7 @@
 --     HeldExtents     extents that a file can hold
 use Rattle.std.specs.Prelude.{ℕ, cond, List, [], ◌∷◌, ◌++◌, ℤ, pos, ◌≤ℤ◌}
 use Rattle.octets.specs.Octets.{signed_bytes}
-use Rattle.measure.specs.Place.{carriage_end, low_end}
+use Rattle.measure.specs.Place.{low_end}
 use Rattle.measure.specs.Target.{x_target, y_target}
 use Rattle.dvi.specs.Command.{PST}
 use Rattle.extents.specs.declared.Extents.{Extents}
@@ -26,6 +26,6 @@ postamble_of last pst e =
 
 pub record HeldExtents (e : Extents) : Type 0 where
   pub x_least : pos 0 ≤ℤ e.x.0
-  pub x_most : e.x.0 ≤ℤ carriage_end
+  pub x_most : e.x.0 ≤ℤ pos 3239
   pub height_least : pos 0 ≤ℤ e.height.0
   pub height_most : e.height.0 ≤ℤ low_end

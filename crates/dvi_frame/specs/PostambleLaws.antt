@@ -4,7 +4,7 @@ use Rattle.std.specs.Prelude.{◌≡◌, refl, List, map, ℕ, ℤ, pos, ◌≤�
 use Rattle.std.proofs.Common.{arith}
 use Rattle.integers.specs.Parts.{integers}
 use Rattle.octets.specs.Octets.{bytes, signed_bytes}
-use Rattle.measure.specs.Place.{carriage_end, low_end}
+use Rattle.measure.specs.Place.{low_end}
 use Rattle.measure.specs.Target.{x_target, y_target}
 use Rattle.measure.specs.TargetLaws.{target_parts, y_parts}
 use Rattle.galley_file.specs.declared.character.Character.{Character}
@@ -45,7 +45,7 @@ extents_held e is v a =
     let cs = characters_of is in
     record {
       x_least = rw a.x_is (largest_least (map x_in cs));
-      x_most = rw a.x_is (largest_most x_in carriage_end (λ c k. (x_range (valid_parts k)).1) is v (omega integers));
+      x_most = rw a.x_is (largest_most x_in (pos 3239) (λ c k. (x_range (valid_parts k)).1) is v (omega integers));
       height_least = rw a.height_is (largest_least (map height_in cs));
       height_most = rw a.height_is (largest_most height_in low_end (λ c k. (height_range (valid_parts k)).1) is v (omega integers));
     }

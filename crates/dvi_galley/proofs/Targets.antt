@@ -11,8 +11,7 @@ use lib.Signed.{lt_z, ◌≤ℤ◌}
 use mir.Syntax.{w32}
 use mir.Val.{SFits}
 use Rattle.integers.specs.Parts.{integers, up, dn, sum_parts, dif_parts, scale_parts, abs_parts, range_parts}
-use Rattle.measure.specs.Place.{places}
-use Rattle.measure.specs.Target.{x_target, entry_x, greatest}
+use Rattle.measure.specs.Target.{x_target, entry_x}
 use Rattle.measure.specs.TargetLaws.{target_parts, target_least, target_greatest}
 use Rattle.dvi_galley.specs.Target.{x_of_target, height_of_target}
 use Rattle.dvi_galley.specs.TargetLaws.{x_of_target_x_target, x_of_target_none}
@@ -22,22 +21,19 @@ use Rattle.dvi_galley.specs.TargetLaws.{x_of_target_x_target, x_of_target_none}
 pub left_of_all : (t : ℤ) → lt_z t (negsuc 600746) ≡ true → x_of_target t ≡ none
 left_of_all t h = x_of_target_none t (λ x l u e. omega (integers, h, target_least x l, e))
 
-pub right_of_all : (t : ℤ) → lt_z greatest t ≡ true → x_of_target t ≡ none
+pub right_of_all : (t : ℤ) → lt_z (pos 35378517) t ≡ true → x_of_target t ≡ none
 right_of_all t h = x_of_target_none t (λ x l u e. omega (integers, h, target_greatest x u, e))
 
-module _ (t : ℤ) (low : negsuc 600746 ≤ℤ t) (high : t ≤ℤ greatest) where
-  abbrev top : ℕ
-  top = 3 * nat_abs greatest + 1818624
-
+module _ (t : ℤ) (low : negsuc 600746 ≤ℤ t) (high : t ≤ℤ pos 35378517) where
   abbrev pub shifted : ℤ
   shifted = (pos 3 *ℤ t) +ℤ pos 1818624
 
   pub thrice_fits : SFits w32 (pos 3 *ℤ t)
   thrice_fits = omega (integers, low, high, scale_parts 3 t)
 
-  shifted_parts : (up shifted ≤ top) × (dn shifted ≤ 0)
+  shifted_parts : (up shifted ≤ 107954175) × (dn shifted ≤ 0)
   shifted_parts =
-      range_parts shifted 0 top (omega (integers, low, high, scale_parts 3 t, sum_parts (pos 3 *ℤ t) (pos 1818624)))
+      range_parts shifted 0 107954175 (omega (integers, low, high, scale_parts 3 t, sum_parts (pos 3 *ℤ t) (pos 1818624)))
       (omega (integers, low, high, scale_parts 3 t, sum_parts (pos 3 *ℤ t) (pos 1818624)))
 
   pub shifted_fits : SFits w32 shifted
@@ -46,13 +42,13 @@ module _ (t : ℤ) (low : negsuc 600746 ≤ℤ t) (high : t ≤ℤ greatest) whe
   pub shifted_natural : dn shifted ≤ up shifted
   shifted_natural = omega (integers, shifted_parts)
 
-  pub shifted_small : nat_abs shifted ≤ top
+  pub shifted_small : nat_abs shifted ≤ 107954175
   shifted_small = omega (integers, shifted_parts, abs_parts shifted)
 
   abbrev pub index : ℕ
   index = nat_abs shifted / 32768
 
-  pub index_below : index < places
+  pub index_below : index < 3295
   index_below = omega (arith, shifted_small)
 
   pub index_fits : SFits w32 (pos index)

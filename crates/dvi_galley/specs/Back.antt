@@ -27,7 +27,7 @@ use Rattle.sheet.specs.Shown.{ShownAs, refused_at, shows}
 use Rattle.dvi.specs.File.{PlacedMark, mark_in, read_placed}
 use Rattle.sheet.specs.Readable.{if_readable}
 use Rattle.dvi.specs.Sheet.{whole_fonts}
-use Rattle.dvi.specs.ItemMarks.{marks_of}
+use Rattle.dvi.specs.Demand3.{marks_of}
 use Rattle.dvi_galley.specs.Target.{x_of_target, height_of_target}
 
 -- ---- a mark's item

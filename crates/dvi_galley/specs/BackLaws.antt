@@ -33,7 +33,7 @@ use Rattle.dvi.specs.SheetLaws.{readable}
 use Rattle.dvi.specs.Writer.{dvi_file}
 use Rattle.dvi.specs.WriterLaws.{file_fits}
 use Rattle.dvi.proofs.Shown.{file_shows}
-use Rattle.dvi.specs.ItemMarks.{marks_at, marks_of}
+use Rattle.dvi.specs.Demand3.{marks_of}
 use Rattle.dvi_galley.specs.Back.{item_shown, Made, nothing, made, broken, with_one_item, with_mark, makes, made_result, shown_galley, back_result, GalleyOf}
 use Rattle.dvi_galley.specs.MarkLaws.{item_mark, marks_of_next, item_is, is_item_lem}
 
@@ -79,7 +79,7 @@ broken_not : {place : ℕ} {js : List Item} → broken place ≡ made js → ⊥
 broken_not e = suc-ne-zero 0 cc
 
 made_more : (ps : List PlacedMark) (is js : List Item) → makes (made is) ps ≡ made js → More (map mark_in ps) is js
-unfolding makes with_mark with_one_item marks_at
+unfolding makes with_mark with_one_item marks_of
 made_more [] is js e =
     let s : is ≡ js = cc in
     record { items = []; are = sym s ∙ sym (append-nil is); marks_are = refl; all_valid = nil; few = λ h. omega (arith, ap length s) }
@@ -96,7 +96,7 @@ made_more (p ∷ ps) is js e = go (item_shown (suc (cuts_of is)) p.mark) refl e 
 
 more_made : (ks is : List Item) (ps : List PlacedMark) → AllValid height_end ks → length is + length ks ≤ max_items → map mark_in ps ≡ marks_of (suc (cuts_of is)) ks
     → makes (made is) ps ≡ made (is ++ ks)
-unfolding makes with_mark with_one_item marks_at
+unfolding makes with_mark with_one_item marks_of
 more_made [] is [] v l e = ap made (sym (append-nil is))
 more_made [] is (p ∷ ps) v l e = cc
 more_made (k ∷ ks) is [] v l e = let d = e ∙ marks_of_next (suc (cuts_of is)) k ks in cc

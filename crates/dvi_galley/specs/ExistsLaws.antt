@@ -25,17 +25,17 @@ use Rattle.sheet.specs.Sheet.{Mark, page_mark, char_mark, rule_mark}
 use Rattle.dvi.specs.Page.{new_page}
 use Rattle.sheet.specs.Shown.{Shown, refused_at, shows, shows_first}
 use Rattle.dvi.specs.File.{State, between, inside, Step, refuse, begin_page, end_file, step, follow, run, run_as, read_as, read_dvi, marks_alone}
-use Rattle.dvi.specs.ItemMarks.{mark_at, marks_at, character_mark, marks_of}
+use Rattle.dvi.specs.Demand3.{character_mark, marks_of}
 use Rattle.dvi_galley.specs.Back.{GalleyOf, page_numbers, character_count, AtTarget, SoundMark, AllSound, sound_none, sound_more, Conditions}
 
 -- ---- from the conditions to the items
 
 target_mark : {x y f : ℤ} {c : ℕ} (a : AtTarget x y f c) → char_mark x y f c ≡ character_mark a.character
-unfolding mark_at
+unfolding character_mark
 target_mark a = (λ k. char_mark (a.across k) (a.down k) (a.font_is k) (a.code_is k))
 
 sound_character : (c : Character) → valid height_end c ≡ true → SoundMark (character_mark c)
-unfolding mark_at
+unfolding character_mark
 sound_character c v = record { character = c; is_valid = v; font_is = refl; code_is = refl; across = refl; down = refl }
 
 -- what marks on page n and after it are
@@ -46,7 +46,7 @@ record Listed (n : ℕ) (ms : List Mark) : Type 0 where
   pub as_many : length items ≡ character_count ms + length (page_numbers ms)
 
 listed : (n : ℕ) (ms : List Mark) → page_numbers ms ≡ map pos (numbers (suc n) (length (page_numbers ms))) → AllSound ms → Listed n ms
-unfolding page_numbers character_count marks_at
+unfolding page_numbers character_count marks_of
 listed n [] e s = record { items = []; marks_are = refl; all_valid = nil; as_many = refl }
 listed n (page_mark z ∷ ms) e (sound_more t s) =
     let d : z ≡ pos (suc n) = cc in
@@ -71,19 +71,19 @@ listed n (rule_mark kind x y h w ∷ ms) e (sound_more t s) = absurd t
 -- ---- from the items to the conditions
 
 pages_of_lem : (n : ℕ) (is : List Item) → page_numbers (marks_of n is) ≡ map pos (numbers (suc n) (cuts_of is))
-unfolding page_numbers marks_at mark_at cuts_of
+unfolding page_numbers marks_of character_mark cuts_of
 pages_of_lem n [] = refl
 pages_of_lem n (Placed c ∷ is) = pages_of_lem n is
 pages_of_lem n (Cut ∷ is) = ap (λ (l : List ℤ). pos (suc n) ∷ l) (pages_of_lem (suc n) is) ∙ rw add-one
 
 characters_of_lem : (n : ℕ) (is : List Item) → character_count (marks_of n is) ≡ length (characters_of is)
-unfolding character_count marks_at mark_at characters_of
+unfolding character_count marks_of character_mark characters_of
 characters_of_lem n [] = refl
 characters_of_lem n (Placed c ∷ is) = omega (arith, characters_of_lem n is)
 characters_of_lem n (Cut ∷ is) = characters_of_lem (suc n) is
 
 sounds : (n : ℕ) {is : List Item} → AllValid height_end is → AllSound (marks_of n is)
-unfolding marks_at
+unfolding marks_of
 sounds n nil = sound_none
 sounds n (more {i = Placed c} v vs) = sound_more (sound_character c v) (sounds n vs)
 sounds n (more {i = Cut} v vs) = sound_more tt (sounds (suc n) vs)

@@ -18,7 +18,7 @@ use Rattle.galley_file.specs.Character.{valid}
 use Rattle.galley_file.specs.CharacterLaws.{valid_parts, x_range, height_range}
 use Rattle.galley_file.specs.Item.{valid_item, cuts_of}
 use Rattle.sheet.specs.Sheet.{Mark, page_mark, char_mark, rule_mark}
-use Rattle.dvi.specs.ItemMarks.{mark_at, marks_at, character_mark, marks_of}
+use Rattle.dvi.specs.Demand3.{character_mark, marks_of}
 use Rattle.dvi_galley.specs.Target.{x_of_target, height_of_target}
 use Rattle.dvi_galley.specs.TargetLaws.{x_of_target_x_target, x_target_x_of_target, height_of_target_y_target, y_target_height_of_target}
 use Rattle.dvi_galley.specs.Back.{if_valid, character_shown, placed_item, item_shown}
@@ -29,14 +29,14 @@ item_mark n (Placed c) = character_mark c
 item_mark n Cut = page_mark (pos (suc n))
 
 pub marks_of_next : (n : ℕ) (i : Item) (is : List Item) → marks_of n (i ∷ is) ≡ item_mark n i ∷ marks_of (n + cuts_of (i ∷ [])) is
-unfolding marks_at cuts_of
+unfolding marks_of cuts_of
 marks_of_next n (Placed c) is = ap (λ (k : ℕ). character_mark c ∷ marks_of k is) (omega arith)
 marks_of_next n Cut is = ap (λ (k : ℕ). page_mark (pos (suc n)) ∷ marks_of k is) (omega arith)
 
 -- what a valid character at these places tells
 valid_is : (X Y : ℤ) (d c : Character) → x_target d.x.0 ≡ X → y_target d.height.0 ≡ Y → if_valid d ≡ some c
     → (char_mark X Y (pos d.font) d.code ≡ character_mark c) × (valid height_end c ≡ true)
-unfolding mark_at
+unfolding character_mark
 valid_is X Y d c p q =
     by_cond (λ (o : Option Character). o ≡ some c → (char_mark X Y (pos d.font) d.code ≡ character_mark c) × (valid height_end c ≡ true)) (valid height_end d) (some d) none
     (λ v e.
@@ -74,7 +74,7 @@ item_is n (char_mark X Y F k) i e = go (character_shown (x_of_target X) (height_
 item_is n (rule_mark kind x y h w) i e = absurd (suc-ne-zero 0 cc)
 
 pub is_item_lem : (n : ℕ) (i : Item) → valid_item height_end i ≡ true → item_shown n (item_mark n i) ≡ some i
-unfolding item_shown mark_at character_shown
+unfolding item_shown character_mark character_shown
 is_item_lem n (Placed c) v =
     let p = valid_parts v in
     let x = x_of_target_x_target c.x.0 (x_range p).0 (x_range p).1 in

@@ -1,10 +1,8 @@
 -- What a call gives, in the terms of the format: the galley that the file shows, or 45 at the first command that breaks a condition.
 --     first_break        of marks that make no galley
---     refused_once       a condition is first broken at one place at most
 --     galley_checked     the check accepts a galley that is shown
 --     written_galley     what a call writes
 --     refused_first      where a call gives 45
---     refused_there      and there it does
 -- Assumes nothing.
 use Rattle.std.specs.Prelude.{◌⊎◌, ℕ, ◌%◌, ◌≤◌, ltb, ℤ, length}
 use Rattle.std.proofs.Common.{inl, inr, sym, subst, ◌∙◌, arith}
@@ -149,36 +147,6 @@ first_break ps place e =
     good qs (made is) q a = inr (is, (makes_exactly qs is).0 q)
     good qs (broken p) q a = absurd a
 
--- ---- there is one such place
-
-unbroken_before : (qs : List PlacedMark) → (qs ≡ []) ⊎ ((is : List Item) × GalleyOf (map mark_in qs) is) → Unbroken (makes nothing qs)
-unfolding makes
-unbroken_before qs (inl e) = subst (λ (l : List PlacedMark). Unbroken (makes nothing l)) (sym e) tt
-unbroken_before qs (inr (is, g)) = subst Unbroken (sym ((makes_exactly qs is).1 g)) tt
-
--- what makes something, and no items, breaks a condition
-breaks_at : (b : Made) (p : PlacedMark) → Unbroken b → ((is : List Item) → with_mark b p ≡ made is → ⊥) → with_mark b p ≡ broken p.place
-unfolding with_mark
-breaks_at b p a never = go (with_mark b p) refl
-  where
-    go : (c : Made) → with_mark b p ≡ c → with_mark b p ≡ broken p.place
-    go nothing q = absurd (subst Something q (something b p.place (item_shown (pages_of b) p.mark)))
-    go (made is) q = absurd (never is q)
-    go (broken k) q = q ∙ ap broken (sym (subst (BrokenAt p.place) q (broken_at b p.place (item_shown (pages_of b) p.mark) a)))
-
-break_makes : (ps : List PlacedMark) (place : ℕ) → FirstBreak ps place → makes nothing ps ≡ broken place
-unfolding makes
-break_makes ps place f =
-    let b = breaks_at (makes nothing f.behind) f.breaks (unbroken_before f.behind f.good_before) (λ is q. f.bad_with is ((makes_exactly (f.behind ++ (f.breaks ∷ [])) is).0 (makes_append nothing f.behind (f.breaks ∷ []) ∙ q))) in
-    ap (makes nothing) f.split
-    ∙ makes_append nothing f.behind (f.breaks ∷ f.ahead)
-    ∙ ap (λ (d : Made). makes d f.ahead) b
-    ∙ makes_broken f.breaks.place f.ahead
-    ∙ ap broken f.place_is
-
-pub refused_once : (ps : List PlacedMark) (p q : ℕ) → FirstBreak ps p → FirstBreak ps q → p ≡ q
-refused_once ps p q f g = let e : broken p ≡ broken q = sym (break_makes ps p f) ∙ break_makes ps q g in cc
-
 -- ---- what a call gives
 
 -- the galley is one that the check accepts
@@ -232,7 +200,3 @@ module _ (dvi : List ℕ) (widths : List ℤ) (room : ℕ) (ps : List PlacedMark
           absurd (omega arith)
       go (made is) q f = absurd (no_room (galley New is) f)
       go (broken k) q f = let h : k ≡ place = cc in first_break ps place (q ∙ ap broken h)
-
-  pub refused_there : {place : ℕ} → FirstBreak ps place → back_result dvi widths room ≡ refusal no_galley place
-  unfolding made_result if_room
-  refused_there {place} f = by_marks ∙ ap (λ (b : Made). if_room no_galley_room room (made_result b)) (break_makes ps place f)

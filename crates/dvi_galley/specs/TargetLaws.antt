@@ -10,7 +10,6 @@ use Rattle.std.specs.Int.Signed.{lt_z}
 use Rattle.integers.specs.Parts.{integers, sum_parts}
 use Rattle.integers.specs.Equality.{eq_z, eq_z_true, eq_z_false}
 use Rattle.octets.specs.OctetsLaws.{by_cond}
-use Rattle.measure.specs.Place.{carriage_end, places}
 use Rattle.measure.specs.Target.{x_target, y_target}
 use Rattle.measure.specs.TargetLaws.{target_injective}
 use Rattle.dvi_galley.specs.Target.{x_from, x_of_target, height_of_target}
@@ -56,17 +55,17 @@ target_from t z (suc k) x d =
     (λ q e. target_from t (z +ℤ pos 1) k x e)
     d
 
-pub x_of_target_x_target : (x : ℤ) → negsuc 54 ≤ℤ x → x ≤ℤ carriage_end → x_of_target (x_target x) ≡ some x
+pub x_of_target_x_target : (x : ℤ) → negsuc 54 ≤ℤ x → x ≤ℤ pos 3239 → x_of_target (x_target x) ≡ some x
 unfolding x_of_target
-x_of_target_x_target x l h = found_from (x_target x) (negsuc 54) places x l (omega (integers, sum_parts (negsuc 54) (pos places))) refl
+x_of_target_x_target x l h = found_from (x_target x) (negsuc 54) 3295 x l (omega (integers, sum_parts (negsuc 54) (pos 3295))) refl
 
-pub x_of_target_none : (t : ℤ) → ((x : ℤ) → negsuc 54 ≤ℤ x → x ≤ℤ carriage_end → x_target x ≡ t → ⊥) → x_of_target t ≡ none
+pub x_of_target_none : (t : ℤ) → ((x : ℤ) → negsuc 54 ≤ℤ x → x ≤ℤ pos 3239 → x_target x ≡ t → ⊥) → x_of_target t ≡ none
 unfolding x_of_target
-x_of_target_none t h = none_from t (negsuc 54) places (λ x l u. h x l (omega (integers, sum_parts (negsuc 54) (pos places))))
+x_of_target_none t h = none_from t (negsuc 54) 3295 (λ x l u. h x l (omega (integers, sum_parts (negsuc 54) (pos 3295))))
 
 pub x_target_x_of_target : (t x : ℤ) → x_of_target t ≡ some x → x_target x ≡ t
 unfolding x_of_target
-x_target_x_of_target t x e = target_from t (negsuc 54) places x e
+x_target_x_of_target t x e = target_from t (negsuc 54) 3295 x e
 
 -- ---- down
 

@@ -52,7 +52,7 @@ fn valid_at(x: Units, h: Quanta, font: i32, ch: u8) -> Taken
 }
 
 // A character whose targets are x and y.
-pub fn character_of(targets: &TargetTable, x: Rsu, y: Rsu, font: i32, ch: u8) -> Taken
+fn character_of(targets: &TargetTable, x: Rsu, y: Rsu, font: i32, ch: u8) -> Taken
     requires { targets.now ≡ x_targets }
     ensures { taken_of result ≡ placed_item (character_shown (x_of_target x.0) (height_of_target y.0) font ch) }
 {

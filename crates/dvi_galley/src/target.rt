@@ -10,7 +10,7 @@ use measure::{Quanta, Rsu, Units};
 // The targets of the first x of the table and of the last.
 const LEAST: Rsu = Rsu(-600_747);
 
-const GREATEST: Rsu = Rsu((measure::RSU_PER_QUANTUM * measure::CARRIAGE_END.0 + 1) / 3);
+const GREATEST: Rsu = Rsu(35_378_517);
 
 // A unit is this many thirds of an rsu, and a quantum this many rsu.
 const UNIT: u32 = measure::RSU_PER_QUANTUM as u32;

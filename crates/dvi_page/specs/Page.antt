@@ -1,6 +1,4 @@
--- The code's page as that of the format. Code and definition have one type of commands, but two of pages, for three reasons. The stack
--- lies in an array beside the page, which is copied at every command. The font is a flag and a number, which stand apart (`page.rt` says
--- why). And the six numbers are rsu, where those of the definition have no measure: in the second edition the same page is in units.
+-- The code's page as that of the format. The entries of its stack lie in an array beside it.
 --     font_if_set     the font, which counts where the flag says so
 --     page_of        the page that a page of the code is, with this array
 --     effect_of      the effect that an effect of the code is

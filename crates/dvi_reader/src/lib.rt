@@ -1,6 +1,4 @@
 // DVI files of 1980 (002), read into sheets with a lent table of widths.
-mod quick;
-
 ghost use Rattle.std.specs.Prelude.{◌≡◌, true, ◌≤◌, length};
 ghost use Rattle.octets.specs.Answer.{outcome_of, Gives};
 ghost use Rattle.octets.specs.Pass.{Roomy, Passed};
@@ -28,33 +26,25 @@ fn pass(dvi: &[u8], widths: &[i32], out: &mut [u8], writing: bool) -> Reading
     let mut to: usize = 0;
     let mut count: u32 = 0;
     while at < dvi.len() {
-        let k = quick::quickly(dvi, widths, out, at, to, q, writing);
-        count = count + ((k.to - to) / sheet::CHAR_FIELD) as u32;
-        to = k.to;
-        at = k.at;
-        let here = k.state;
-        q = here;
-        if at < dvi.len() {
-            let r = dvi_step::step(dvi, widths, &mut stack, at, q);
-            match r {
-                Stepped::Refuse(k) => {
-                    return Reading::Fault(k, at);
-                }
-                Stepped::Go(t, n) => {
-                    q = t;
-                    at = at + 1 + n;
-                }
-                Stepped::Show(t, m, n) => {
-                    let next = mark::show_mark(out, to, m, writing);
-                    to = next;
-                    count = count + 1;
-                    q = t;
-                    at = at + 1 + n;
-                }
-                Stepped::Finish => {
-                    field::show_end(out, to, count, writing);
-                    return Reading::Needs(to + field::END_FIELD);
-                }
+        let r = dvi_step::step(dvi, widths, &mut stack, at, q);
+        match r {
+            Stepped::Refuse(k) => {
+                return Reading::Fault(k, at);
+            }
+            Stepped::Go(t, n) => {
+                q = t;
+                at = at + 1 + n;
+            }
+            Stepped::Show(t, m, n) => {
+                let next = mark::show_mark(out, to, m, writing);
+                to = next;
+                count = count + 1;
+                q = t;
+                at = at + 1 + n;
+            }
+            Stepped::Finish => {
+                field::show_end(out, to, count, writing);
+                return Reading::Needs(to + field::END_FIELD);
             }
         }
     }

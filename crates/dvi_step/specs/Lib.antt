@@ -2,4 +2,3 @@
 pub mod Postamble
 pub mod Step
 pub mod Standing
-pub mod Pair

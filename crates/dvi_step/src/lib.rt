@@ -1,5 +1,4 @@
 // One command of a DVI file of 1980 (002): inside a page, or between pages.
-pub mod pair;
 mod postamble;
 
 ghost use Rattle.std.specs.Prelude.{◌≡◌, List, ◌+◌, ◌≤◌, ◌<◌, ℤ, length, get_or, drop};
@@ -10,9 +9,9 @@ ghost use Rattle.dvi_page.specs.Stack.{stack_size};
 ghost use Rattle.dvi_page.specs.Page.{page_of, effect_of};
 ghost use Rattle.dvi_step.specs.Step.{state_of, depth_of, step_of};
 
-use dvi::command::Decoded;
 use dvi::mark::Mark;
 use dvi::opcode;
+use dvi_command::Decoded;
 use dvi_page::page;
 use dvi_page::page::{Effect, Page};
 use octets::{answer, number};

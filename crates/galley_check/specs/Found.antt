@@ -8,23 +8,25 @@ use Rattle.galley_file.specs.Item.{characters_of}
 use Rattle.galley_file.specs.Galley.{Reading, whole, malformed, read_galley}
 use Rattle.galley_check.specs.declared.Found.{Found}
 
--- What reading back gives: number, place and length, and x, height, font number and character
-pub record FoundOutcome : Type 0 where
-  pub outcome : Outcome
-  pub character : Character
+-- What reading back gives: a character, or a refusal's number and place
+pub data FoundOutcome : Type 0 where
+  found : Character → FoundOutcome
+  not_found : ℕ → ℕ → FoundOutcome
 
 -- reading back writes nothing, so the length of an accepted call is 0
-abbrev pub found : Character → FoundOutcome
-found c = record { outcome = accepted 0; character = c }
+abbrev pub outcome_of_found : FoundOutcome → Outcome
+outcome_of_found (found c) = accepted 0
+outcome_of_found (not_found number place) = refused number place
 
--- "all four 0 in a refusal"
+-- all four numbers are 0 in a refusal
 abbrev pub zeros : Character
 zeros = record { x = record { 0 = pos 0 }; height = record { 0 = pos 0 }; font = 0; code = 0 }
 
-abbrev pub not_found : ℕ → ℕ → FoundOutcome
-not_found number place = record { outcome = refused number place; character = zeros }
+abbrev pub character_of_found : FoundOutcome → Character
+character_of_found (found c) = c
+character_of_found (not_found number place) = zeros
 
--- the numbers that each case of the answer stands for
+-- the outcome that each case of the answer stands for
 abbrev pub found_of : Found → FoundOutcome
 found_of (Found.Placed c) = found c
 found_of (Found.Refused number place) = not_found number place

@@ -7,7 +7,7 @@ use Rattle.std.specs.Prelude.{ℕ, ◌+◌, Bool, true, false, ◌&&◌, List, [
 use Rattle.std.specs.Int.Signed.{le_z}
 use Rattle.octets.specs.Octets.{nat_at, signed_at, signed_bytes}
 use Rattle.octets.specs.Field.{field, starts_field}
-use Rattle.measure.specs.Place.{carriage_end, double_end, within}
+use Rattle.measure.specs.Place.{within}
 use Rattle.galley_file.specs.Font.{size_index, is_double}
 use Rattle.galley_file.specs.declared.form.Form.{Form}
 use Rattle.galley_file.specs.Form.{character_tag, height_bytes, body_bytes, greatest_height}
@@ -15,8 +15,8 @@ use Rattle.galley_file.specs.declared.character.Character.{Character}
 
 -- single sizes 0 ≤ x ≤ 3,239, double sizes -55 ≤ x ≤ 3,184
 abbrev pub valid_x : Bool → ℤ → Bool
-valid_x false x = le_z (pos 0) x && le_z x carriage_end
-valid_x true x = le_z (negsuc 54) x && le_z x double_end
+valid_x false x = le_z (pos 0) x && le_z x (pos 3239)
+valid_x true x = le_z (negsuc 54) x && le_z x (pos 3184)
 
 -- font number 0 to 119, character 1 to 108, x by its size, height 0 to `top`
 unfoldable pub valid : ℤ → Character → Bool

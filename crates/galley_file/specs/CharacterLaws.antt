@@ -9,7 +9,7 @@ use Rattle.octets.specs.Octets.{Bytes, number, signed, nat_at, signed_at, bytes,
 use Rattle.octets.specs.OctetsLaws.{signed_signed_bytes, number_signed_bytes, signed_bytes_signed_at, signed_bytes_nat_at}
 use Rattle.octets.specs.Field.{field, starts_field}
 use Rattle.octets.specs.FieldLaws.{both, field_starts, starts, starts_field_lem}
-use Rattle.measure.specs.Place.{carriage_end, double_end, within}
+use Rattle.measure.specs.Place.{within}
 use Rattle.galley_file.specs.declared.character.Character.{Character}
 use Rattle.galley_file.specs.declared.form.Form.{Form}
 use Rattle.galley_file.specs.declared.form.Form.TheVariants.{Old, New}
@@ -51,15 +51,15 @@ too_high top c e =
     (no_and (le_z (pos 0) c.height.0) (le_z c.height.0 top) e)
 
 -- a valid x is in -55 .. 3,239
-pub x_range : {top : ℤ} {c : Character} → Valid top c → (negsuc 54 ≤ℤ c.x.0) × (c.x.0 ≤ℤ carriage_end)
+pub x_range : {top : ℤ} {c : Character} → Valid top c → (negsuc 54 ≤ℤ c.x.0) × (c.x.0 ≤ℤ pos 3239)
 x_range {top} {c} v = go (is_double (size_index c.font)) v.across
   where
-    go : (d : Bool) → valid_x d c.x.0 ≡ true → (negsuc 54 ≤ℤ c.x.0) × (c.x.0 ≤ℤ carriage_end)
-    go true e = let h = both (le_z (negsuc 54) c.x.0) (le_z c.x.0 double_end) e in (omega (integers, h.0), omega (integers, h.1))
-    go false e = let h = both (le_z (pos 0) c.x.0) (le_z c.x.0 carriage_end) e in (omega (integers, h.0), omega (integers, h.1))
+    go : (d : Bool) → valid_x d c.x.0 ≡ true → (negsuc 54 ≤ℤ c.x.0) × (c.x.0 ≤ℤ pos 3239)
+    go true e = let h = both (le_z (negsuc 54) c.x.0) (le_z c.x.0 (pos 3184)) e in (omega (integers, h.0), omega (integers, h.1))
+    go false e = let h = both (le_z (pos 0) c.x.0) (le_z c.x.0 (pos 3239)) e in (omega (integers, h.0), omega (integers, h.1))
 
 -- and two bytes hold it
-x_held : (x : ℤ) → negsuc 54 ≤ℤ x → x ≤ℤ carriage_end → Holds 2 x
+x_held : (x : ℤ) → negsuc 54 ≤ℤ x → x ≤ℤ pos 3239 → Holds 2 x
 x_held (pos n) l h = record { half = omega integers }
 x_held (negsuc n) l h = record { half = omega integers }
 

@@ -119,8 +119,8 @@ fn is_valid_first(f: Form, s: &[u8]) -> bool
     }
 }
 
-// Whether s starts with the whole field of a valid character of this form.
-fn is_field(f: Form, s: &[u8]) -> bool
+// Whether s starts with the whole field of a valid character.
+pub fn is_character(f: Form, s: &[u8]) -> bool
     ensures { result ≡ is_character f s.now }
 {
     if field::starts_field(s, form::character_tag(f), form::body_bytes(f)) {
@@ -131,16 +131,6 @@ fn is_field(f: Form, s: &[u8]) -> bool
         }
     } else {
         false
-    }
-}
-
-// Whether s starts with the whole field of a valid character. The form is asked first, so that the numbers of each form are constants.
-pub fn is_character(f: Form, s: &[u8]) -> bool
-    ensures { result ≡ is_character f s.now }
-{
-    match f {
-        Form::Old => is_field(Form::Old, s),
-        Form::New => is_field(Form::New, s),
     }
 }
 

@@ -3,7 +3,7 @@
 --     carriage_at      where the carriage stands: 0 to 3,239, or outside
 --     height_at        the height: 0 to 1,000,000, or outside
 --     low_end          the greatest height that a DVI file holds
-use Rattle.std.specs.Prelude.{Bool, true, false, cond, ◌&&◌, ℕ, ◌+◌, ℤ, pos, negsuc, neg_ℤ, nat_abs, ◌-ℤ◌}
+use Rattle.std.specs.Prelude.{Bool, true, false, cond, ◌&&◌, ℕ, ℤ, pos, neg_ℤ}
 use Rattle.std.specs.Int.Signed.{le_z}
 use Rattle.measure.specs.declared.Carriage as C
 use Rattle.measure.specs.declared.Carriage.TheVariants as CV
@@ -13,16 +13,6 @@ use Rattle.measure.specs.declared.Height.TheVariants as HV
 -- the last place of the carriage, and the greatest height
 abbrev pub carriage_end : ℤ
 carriage_end = pos 3239
-
--- how far the doubler shifts the image, the first x, the last in a double size, and how many places there are across
-abbrev pub first_x : ℤ
-first_x = negsuc 54
-
-abbrev pub double_end : ℤ
-double_end = carriage_end -ℤ pos 55
-
-abbrev pub places : ℕ
-places = nat_abs carriage_end + 56
 
 abbrev pub height_end : ℤ
 height_end = pos 1000000

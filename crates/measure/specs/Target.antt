@@ -6,7 +6,6 @@
 --     Near        a number is nearest to a third of another
 use Rattle.std.specs.Prelude.{Bool, true, false, List, map, ℕ, suc, ◌+◌, ◌/◌, ◌≤◌, ℤ, pos, negsuc, neg_ℤ, nat_abs, ◌-ℤ◌, ◌*ℤ◌}
 use Rattle.integers.specs.Tables.{numbers}
-use Rattle.measure.specs.Place.{carriage_end, places}
 
 unfoldable pub x_of : ℤ → Bool → ℤ
 x_of z true = z -ℤ pos 55
@@ -20,16 +19,12 @@ third (negsuc n) = neg_ℤ (pos ((suc n + 1) / 3))
 unfoldable pub x_target : ℤ → ℤ
 x_target x = third (pos 32768 *ℤ x)
 
--- the target of the last place
-abbrev pub greatest : ℤ
-greatest = third (pos 32768 *ℤ carriage_end)
-
 -- the place of entry k of the table, whose first is -55
 abbrev pub entry_x : ℕ → ℤ
 entry_x k = pos k -ℤ pos 55
 
 unfoldable pub x_targets : List ℤ
-x_targets = map (λ (k : ℕ). x_target (entry_x k)) (numbers 0 places)
+x_targets = map (λ (k : ℕ). x_target (entry_x k)) (numbers 0 3295)
 
 unfoldable pub y_target : ℤ → ℤ
 y_target h = pos 32768 *ℤ h

@@ -5,8 +5,8 @@ use Rattle.std.proofs.Common.{ap, inl, inr, arith, SFits}
 use Rattle.std.specs.Int.{w32}
 use Rattle.integers.specs.Parts.{integers, up, dn, sum_parts, dif_parts, scale_parts, neg_up, neg_dn, abs_parts, abs_le_lem, parts_eq}
 use Rattle.integers.specs.Tables.{table_entry}
-use Rattle.measure.specs.Place.{carriage_end, low_end, places}
-use Rattle.measure.specs.Target.{third, x_target, entry_x, greatest, x_targets, y_target, Near}
+use Rattle.measure.specs.Place.{low_end}
+use Rattle.measure.specs.Target.{third, x_target, entry_x, x_targets, y_target, Near}
 
 third_up : (n : ℤ) → up (third n) ≡ (up n + 1) / 3
 third_up (pos n) = refl
@@ -59,13 +59,13 @@ target_injective x y e = omega (integers, target_parts x, target_parts y)
 pub target_least : (x : ℤ) → negsuc 54 ≤ℤ x → negsuc 600746 ≤ℤ x_target x
 target_least x h = omega (integers, target_parts x)
 
-pub target_greatest : (x : ℤ) → x ≤ℤ carriage_end → x_target x ≤ℤ greatest
+pub target_greatest : (x : ℤ) → x ≤ℤ pos 3239 → x_target x ≤ℤ pos 35378517
 target_greatest x h = omega (integers, target_parts x)
 
 -- each entry of the table is the target of its place
-pub target_entry : (k : ℕ) → k < places → get_or x_targets k (pos 0) ≡ x_target (entry_x k)
+pub target_entry : (k : ℕ) → k < 3295 → get_or x_targets k (pos 0) ≡ x_target (entry_x k)
 unfolding x_targets
-target_entry k h = table_entry (λ (k : ℕ). x_target (entry_x k)) (pos 0) places k h
+target_entry k h = table_entry (λ (k : ℕ). x_target (entry_x k)) (pos 0) 3295 k h
 
 -- ---- moves
 
@@ -74,7 +74,7 @@ pub y_parts : (h : ℤ) → up (y_target h) + 32768 * dn h ≡ 32768 * up h + dn
 unfolding y_target
 y_parts h = scale_parts 32768 h
 
-pub x_move_fits : (x y : ℤ) → negsuc 54 ≤ℤ x → x ≤ℤ carriage_end → negsuc 54 ≤ℤ y → y ≤ℤ carriage_end → SFits w32 (x_target x -ℤ x_target y)
+pub x_move_fits : (x y : ℤ) → negsuc 54 ≤ℤ x → x ≤ℤ pos 3239 → negsuc 54 ≤ℤ y → y ≤ℤ pos 3239 → SFits w32 (x_target x -ℤ x_target y)
 x_move_fits x y a b c d = omega (integers, target_parts x, target_parts y, dif_parts (x_target x) (x_target y))
 
 pub y_move_fits : (h g : ℤ) → pos 0 ≤ℤ h → h ≤ℤ low_end → pos 0 ≤ℤ g → g ≤ℤ low_end → SFits w32 (y_target h -ℤ y_target g)

@@ -2,7 +2,7 @@
 ghost use Rattle.std.specs.Prelude.{◌≡◌};
 ghost use Rattle.measure.specs.Target.{x_targets};
 
-pub type TargetTable = [i32; crate::PLACES];
+pub type TargetTable = [i32; 3295];
 
 // The table, to be lent: an index into a constant copies the whole of it.
 pub fn targets() -> TargetTable

@@ -10,10 +10,7 @@ use borrow.Author.Tests.{eq-eqb, ne_eqb}
 use lib.IntN.{ℤ, pos, negsuc, nat_abs, ◌-ℤ◌}
 use lib.ListN.{replicate, set, length-replicate, replicate-append-replicate}
 use lib.Seq.{sets}
-use lib.Signed.{◌≤ℤ◌}
-use mir.Syntax.{w32}
-use mir.Val.{SFits}
-use Rattle.integers.specs.Parts.{integers, up, dn, bounds, dif_parts}
+use Rattle.integers.specs.Parts.{up, dn, dif_parts}
 use Rattle.octets.specs.Write.{sets_append}
 use Rattle.punch_codes.specs.Codes.{switch_codes, size_codes, remainder_codes, distance_codes}
 
@@ -54,7 +51,7 @@ module _ (longest code n : ℕ) where
   unfolding distance_codes
   distance_short h = rw (div-eq_of_lt h, mod-eq_of_lt h)
 
--- ---- a distance is the same either way
+-- ---- a distance is the same from either end
 
 same_size : (y z : ℤ) → up y + up z ≡ dn y + dn z → nat_abs y ≡ nat_abs z
 same_size (pos a) (pos b) e = omega arith
@@ -62,13 +59,5 @@ same_size (pos a) (negsuc b) e = omega arith
 same_size (negsuc a) (pos b) e = omega arith
 same_size (negsuc a) (negsuc b) e = absurd (omega arith)
 
-pub negated : (z : ℤ) → nat_abs (pos 0 -ℤ z) ≡ nat_abs z
-negated z = same_size (pos 0 -ℤ z) z (omega (integers, dif_parts (pos 0) z))
-
--- of places from 0 on, either difference fits
-module _ {y z : ℤ} (f : SFits w32 y) (g : SFits w32 z) (l : pos 0 ≤ℤ y) (h : pos 0 ≤ℤ z) where
-  pub apart_fits : SFits w32 (z -ℤ y)
-  apart_fits = omega (integers, l, h, bounds f, bounds g, dif_parts z y)
-
-  pub apart_back : SFits w32 (pos 0 -ℤ (z -ℤ y))
-  apart_back = omega (integers, l, h, bounds f, bounds g, dif_parts z y, dif_parts (pos 0) (z -ℤ y))
+pub either_end : (a b : ℤ) → nat_abs (a -ℤ b) ≡ nat_abs (b -ℤ a)
+either_end a b = same_size (a -ℤ b) (b -ℤ a) (omega (arith, dif_parts a b, dif_parts b a))

@@ -16,7 +16,7 @@ use Rattle.integers.specs.Tables.{agree}
 use Rattle.octets.specs.FieldLaws.{both}
 use Rattle.measure.specs.declared.Units.{Units}
 use Rattle.measure.specs.declared.Quanta.{Quanta}
-use Rattle.measure.specs.Place.{double_end, carriage_end, height_end}
+use Rattle.measure.specs.Place.{carriage_end, height_end}
 use Rattle.measure.specs.PlaceLaws.{InRange}
 use Rattle.measure.specs.Target.{x_of}
 use Rattle.galley_file.specs.declared.character.Character.{Character}
@@ -53,8 +53,8 @@ carriage_range {top} {c} v = go (is_double (size_index c.font)) v.across
     x = c.x.0
 
     go : (d : Bool) → valid_x d x ≡ true → InRange carriage_end (carriage_of x d)
-    go true e = let h = both (le_z (negsuc 54) x) (le_z x double_end) e in record { low = omega (integers, h.0, sum_parts x (pos 55)); high = omega (integers, h.1, sum_parts x (pos 55)) }
-    go false e = let h = both (le_z (pos 0) x) (le_z x carriage_end) e in record { low = omega (integers, h.0); high = omega (integers, h.1) }
+    go true e = let h = both (le_z (negsuc 54) x) (le_z x (pos 3184)) e in record { low = omega (integers, h.0, sum_parts x (pos 55)); high = omega (integers, h.1, sum_parts x (pos 55)) }
+    go false e = let h = both (le_z (pos 0) x) (le_z x (pos 3239)) e in record { low = omega (integers, h.0); high = omega (integers, h.1) }
 
 pub height_in_range : {top : ℤ} {c : Character} → Valid top c → InRange top c.height.0
 height_in_range v = let h = height_range v in record { low = h.0; high = h.1 }
@@ -211,7 +211,7 @@ setting_most s t =
     let z = size_codes s.size t.size in
     omega (arith, length-append (font_codes s.modes t.modes) (h ++ z), length-append h z, font_most s.modes t.modes, switch_most 0x45 0x46 s.modes.upper_half t.modes.upper_half, size_most s.size t.size)
 
-moving_most : (s t : State) → Sound s → Sound t → length (moving_codes s t) ≤ nat_abs carriage_end + 1000004
+moving_most : (s t : State) → Sound s → Sound t → length (moving_codes s t) ≤ 1003243
 unfolding moving_codes
 moving_most s t p q =
     let x = motion_codes escapes s.modes.escape_back t.modes.escape_back s.carriage.0 t.carriage.0 in
@@ -219,7 +219,7 @@ moving_most s t p q =
     omega (
       arith,
       length-append x y,
-      motion_most escapes s.modes.escape_back t.modes.escape_back s.carriage.0 t.carriage.0 (nat_abs carriage_end) p.carriage_in q.carriage_in,
+      motion_most escapes s.modes.escape_back t.modes.escape_back s.carriage.0 t.carriage.0 3239 p.carriage_in q.carriage_in,
       motion_most leads s.modes.lead_back t.modes.lead_back s.height.0 t.height.0 1000000 p.height_in_lem q.height_in_lem,
     )
 

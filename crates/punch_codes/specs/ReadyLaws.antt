@@ -48,9 +48,9 @@ code_flash = agree (λ v. code_of Eight (1 + v)) (λ v. Instructs (Flash (1 + v)
 
 -- ---- a place in range
 
-carriage_at_lem : (n : ℕ) → n ≤ nat_abs carriage_end → carriage_at (pos n) ≡ carriage.At (record { 0 = pos n })
+carriage_at_lem : (n : ℕ) → n ≤ 3239 → carriage_at (pos n) ≡ carriage.At (record { 0 = pos n })
 unfolding carriage_at
-carriage_at_lem n h = rw (true_le_z (pos 0) (pos n) (omega arith), true_le_z (pos n) carriage_end (omega arith))
+carriage_at_lem n h = rw (true_le_z (pos 0) (pos n) (omega arith), true_le_z (pos n) (pos 3239) (omega arith))
 
 height_at_lem : (n : ℕ) → n ≤ 1000000 → height_at (pos n) ≡ height.At (record { 0 = pos n })
 unfolding height_at
@@ -108,16 +108,16 @@ module _ (m : Modes) (n : ℕ) (h : Quanta) where
   abbrev across : Bool → ℕ → State
   across back p = ready (with_escape m back) n (record { 0 = pos p }) h
 
-  escaped : (back : Bool) (p q a : ℕ) → 1 ≤ a → a ≤ 127 → pos p +ℤ directed_by back a ≡ pos q → q ≤ nat_abs carriage_end → byte_effect (across back p) (0x80 + (127 - a)) ≡ Moved (across back q)
+  escaped : (back : Bool) (p q a : ℕ) → 1 ≤ a → a ≤ 127 → pos p +ℤ directed_by back a ≡ pos q → q ≤ 3239 → byte_effect (across back p) (0x80 + (127 - a)) ≡ Moved (across back q)
   unfolding instruction_effect
   escaped back p q a low high to inside =
       let k : code_of Eight (0x80 + (127 - a)) ≡ Instructs (Escape a) = code_escape (127 - a) (omega arith) ∙ ap (λ (x : ℕ). Instructs (Escape x)) (omega arith) in
       sym (escape_to (across back p) a refl (ap carriage_at to ∙ carriage_at_lem q inside) ∙ instruction_taken (across back p) (0x80 + (127 - a)) k refl refl refl)
 
-  escape_reach : (now : Bool) (p q : ℕ) → p ≤ nat_abs carriage_end → q ≤ nat_abs carriage_end
+  escape_reach : (now : Bool) (p q : ℕ) → p ≤ 3239 → q ≤ 3239
       → Reach (across (backward_to now (pos p) (pos q)) p) (distance_codes 127 0x80 (nat_abs (pos q -ℤ pos p))) [] (across (backward_to now (pos p) (pos q)) q)
   escape_reach =
-      motion_reach 127 0x80 (nat_abs carriage_end) across (λ p a l u i. escaped false p (p + a) a l u (forward p a) i) (λ p a l u i. escaped true (p + a) p a l u (backward p a) (omega arith)) (omega arith)
+      motion_reach 127 0x80 3239 across (λ p a l u i. escaped false p (p + a) a l u (forward p a) i) (λ p a l u i. escaped true (p + a) p a l u (backward p a) (omega arith)) (omega arith)
 
 module _ (m : Modes) (n : ℕ) (c : Units) where
   abbrev down : Bool → ℕ → State

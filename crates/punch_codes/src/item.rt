@@ -1,11 +1,11 @@
 // The codes of an item, sent from one state of the machine to the next.
-ghost use Rattle.std.specs.Prelude.{◌≡◌, true, ◌<◌, pos, ◌≤ℤ◌};
+ghost use Rattle.std.specs.Prelude.{◌≡◌, true, ◌<◌};
 ghost use Rattle.measure.specs.Place.{height_end};
 ghost use Rattle.galley_file.specs.declared.item.Item.TheVariants.{Placed};
 ghost use Rattle.galley_file.specs.Character.{valid};
 ghost use Rattle.galley_file.specs.Item.{valid_item};
 ghost use Rattle.typesetter.specs.Sound.{Sound};
-ghost use Rattle.punch_codes.specs.Codes.{start_codes, flash_for, set_for, escapes, leads, motion_codes, font_codes, setting_codes, moving_codes, item_codes, state_after};
+ghost use Rattle.punch_codes.specs.Codes.{start_codes, flash_for, set_for, escapes, leads, font_codes, setting_codes, moving_codes, item_codes, state_after};
 ghost use Rattle.octets.specs.Write.{Put};
 ghost use Rattle.octets.specs.Space.{Space};
 
@@ -13,7 +13,6 @@ use crate::put;
 use crate::put::Axis;
 use galley_file::character::Character;
 use galley_file::item::Item;
-use measure::{Quanta, Units};
 use typesetter::machine;
 use typesetter::machine::{Modes, State};
 
@@ -124,62 +123,30 @@ fn leads() -> Axis
     }
 }
 
-// A motion of the carriage from place to place, in the direction `new` after `old`.
-fn put_across(
-    writing: bool,
-    out: &mut [u8],
-    at: usize,
-    old: bool,
-    new: bool,
-    from: Units,
-    to: Units,
-) -> usize
-    requires { ((pos 0 ≤ℤ from.0) × (pos 0 ≤ℤ to.0)) × Space writing out.old at (motion_codes escapes old new from.0 to.0) }
-    ensures { Put writing out.old at (motion_codes escapes old new from.0 to.0) out.new result }
-{
-    let n = put::absolute(to.0 - from.0);
-    put::put_motion(writing, out, at, escapes(), old, new, n)
-}
-
-// A motion of the film from height to height, in the direction `new` after `old`.
-fn put_down(
-    writing: bool,
-    out: &mut [u8],
-    at: usize,
-    old: bool,
-    new: bool,
-    from: Quanta,
-    to: Quanta,
-) -> usize
-    requires { ((pos 0 ≤ℤ from.0) × (pos 0 ≤ℤ to.0)) × Space writing out.old at (motion_codes leads old new from.0 to.0) }
-    ensures { Put writing out.old at (motion_codes leads old new from.0 to.0) out.new result }
-{
-    let n = put::absolute(to.0 - from.0);
-    put::put_motion(writing, out, at, leads(), old, new, n)
-}
-
 // Sideways, and then up or down.
 fn put_moving(writing: bool, out: &mut [u8], at: usize, s: State, t: State) -> usize
     requires { (Sound s × Sound t) × Space writing out.old at (moving_codes s t) }
     ensures { Put writing out.old at (moving_codes s t) out.new result }
 {
-    let to = put_across(
+    let to = put::put_motion(
         writing,
         out,
         at,
+        escapes(),
         s.modes.escape_back,
         t.modes.escape_back,
-        s.carriage,
-        t.carriage,
+        s.carriage.0,
+        t.carriage.0,
     );
-    put_down(
+    put::put_motion(
         writing,
         out,
         to,
+        leads(),
         s.modes.lead_back,
         t.modes.lead_back,
-        s.height,
-        t.height,
+        s.height.0,
+        t.height.0,
     )
 }
 

@@ -1,9 +1,7 @@
 // Codes, written into the tape's buffer or only counted. Each function gives the place after its codes.
-ghost use Rattle.std.specs.Prelude.{◌≡◌, [], ◌∷◌, ◌++◌, ◌+◌, ◌≤◌, ◌<◌, pos, nat_abs, ◌-ℤ◌, length, replicate};
+ghost use Rattle.std.specs.Prelude.{◌≡◌, [], ◌∷◌, ◌+◌, ◌≤◌, ◌<◌, pos, nat_abs, ◌-ℤ◌, length, replicate, ◌≤ℤ◌};
 ghost use Rattle.std.proofs.lemmas.List.Edits.{sets};
-ghost use Rattle.std.specs.Int.{w32};
-ghost use Rattle.std.proofs.Common.{SFits};
-ghost use Rattle.punch_codes.specs.Codes.{switch_codes, size_codes, remainder_codes, distance_codes};
+ghost use Rattle.punch_codes.specs.Codes.{switch_codes, size_codes, remainder_codes, distance_codes, motion_codes};
 ghost use Rattle.octets.specs.Write.{Put};
 ghost use Rattle.octets.specs.Space.{Space};
 
@@ -120,15 +118,19 @@ fn put_distance(writing: bool, out: &mut [u8], at: usize, longest: u8, code: u8,
     put_remainder(writing, out, to, longest, code, (n % each) as u8)
 }
 
-// A number without its sign.
-pub fn absolute(z: i32) -> u32
-    requires { SFits w32 (pos 0 -ℤ z) }
-    ensures { result ≡ nat_abs z }
+// How far apart two places are.
+fn distance(from: i32, to: i32) -> u32
+    requires { (pos 0 ≤ℤ from) × (pos 0 ≤ℤ to) }
+    ensures { result ≡ nat_abs (to -ℤ from) }
 {
-    if z < 0 { (0 - z) as u32 } else { z as u32 }
+    if to < from {
+        (from - to) as u32
+    } else {
+        (to - from) as u32
+    }
 }
 
-// A motion over the distance n, in the direction `new` after `old`.
+// A motion from place to place, in the direction `new` after `old`.
 pub fn put_motion(
     writing: bool,
     out: &mut [u8],
@@ -136,11 +138,19 @@ pub fn put_motion(
     axis: Axis,
     old: bool,
     new: bool,
-    n: u32,
+    from: i32,
+    to: i32,
 ) -> usize
-    requires { ((1 ≤ axis.longest) × (axis.code + axis.longest ≤ 255)) × Space writing out.old at (switch_codes axis.forward axis.backward old new ++ distance_codes axis.longest axis.code n) }
-    ensures { Put writing out.old at (switch_codes axis.forward axis.backward old new ++ distance_codes axis.longest axis.code n) out.new result }
+    requires { (((1 ≤ axis.longest) × (axis.code + axis.longest ≤ 255)) × ((pos 0 ≤ℤ from) × (pos 0 ≤ℤ to))) × Space writing out.old at (motion_codes axis old new from to) }
+    ensures { Put writing out.old at (motion_codes axis old new from to) out.new result }
 {
     let next = put_switch(writing, out, at, axis.forward, axis.backward, old, new);
-    put_distance(writing, out, next, axis.longest, axis.code, n)
+    put_distance(
+        writing,
+        out,
+        next,
+        axis.longest,
+        axis.code,
+        distance(from, to),
+    )
 }

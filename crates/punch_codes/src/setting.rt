@@ -1,6 +1,6 @@
 // The machine set for a character, or begun anew.
-ghost use Rattle.std.specs.Prelude.{◌≡◌, true, false, cond, pos, ◌≤ℤ◌};
-ghost use Rattle.measure.specs.Place.{carriage_end, height_end};
+ghost use Rattle.std.specs.Prelude.{◌≡◌, true, pos, ◌≤ℤ◌};
+ghost use Rattle.measure.specs.Place.{height_end};
 ghost use Rattle.galley_file.specs.Character.{valid};
 ghost use Rattle.galley_file.specs.Item.{valid_item};
 ghost use Rattle.punch_codes.specs.Codes.{begun_from, begun, carriage_of, backward_to, modes_for, set_for, state_after};
@@ -8,7 +8,7 @@ ghost use Rattle.punch_codes.specs.Codes.{begun_from, begun, carriage_of, backwa
 use galley_file::character::Character;
 use galley_file::font;
 use galley_file::item::Item;
-use measure::{Quanta, Units};
+use measure::Units;
 use typesetter::code::Machine;
 use typesetter::machine;
 use typesetter::machine::{Modes, State};
@@ -31,36 +31,22 @@ pub fn at_begin() -> State
     begun_from(machine::at_start(Machine::Eight))
 }
 
-// The direction in force after a motion, true for backward: `back` and `on` say which way it went, if any.
-fn direction(old: bool, back: bool, on: bool) -> bool
-    ensures { result ≡ cond back true (cond on false old) }
+// The direction in force after a motion, true for backward.
+fn backward_to(old: bool, from: i32, to: i32) -> bool
+    ensures { result ≡ backward_to old from to }
 {
-    if back {
+    if to < from {
         true
-    } else if on {
+    } else if from < to {
         false
     } else {
         old
     }
 }
 
-// The direction of escapes after a motion of the carriage.
-fn escape_direction(old: bool, from: Units, to: Units) -> bool
-    ensures { result ≡ backward_to old from.0 to.0 }
-{
-    direction(old, to.0 < from.0, from.0 < to.0)
-}
-
-// The direction of leads after a motion of the film.
-fn lead_direction(old: bool, from: Quanta, to: Quanta) -> bool
-    ensures { result ≡ backward_to old from.0 to.0 }
-{
-    direction(old, to.0 < from.0, from.0 < to.0)
-}
-
 // The carriage of an x: 55 more in a double size.
 fn carriage_of(x: Units, double: bool) -> Units
-    requires { x.0 ≤ℤ carriage_end }
+    requires { x.0 ≤ℤ pos 3239 }
     ensures { result.0 ≡ carriage_of x.0 double }
 {
     if double {
@@ -75,8 +61,8 @@ fn modes_for(s: State, c: Character, across: Units) -> Modes
     ensures { result ≡ modes_for s c across.0 }
 {
     let font = font::font_of(c.font);
-    let escape_back = escape_direction(s.modes.escape_back, s.carriage, across);
-    let lead_back = lead_direction(s.modes.lead_back, s.height, c.height);
+    let escape_back = backward_to(s.modes.escape_back, s.carriage.0, across.0);
+    let lead_back = backward_to(s.modes.lead_back, s.height.0, c.height.0);
     Modes {
         escape_back: escape_back,
         lead_back: lead_back,
@@ -112,7 +98,7 @@ pub fn state_after(s: State, i: Item) -> State
     match i {
         Item::Placed(c) => set_for(s, c),
         Item::Cut => {
-            let top = Quanta(0);
+            let top = measure::Quanta(0);
             let mut t = s;
             t.height = top;
             begun_from(t)

@@ -20,10 +20,10 @@ use Rattle.galley_check.specs.Low.{low_outcome}
 use Rattle.galley_check.specs.LowLaws.{low_checked}
 use Rattle.sheet.specs.Readable.{font_chars}
 use Rattle.dvi.specs.Sheet.{sheet_result}
-use Rattle.dvi.proofs.Sheets.{sheet_size_lem}
+use Rattle.dvi.specs.Writer.{dvi_file}
 use Rattle.dvi_writer.specs.Result.{dvi_result}
 use Rattle.reprint.specs.Reprint.{stopped, reprinted, reprint_result, of_file, of_sheet, sheet_size, GivesBoth, Reprints}
-use Rattle.reprint.specs.ReprintLaws.{file_in, sheet_in, file_written, sheet_written, both_written, reprints}
+use Rattle.reprint.specs.ReprintLaws.{reprints, found, file, file_written, shown_sheet, sheet_size_lem, sheet_written, both_written}
 
 -- a refusal's outcomes, and both buffers as they were
 pub refuses : (g : List ℕ) (widths : List ℤ) (dvi out : List ℕ) {number place : ℕ} → reprint_result g widths (length dvi) (length out) ≡ stopped number place
@@ -49,55 +49,64 @@ module _ (g : List ℕ) (count : ℕ) (e : accepted count ≡ low_outcome g) whe
       let same = ap (λ (r : Reading). length (characters_of (items_in r))) c.read in
       omega (arith, galley_length, same, c.counted)
 
-module _ (g : List ℕ) (count : ℕ) (e : low_outcome g ≡ accepted count) where
-  -- the writer's answers name the file's length
-  pub accepted_file : (room n : ℕ) → accepted n ≡ outcome (dvi_result g room) → n ≡ length (file_in g)
-  accepted_file room n q = accepted_length no_dvi_room room n (file_in g) (q ∙ ap outcome (file_written g count e room))
+module _ (g : List ℕ) (count : ℕ) (b : Bytes g) (e : low_outcome g ≡ accepted count) where
+  pub same_file : file g count b e ≡ dvi_file (items_of New g)
+  unfolding items_of
+  same_file = ap dvi_file (sym (ap items_in (found g count b e).read))
 
-  pub refused_file : (room number place : ℕ) → refused number place ≡ outcome (dvi_result g room) → (number ≡ no_dvi_room) × ((place ≡ length (file_in g)) × (room < length (file_in g)))
-  refused_file room number place q = refused_length no_dvi_room room number place (file_in g) (q ∙ ap outcome (file_written g count e room))
+  -- the sheet's size
+  pub sheet_needed : sheet_size (items_of New g) ≡ sheet_size (found g count b e).items
+  unfolding items_of
+  sheet_needed = ap (λ (r : Reading). sheet_size (items_in r)) (found g count b e).read
+
+  -- the writer's answers name the file's length
+  pub accepted_file : (room n : ℕ) → accepted n ≡ outcome (dvi_result g room) → n ≡ length (file g count b e)
+  accepted_file room n q = accepted_length no_dvi_room room n (file g count b e) (q ∙ ap outcome (file_written g count b e room))
+
+  pub refused_file : (room number place : ℕ) → refused number place ≡ outcome (dvi_result g room) → (number ≡ no_dvi_room) × ((place ≡ length (file g count b e)) × (room < length (file g count b e)))
+  refused_file room number place q = refused_length no_dvi_room room number place (file g count b e) (q ∙ ap outcome (file_written g count b e room))
 
   -- a buffer that is too short for the file
   pub refused_writing : (widths : List ℤ) (dvi out : List ℕ) (number place : ℕ) {dvi' : List ℕ} → refused number place ≡ outcome (dvi_result g (length dvi)) → dvi' ≡ buffer_after dvi (dvi_result g (length dvi))
-      → reprint_result g widths (length dvi) (length out) ≡ stopped no_dvi_room (length (file_in g)) → GivesBoth (refused number place) (refused number place) (reprint_result g widths) dvi dvi' out out
+      → reprint_result g widths (length dvi) (length out) ≡ stopped no_dvi_room (length (file g count b e)) → GivesBoth (refused number place) (refused number place) (reprint_result g widths) dvi dvi' out out
   refused_writing widths dvi out number place q d k =
       let f = refused_file (length dvi) number place q in
-      let kept = d ∙ ap (buffer_after dvi) (file_written g count e (length dvi) ∙ room_short no_dvi_room (length dvi) (file_in g) f.1.1) in
-      let named : refused number place ≡ refused no_dvi_room (length (file_in g)) = λ i. refused (f.0 i) (f.1.0 i) in
+      let kept = d ∙ ap (buffer_after dvi) (file_written g count b e (length dvi) ∙ room_short no_dvi_room (length dvi) (file g count b e) f.1.1) in
+      let named : refused number place ≡ refused no_dvi_room (length (file g count b e)) = λ i. refused (f.0 i) (f.1.0 i) in
       record { file_given = gives (ap of_file k) named kept; sheet_given = gives (ap of_sheet k) named refl }
 
   -- what the writer has written
   module _ (dvi : List ℕ) (n : ℕ) (q : accepted n ≡ outcome (dvi_result g (length dvi))) where
-    pub file_fits : length (file_in g) ≤ length dvi
+    pub file_fits : length (file g count b e) ≤ length dvi
     file_fits =
         let l = accepted_file (length dvi) n q in
-        let h = accepted_room no_dvi_room (length dvi) n (written (file_in g)) (q ∙ ap outcome (file_written g count e (length dvi))) in
+        let h = accepted_room no_dvi_room (length dvi) n (written (file g count b e)) (q ∙ ap outcome (file_written g count b e (length dvi))) in
         omega arith
 
-    pub after_writing : buffer_after dvi (dvi_result g (length dvi)) ≡ file_in g ++ drop (length (file_in g)) dvi
-    after_writing = ap (buffer_after dvi) (file_written g count e (length dvi) ∙ room_enough no_dvi_room (length dvi) (file_in g) file_fits)
+    pub after_writing : buffer_after dvi (dvi_result g (length dvi)) ≡ file g count b e ++ drop (length (file g count b e)) dvi
+    after_writing = ap (buffer_after dvi) (file_written g count b e (length dvi) ∙ room_enough no_dvi_room (length dvi) (file g count b e) file_fits)
 
-    pub written_part : (later : List ℕ) → later ≡ buffer_after dvi (dvi_result g (length dvi)) → take n later ≡ file_in g
+    pub written_part : (later : List ℕ) → later ≡ buffer_after dvi (dvi_result g (length dvi)) → take n later ≡ file g count b e
     written_part later k =
         ap (take n) (k ∙ after_writing)
-        ∙ take_at (file_in g) (drop (length (file_in g)) dvi) n (sym (accepted_file (length dvi) n q))
+        ∙ take_at (file g count b e) (drop (length (file g count b e)) dvi) n (sym (accepted_file (length dvi) n q))
 
     -- and what the reader then gives
-    module _ (widths : List ℤ) (w : length widths % font_chars ≡ 0) (out : List ℕ) (s : sheet_size (items_of New g) ≤ length out) where
-      whole_reprint : reprint_result g widths (length dvi) (length out) ≡ reprinted (file_in g) (sheet_in g)
-      whole_reprint = both_written g count e widths w (length dvi) (length out) file_fits s
+    module _ (widths : List ℤ) (w : length widths % font_chars ≡ 0) (out : List ℕ) (s : sheet_size (found g count b e).items ≤ length out) where
+      whole_reprint : reprint_result g widths (length dvi) (length out) ≡ reprinted (file g count b e) (shown_sheet g count b e widths w)
+      whole_reprint = both_written g count b e widths w (length dvi) (length out) file_fits s
 
-      pub reads : (part : List ℕ) → part ≡ file_in g → sheet_result part widths (length out) ≡ written (sheet_in g)
+      pub reads : (part : List ℕ) → part ≡ file g count b e → sheet_result part widths (length out) ≡ written (shown_sheet g count b e widths w)
       reads part k =
           ap (λ (d : List ℕ). sheet_result d widths (length out)) k
-          ∙ sheet_written g count e widths w (length out)
-          ∙ room_enough no_sheet_room (length out) (sheet_in g) (omega (arith, sheet_size_lem (items_of New g)))
+          ∙ sheet_written g count b e widths w (length out)
+          ∙ room_enough no_sheet_room (length out) (shown_sheet g count b e widths w) (omega (arith, sheet_size_lem g count b e widths w))
 
-      pub completes : (needed : ℕ) (dvi' out' part : List ℕ) → needed ≡ sheet_size (items_of New g) → part ≡ file_in g → dvi' ≡ buffer_after dvi (dvi_result g (length dvi))
+      pub completes : (needed : ℕ) (dvi' out' part : List ℕ) → needed ≡ sheet_size (found g count b e).items → part ≡ file g count b e → dvi' ≡ buffer_after dvi (dvi_result g (length dvi))
           → out' ≡ buffer_after out (sheet_result part widths (length out)) → GivesBoth (accepted n) (accepted needed) (reprint_result g widths) dvi dvi' out out'
       completes needed dvi' out' part z k d y = record {
         file_given = gives (ap of_file whole_reprint) (ap accepted (accepted_file (length dvi) n q)) (d ∙ after_writing);
-        sheet_given = gives (ap of_sheet whole_reprint) (ap accepted (z ∙ sym (sheet_size_lem (items_of New g)))) (y ∙ ap (buffer_after out) (reads part k));
+        sheet_given = gives (ap of_sheet whole_reprint) (ap accepted (z ∙ sym (sheet_size_lem g count b e widths w))) (y ∙ ap (buffer_after out) (reads part k));
       }
 
 -- what a call gives is the reprint, and so demand 3 holds of it

@@ -5,23 +5,28 @@
 --     of_file, of_sheet    its result for each of the buffers
 --     both_numbers        the numbers of two outcomes: number, place, and both lengths
 --     GivesBoth          what an operation that fills two buffers promises
---     Reprinted          demand 3 of a galley, and of the two buffers
+--     Reprinted          demand 3, clause by clause
 --     ReprintedWhenever  demand 3 of a call
 --     Reprints           what a reprint promises
 --     ReprintsNumbers    the same where the numbers are given in an array
-use Rattle.std.specs.Prelude.{ℕ, ◌+◌, ◌*◌, ◌%◌, ◌≤◌, cond, List, [], ◌∷◌, ◌++◌, ◌≡◌, ℤ, pos, length, drop}
+--     Distinguished      two galleys, and what is shown of them
+use Rattle.std.specs.Prelude.{ℕ, ◌+◌, ◌*◌, ◌%◌, ◌≤◌, cond, List, [], ◌∷◌, ◌++◌, ◌↔◌, ◌≡◌, ℤ, pos, length, drop}
 use Rattle.octets.specs.Answer.{Outcome, accepted, refused, number_of, place_of, length_of, Result, refusal, written, widths_not_whole, Gives}
+use Rattle.measure.specs.Place.{low_end}
 use Rattle.galley_file.specs.declared.form.Form.TheVariants.{New}
 use Rattle.galley_file.specs.declared.item.Item.{Item}
 use Rattle.galley_file.specs.Item.{characters_of, cuts_of}
-use Rattle.galley_file.specs.Galley.{items_of}
-use Rattle.sheet.specs.Sheet.{page_mark, sheet}
+use Rattle.galley_file.specs.Galley.{AllValid, galley, whole, read_galley}
+use Rattle.galley_file.specs.Outcome.{check_outcome}
+use Rattle.sheet.specs.Sheet.{Mark, page_mark, sheet}
 use Rattle.sheet.specs.Readable.{font_chars}
+use Rattle.sheet.specs.Shown.{shows}
+use Rattle.dvi.specs.File.{read_dvi}
 use Rattle.dvi.specs.Sheet.{whole_fonts, sheet_result}
 use Rattle.dvi.specs.Writer.{dvi_file}
-use Rattle.dvi.specs.Edition.{Printable, Faithful}
+use Rattle.dvi.specs.Edition.{Faithful, Compared}
+use Rattle.dvi.specs.Demand3.{dvi1980}
 use Rattle.dvi_writer.specs.Result.{dvi_result}
-use Rattle.reprint.specs.Demand3.{dvi1980}
 use Rattle.reprint.specs.declared.Lengths.{Lengths}
 
 pub data Reprint : Type 0 where
@@ -79,21 +84,33 @@ sheet_size is = 16 * length (characters_of is) + 7 * cuts_of is + 14
 
 -- of a galley g and a table of widths, with the outcomes of the call and each of the two buffers before and after it
 pub record Reprinted (for_file for_sheet : Outcome) (g : List ℕ) (widths : List ℤ) (dvi dvi' out out' : List ℕ) : Type 0 where
-  -- the writer accepts g, what its file shows, the reader accepts that file; and g beside every other galley
-  pub faithful : Faithful (dvi1980 widths) g
+  -- "every valid galley": the characters and cuts that its bytes encode, of heights at most 65,535
+  pub items : List Item
+  pub galley_is : g ≡ galley New items
+  pub valid : AllValid low_end items
+  -- "The writer accepts the galley"
+  pub writer_accepts : dvi_result g (length dvi) ≡ written (dvi_file items)
   -- "the DVI file is the bytes it wrote, .. without the buffer beyond them"
-  pub file_is : dvi' ≡ dvi_file (items_of New g) ++ drop (length (dvi_file (items_of New g))) dvi
+  pub file_is : dvi' ≡ dvi_file items ++ drop (length (dvi_file items)) dvi
+  -- "It shows page 1 and no rule. For each character of the galley, in order, and for nothing else": its font, its y, and the three cases of x; a cut
+  -- shows as the start of the next page
+  pub faithful : Faithful (dvi1980 widths) items
+  -- what it shows, in rsu
+  pub marks : List Mark
+  pub shown : read_dvi widths (dvi_file items) ≡ shows (page_mark (pos 1) ∷ marks)
+  -- our reader accepts that file
+  pub reader_accepts : sheet_result (dvi_file items) widths (length out) ≡ written (sheet (page_mark (pos 1) ∷ marks))
   -- "The sheet is the page field, then these characters' fields in that order, then end, byte for byte"
-  pub sheet_is : out' ≡ sheet (page_mark (pos 1) ∷ faithful.marks) ++ drop (length (sheet (page_mark (pos 1) ∷ faithful.marks))) out
+  pub sheet_is : out' ≡ sheet (page_mark (pos 1) ∷ marks) ++ drop (length (sheet (page_mark (pos 1) ∷ marks))) out
   -- the lengths given
-  pub file_length : for_file ≡ accepted (length (dvi_file (items_of New g)))
-  pub sheet_length : for_sheet ≡ accepted (sheet_size (items_of New g))
+  pub file_length : for_file ≡ accepted (length (dvi_file items))
+  pub sheet_length : for_sheet ≡ accepted (sheet_size items)
 
 -- for every galley that the check accepts and whose heights are at most 65,535, every table of whole fonts, and buffers with room
 abbrev pub ReprintedWhenever : Outcome → Outcome → List ℕ → List ℤ → List ℕ → List ℕ → List ℕ → List ℕ → Type 0
 ReprintedWhenever for_file for_sheet g widths dvi dvi' out out' =
-    Printable (dvi1980 widths) g → length widths % font_chars ≡ 0 → length (dvi_file (items_of New g)) ≤ length dvi → sheet_size (items_of New g) ≤ length out
-    → Reprinted for_file for_sheet g widths dvi dvi' out out'
+    (count : ℕ) (is : List Item) → check_outcome New g ≡ accepted count → read_galley New g ≡ whole is → AllValid low_end is → length widths % font_chars ≡ 0 → length (dvi_file is) ≤ length dvi
+    → sheet_size is ≤ length out → Reprinted for_file for_sheet g widths dvi dvi' out out'
 
 -- what a reprint promises: outcomes and buffers are its result's, and demand 3 holds of them
 pub record Reprints (for_file for_sheet : Outcome) (g : List ℕ) (widths : List ℤ) (dvi dvi' out out' : List ℕ) : Type 0 where
@@ -106,3 +123,10 @@ pub record ReprintsNumbers (numbers : List ℕ) (g : List ℕ) (widths : List �
   pub for_sheet : Outcome
   pub numbers_are : numbers ≡ both_numbers for_file for_sheet
   pub reprints : Reprints for_file for_sheet g widths dvi dvi' out out'
+
+-- two such galleys, of the items is and js, and the marks that their files show
+pub record Distinguished (widths : List ℤ) (g h : List ℕ) (is js : List Item) (ms ns : List Mark) : Type 0 where
+  -- the same file exactly where the galleys are equal
+  pub same_file : (dvi_file is ≡ dvi_file js) ↔ (g ≡ h)
+  -- "equal fonts where the font numbers are equal, and equal places where x and height are equal, at each character"
+  pub compared : Compared (dvi1980 widths) is js ms ns

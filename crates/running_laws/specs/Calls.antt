@@ -3,16 +3,14 @@
 --     tape_after       the running tape after some calls, and tape_given after one
 --     results         what they give, one after another
 --     output          the bytes that they write, joined, and bytes_given those of one
---     made_by          the running tape that these calls alone have made
---     Standing        what calls amount to by what each was answered: at rest; or these bytes fed on a machine since the last accepted start, and then, if any, the call that
---                     was refused for good
---     is_void          a call that was refused for room, or a start with a wrong machine; without_void the calls without those
+--     MadeByCalls     a running tape that these calls alone have made
+--     without_room     the calls that were not refused for room
 --     Piece           some bytes of a tape and the room lent with them; whole_tape the tape that pieces are cut from
 --     RoomFor         there is room for a piece, and RoomForEach for each of some
-use Rattle.std.specs.Prelude.{ℕ, ◌+◌, ◌≤◌, ◌≡◌, Bool, false, cond, ◌||◌, eqb, length}
+--     calls_for        a start, the pieces and the close
+use Rattle.std.specs.Prelude.{ℕ, ◌+◌, ◌≤◌, ◌≡◌, Bool, false, cond, eqb, length}
 use mathlib.Core.List.{List, [], ◌∷◌, ◌++◌, foldl}
-use Rattle.std.proofs.Math.Option.{Option, none, some}
-use Rattle.octets.specs.Answer.{Result, refusal, written, no_galley_room, no_machine}
+use Rattle.octets.specs.Answer.{Result, refusal, written, no_galley_room}
 use Rattle.octets.specs.Pass.{bytes_of}
 use Rattle.octets.specs.Transducer.{transduced}
 use Rattle.galley_file.specs.declared.form.Form.TheVariants.{New}
@@ -21,7 +19,7 @@ use Rattle.typesetter.specs.declared.code.Machine.{Machine}
 use Rattle.typesetter.specs.declared.machine.State.{State}
 use Rattle.typesetter.specs.Machine.{start}
 use Rattle.tape.specs.declared.Ending.TheVariants.{Reached}
-use Rattle.tape.specs.Tape.{run, machine_of}
+use Rattle.tape.specs.Tape.{run}
 use Rattle.tape.specs.TapeLaws.{items_on}
 use Rattle.running.specs.declared.Running.{Running}
 use Rattle.running.specs.Running.{Replied, new_tape, start_of, feed_of, close_of}
@@ -53,70 +51,23 @@ abbrev pub output : Running → List Call → List ℕ
 output r cs = transduced bytes_given tape_given r cs
 
 -- "one that these calls alone have made"
-abbrev pub made_by : List Call → Running
-made_by cs = tape_after new_tape cs
+pub data MadeByCalls : Running → Type 0 where
+  new : MadeByCalls new_tape
+  by_call : {r : Running} → MadeByCalls r → (c : Call) → MadeByCalls (given r c).tape
 
--- ---- what calls amount to
-
-pub data Standing : Type 0 where
-  rests : Standing
-  fed_on : Machine → List ℕ → Standing
-  stopped_by : Machine → List ℕ → Call → Standing
-
-abbrev pub started_on : Standing → Option Machine → Standing
-started_on s (some kind) = fed_on kind []
-started_on s none = s
-
-abbrev pub with_bytes : Standing → List ℕ → Standing
-with_bytes rests bs = rests
-with_bytes (fed_on kind xs) bs = fed_on kind (xs ++ bs)
-with_bytes (stopped_by kind xs c) bs = stopped_by kind xs c
-
--- after a call that was accepted
-abbrev pub on_accepted : Standing → Call → Standing
-on_accepted s (starting machine) = started_on s (machine_of machine)
-on_accepted s (piece bs room) = with_bytes s bs
-on_accepted s (closing room) = rests
-
--- after a piece or closing that was refused, and not for room: the first one stops the tape
-abbrev pub stopping : Standing → Call → Standing
-stopping rests c = rests
-stopping (fed_on kind xs) c = stopped_by kind xs c
-stopping (stopped_by kind xs d) c = stopped_by kind xs d
-
--- after a call that was refused with the number n
-abbrev pub on_refused : Standing → Call → ℕ → Standing
-on_refused s (starting machine) n = s
-on_refused s (piece bs room) n = cond (eqb n no_galley_room) s (stopping s (piece bs room))
-on_refused s (closing room) n = cond (eqb n no_galley_room) s (stopping s (closing room))
-
--- after a call that was answered so
-abbrev pub standing_after : Standing → Call → Result → Standing
-standing_after s c (refusal n place) = on_refused s c n
-standing_after s c (written bs) = on_accepted s c
-
--- after calls on the running tape r
-unfoldable pub standing : Standing → Running → List Call → Standing
-standing s r [] = s
-standing s r (c ∷ cs) = standing (standing_after s c (given r c).result) (given r c).tape cs
-
--- ---- refusals that change nothing
+-- ---- refusals for room
 
 abbrev pub is_room : Result → Bool
 is_room (refusal n place) = eqb n no_galley_room
 is_room (written bs) = false
 
-abbrev pub is_void : Result → Bool
-is_void (refusal n place) = eqb n no_galley_room || eqb n no_machine
-is_void (written bs) = false
+unfoldable pub without_room : Running → List Call → List Call
+without_room r [] = []
+without_room r (c ∷ cs) = cond (is_room (given r c).result) (without_room (given r c).tape cs) (c ∷ without_room (given r c).tape cs)
 
-unfoldable pub without_void : Running → List Call → List Call
-without_void r [] = []
-without_void r (c ∷ cs) = cond (is_void (given r c).result) (without_void (given r c).tape cs) (c ∷ without_void (given r c).tape cs)
-
-unfoldable pub without_voids : List Result → List Result
-without_voids [] = []
-without_voids (x ∷ xs) = cond (is_void x) (without_voids xs) (x ∷ without_voids xs)
+unfoldable pub without_rooms : List Result → List Result
+without_rooms [] = []
+without_rooms (x ∷ xs) = cond (is_room x) (without_rooms xs) (x ∷ without_rooms xs)
 
 -- ---- a tape, cut at will
 
@@ -132,11 +83,14 @@ unfoldable pub pieces : List Piece → List Call
 pieces [] = []
 pieces (p ∷ ps) = piece p.codes p.room ∷ pieces ps
 
+unfoldable pub calls_for : ℕ → List Piece → ℕ → List Call
+calls_for machine ps room = starting machine ∷ (pieces ps ++ (closing room ∷ []))
+
 -- "room for each piece", after the bytes xs: for the fields of what it sets on this machine, where it has no fault
 abbrev pub RoomFor : Machine → List ℕ → List ℕ → ℕ → Type 0
 RoomFor kind xs p room =
     (t : State) → (run (start kind) 0 (xs ++ p)).ending ≡ Reached t → length (fields New (items_on kind (xs ++ p))) ≤ length (fields New (items_on kind xs)) + room
 
 pub data RoomForEach (kind : Machine) : List ℕ → List Piece → Type 0 where
-  no_more : {xs : List ℕ} → RoomForEach kind xs []
+  none : {xs : List ℕ} → RoomForEach kind xs []
   more : {xs : List ℕ} {p : Piece} {ps : List Piece} → RoomFor kind xs p.codes p.room → RoomForEach kind (xs ++ p.codes) ps → RoomForEach kind xs (p ∷ ps)

@@ -1,12 +1,12 @@
 -- The extents of a running tape (document 02, "Extents at a glance"): after every call they are those of the characters gone out since the
 -- last accepted start, over all pages, whatever was accepted or refused in between; a close keeps them.
+--     Since           calls without an accepted start among them
 --     ExtentsOut      the extents are those of the characters in these bytes
 --     extents_out     after an accepted start and such calls
---     before_start    before any accepted start
 -- Assumes nothing.
-use Rattle.std.specs.Prelude.{◌≡◌, refl, List, [], ◌∷◌, ◌++◌, ◌⊎◌, ℕ, length}
+use Rattle.std.specs.Prelude.{◌≡◌, refl, List, [], ◌∷◌, ◌++◌, ◌⊎◌, ℕ}
 use Rattle.std.proofs.Common.{sym, ap, subst, ◌∙◌, append_assoc, append-nil, inl, inr}
-use Rattle.std.proofs.Math.Option.{some}
+use Rattle.std.proofs.Math.Option.{none, some}
 use Rattle.octets.specs.Field.{end_field}
 use Rattle.measure.specs.Place.{height_end}
 use Rattle.octets.specs.Pass.{bytes_of}
@@ -19,14 +19,14 @@ use Rattle.galley_file.specs.Galley.{AllValid, nil, more, fields}
 use Rattle.galley_file.specs.GalleyLaws.{fields_append}
 use Rattle.extents.specs.declared.Extents.{Extents}
 use Rattle.extents.specs.Extents.{ExtentsAre, with_characters, extents_of}
-use Rattle.extents.specs.ExtentsLaws.{extents_none, extents_append, extents_are}
+use Rattle.extents.specs.ExtentsLaws.{extents_append, extents_are}
 use Rattle.typesetter.specs.declared.code.Machine.{Machine}
 use Rattle.tape.specs.Tape.{machine_of}
 use Rattle.running.specs.declared.Phase.TheVariants.{AtRest}
 use Rattle.running.specs.declared.Running.{Running}
-use Rattle.running.specs.Running.{Replied, new_tape, fresh, start_on, start_of, grown}
-use Rattle.running_laws.specs.Calls.{Call, starting, given, tape_after, output, made_by}
-use Rattle.running_laws.specs.CallsLaws.{Later, resting, Kind, roomless, still, keeps, adds, finishes, kind_of, stuck_gives, Since, done, later, wrong, wrong_start, stuck_all}
+use Rattle.running.specs.Running.{Replied, fresh, start_on, start_of, grown}
+use Rattle.running_laws.specs.Calls.{Call, starting, given, tape_after, output}
+use Rattle.running_laws.specs.CallsLaws.{Later, resting, Kind, roomless, still, keeps, adds, finishes, kind_of, stuck_gives}
 
 -- ---- what has gone out since the start
 
@@ -43,13 +43,13 @@ all_more (more v vs) w = more v (all_more vs w)
 same_out : {r : Running} {bs : List ℕ} → Sent r bs → Sent r (bs ++ [])
 same_out {r} {bs} s = subst (Sent r) (sym (append-nil bs)) s
 
-sent_kind : {r : Running} (is : List Item) → AllValid height_end is → r.extents ≡ extents_of (characters_of is) → {c : Call} {x : Replied} → Kind r c x
+sent_kind : {r : Running} (is : List Item) → AllValid height_end is → r.extents ≡ extents_of (characters_of is) → {x : Replied} → Kind r x
     → Sent x.tape (fields New is ++ bytes_of x.result)
 sent_kind is v e roomless = same_out (sent is v e)
 sent_kind is v e (still s) = same_out (sent is v e)
-sent_kind is v e (keeps o l h) = same_out (sent is v e)
-sent_kind {r} is v e (adds {bs = bs} t js w) =
-    subst (Sent (grown r t (length bs) js)) (fields_append New is js)
+sent_kind is v e (keeps h) = same_out (sent is v e)
+sent_kind {r} is v e (adds t n js w) =
+    subst (Sent (grown r t n js)) (fields_append New is js)
     (sent (is ++ js) (all_more v w)
     (ap (λ (x : Extents). with_characters x (characters_of js)) e ∙ sym (extents_append (characters_of is) (characters_of js)) ∙ ap extents_of (sym (characters_append is js))))
 sent_kind {r} is v e finishes = closed_with is r.count v e refl
@@ -59,13 +59,19 @@ sent_later {r} (sent is v e) l = sent_kind is v e (kind_of r l)
 sent_later {r} (closed_with is n v e i) l =
     subst (λ (x : Replied). Sent x.tape ((fields New is ++ end_field n) ++ bytes_of x.result)) (sym (stuck_gives (resting i) l)) (same_out (closed_with is n v e i))
 
+-- pieces, closings and starts with a wrong machine
+pub data Since : List Call → Type 0 where
+  done : Since []
+  later : {c : Call} {cs : List Call} → Later c → Since cs → Since (c ∷ cs)
+  wrong : {machine : ℕ} {cs : List Call} → machine_of machine ≡ none → Since cs → Since (starting machine ∷ cs)
+
 sent_since : {r : Running} {bs : List ℕ} → Sent r bs → {cs : List Call} → Since cs → Sent (tape_after r cs) (bs ++ output r cs)
-unfolding transduced
+unfolding transduced start_of
 sent_since s done = same_out s
 sent_since {r} {bs} s (later {c} {cs} l ls) =
     subst (Sent (tape_after (given r c).tape cs)) (append_assoc bs (bytes_of (given r c).result) (output (given r c).tape cs)) (sent_since (sent_later s l) ls)
 sent_since {r} {bs} s (wrong {machine} {cs} n ls) =
-    subst (λ (x : Replied). Sent (tape_after x.tape cs) (bs ++ (bytes_of x.result ++ output x.tape cs))) (sym (wrong_start r machine n)) (sent_since s ls)
+    subst (λ (x : Replied). Sent (tape_after x.tape cs) (bs ++ (bytes_of x.result ++ output x.tape cs))) (sym (ap (start_on r) n)) (sent_since s ls)
 
 pub record ExtentsOut (e : Extents) (out : List ℕ) : Type 0 where
   pub items : List Item
@@ -87,9 +93,3 @@ pub extents_out : (r : Running) (machine : ℕ) (kind : Machine) → machine_of 
 unfolding transduced start_of fields characters_of extents_of with_characters
 extents_out r machine kind named {cs} s =
     sent_out (subst (λ (x : Replied). Sent (tape_after x.tape cs) (bytes_of x.result ++ output x.tape cs)) (sym (ap (start_on r) named)) (sent_since (sent {r = fresh kind} [] nil refl) s))
-
--- and before any accepted start, where nothing has gone out
-pub before_start : {cs : List Call} → Since cs → (output new_tape cs ≡ []) × ExtentsAre (made_by cs).extents []
-before_start {cs} s =
-    let q = stuck_all (resting refl) s in
-    (q.output_is, subst (λ (r : Running). ExtentsAre r.extents []) (sym q.tape_is) extents_none)

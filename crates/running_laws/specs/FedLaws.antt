@@ -5,13 +5,12 @@
 --     fault_stays       a fault of the run over more
 --     on_ends, grows    the run over one piece more, and the running tape after it
 --     fed               what a piece with room does (`Fed`)
---     limit             what a piece past the limit gives, and fault_as_whole one with a fault
---     had_room          a piece that is not refused for room had it
+--     limit             what a piece past the limit gives
 -- Assumes nothing.
-use Rattle.std.specs.Prelude.{◌≡◌, Bool, true, false, List, [], ◌++◌, ℕ, ◌+◌, ◌≤◌, ◌<◌, ltb, length}
+use Rattle.std.specs.Prelude.{◌≡◌, true, List, [], ◌++◌, ℕ, ◌+◌, ◌≤◌, ◌<◌, length}
 use Rattle.std.proofs.Math.Path.{refl}
-use Rattle.std.proofs.Common.{sym, ap, subst, ◌∙◌, true≢false, zero-add, suc-ne-zero, arith, ltb-true, ltb-false, length-append}
-use Rattle.octets.specs.Answer.{Result, written, tape_too_long, no_galley_room}
+use Rattle.std.proofs.Common.{sym, ap, subst, ◌∙◌, zero-add, suc-ne-zero, arith, length-append}
+use Rattle.octets.specs.Answer.{Result, written, tape_too_long}
 use Rattle.octets.specs.Pass.{bytes_of}
 use Rattle.galley_file.specs.declared.form.Form.TheVariants.{New}
 use Rattle.galley_file.specs.declared.item.Item.{Item}
@@ -32,9 +31,9 @@ use Rattle.tape.specs.RunLaws.{go_on, run_append, run_length, run_sound}
 use Rattle.tape.specs.TapeLaws.{items_on}
 use Rattle.running.specs.declared.Phase.TheVariants.{Open, Failed}
 use Rattle.running.specs.declared.Running.{Running}
-use Rattle.running.specs.Running.{Replied, refusing, failing, is_sound, fresh, grown, feed_within, feed_of}
-use Rattle.running.specs.RunningLaws.{tape_sound, feed_phase, feed_long, feed_fits, piece_fault, piece_short, piece_whole}
-use Rattle.running_laws.specs.Calls.{is_room, RoomFor}
+use Rattle.running.specs.Running.{Replied, failing, is_sound, fresh, grown, feed_within, feed_of}
+use Rattle.running.specs.RunningLaws.{tape_sound, feed_phase, feed_long, feed_fits, piece_fault, piece_whole}
+use Rattle.running_laws.specs.Calls.{RoomFor}
 
 pub never : {t : State} {n place : ℕ} {X : Type 0} → Fault n place ≡ Reached t → X
 never e = absurd (suc-ne-zero 0 cc)
@@ -103,10 +102,6 @@ module _ (kind : Machine) where
       feeds : length (xs ++ p) ≤ max_tape → feed_of (going_at xs t) p room ≡ feed_within (going_at xs t) p room
       feeds h = feed_phase (going_at xs t) p room refl ∙ feed_fits (going_at xs t) p room going_sound (omega (arith, length-append xs p))
 
-      -- "the whole tape's faults, at offsets from its start": the piece gets the number and place that the tape's run gives, and the running tape keeps them
-      pub fault_as_whole : length (xs ++ p) ≤ max_tape → {n place : ℕ} → (run (start kind) 0 (xs ++ p)).ending ≡ Fault n place → feed_of (going_at xs t) p room ≡ failing (going_at xs t) n place
-      fault_as_whole h q = feeds h ∙ piece_fault (going_at xs t) (length p) (run t (length xs) p).items room (sym (on_ends xs t e p) ∙ q)
-
   -- ---- what a piece does
 
   pub record Fed (xs p : List ℕ) (x : Replied) : Type 0 where
@@ -131,8 +126,8 @@ module _ (kind : Machine) where
 
       go : (x : Ending) → (run t (length xs) p).ending ≡ x → Fed xs p (feed_of (going_at xs t) p room)
       go (Fault n place) q =
-          let h = on_ends xs t e p ∙ q in
-          subst (Fed xs p) (sym (fault_as_whole xs t e short p room fits h)) (fed_fault xs p refl h)
+          let g : feed_of (going_at xs t) p room ≡ failing (going_at xs t) n place = feeds xs t e short p room fits ∙ piece_fault (going_at xs t) (length p) is room q in
+          subst (Fed xs p) (sym g) (fed_fault xs p refl (on_ends xs t e p ∙ q))
       go (Reached v) q =
           let g : feed_of (going_at xs t) p room ≡ record { tape = going_at (xs ++ p) v; result = written (fields New is) } =
           feeds xs t e short p room fits
@@ -144,29 +139,6 @@ module _ (kind : Machine) where
       → RoomFor kind xs p room → Fed xs p (feed_of r p room)
   fed (going {xs} {t} e short) p room fits roomy = fed_going xs t e short p room fits roomy
   fed (broken {r} {xs} e h) p room fits roomy = subst (Fed xs p) (sym (feed_phase r p room e)) (fed_fault xs p e (fault_stays xs p h))
-
-  had_going : (xs : List ℕ) (t : State) → ends xs ≡ Reached t → length xs ≤ max_tape → (p : List ℕ) (room : ℕ) → length (xs ++ p) ≤ max_tape
-      → is_room (feed_of (going_at xs t) p room).result ≡ false → RoomFor kind xs p room
-  had_going xs t e short p room fits n v q = go (ltb room (length (fields New is))) refl
-    where
-      is : List Item
-      is = (run t (length xs) p).items
-
-      reached : (run t (length xs) p).ending ≡ Reached v
-      reached = sym (on_ends xs t e p) ∙ q
-
-      go : (b : Bool) → ltb room (length (fields New is)) ≡ b → length (fields New (items_on kind (xs ++ p))) ≤ length (fields New (items_on kind xs)) + room
-      go true h =
-          let g : feed_of (going_at xs t) p room ≡ refusing (going_at xs t) no_galley_room (length (fields New is)) =
-          feeds xs t e short p room fits ∙ piece_short (going_at xs t) (length p) is room reached (ltb-true _ _ h) in
-          absurd (true≢false (sym (ap (λ (x : Replied). is_room x.result) g) ∙ n))
-      go false h =
-          omega (arith, ltb-false room (length (fields New (run t (length xs) p).items)) h, ap length (on_fields xs t e p), length-append (fields New (items_on kind xs)) (fields New (run t (length xs) p).items))
-
-  pub had_room : {r : Running} {xs : List ℕ} → Stands r xs → (p : List ℕ) (room : ℕ) → length (xs ++ p) ≤ max_tape → is_room (feed_of r p room).result ≡ false
-      → RoomFor kind xs p room
-  had_room (going {xs} {t} e short) p room fits n = had_going xs t e short p room fits n
-  had_room (broken {r} {xs} e h) p room fits n = λ v q. never (sym (fault_stays xs p h) ∙ q)
 
   -- ---- after an accepted start
 

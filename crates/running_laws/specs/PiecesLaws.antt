@@ -1,7 +1,6 @@
 -- A tape cut at will: after an accepted start, and with room for each piece and the close, the pieces give what the whole tape at once gives.
---     in_pieces         the close is refused as the whole tape is, or accepted, and then the joined output is its galley; just_enough in buffers of just the bytes needed
---     cut_at_will       so its number and place are those of the whole tape
---     again             the same with refusals for room, and starts with a wrong machine, in between
+--     in_pieces         number and place of the close are those of the whole tape, and an accepted tape's joined output is its galley
+--     again             the same with refusals for room in between
 --     earlier_out       the fields of the pieces before a fault are out
 --     past_limit        1 at place 0 as soon as the total passes the limit, and past_limit_kept from then on
 --     extents_whole     the extents after some pieces
@@ -12,7 +11,7 @@ use Rattle.std.proofs.Common.{◌∙◌, suc-ne-zero, arith}
 use mathlib.Core.List.{List, [], ◌∷◌, ◌++◌, append_assoc, append-nil}
 use Rattle.std.proofs.Math.Option.{some}
 use Rattle.std.proofs.Math.ListN.{length, length-append}
-use Rattle.octets.specs.Answer.{Outcome, accepted, Result, refusal, written, outcome, number_of, place_of, tape_too_long}
+use Rattle.octets.specs.Answer.{Result, refusal, written, outcome, number_of, place_of, tape_too_long}
 use Rattle.octets.specs.Field.{end_field}
 use Rattle.octets.specs.Pass.{bytes_of}
 use Rattle.octets.specs.Transducer.{transduced}
@@ -33,9 +32,9 @@ use Rattle.tape.specs.TapeLaws.{items_on}
 use Rattle.running.specs.declared.Running.{Running}
 use Rattle.running.specs.Running.{Replied, fresh, start_on, start_of, feed_of, close_open, close_of}
 use Rattle.running.specs.RunningLaws.{close_phase, close_cut, close_unstopped, close_whole}
-use Rattle.running_laws.specs.Calls.{Call, starting, closing, given, tape_given, tape_after, bytes_given, output, without_void, Piece, whole_tape, pieces, RoomForEach, no_more, more}
-use Rattle.running_laws.specs.CallsLaws.{a_piece, Since, Repeated, repeats, without_void_lem, not_void, AllKept, none_left, kept_then, all_kept}
-use Rattle.running_laws.specs.FedLaws.{never, going_at, Stands, going, broken, going_sound, limit, fed, fault_stays, had_room, fresh_stands, stands_open}
+use Rattle.running_laws.specs.Calls.{Call, starting, closing, tape_given, tape_after, bytes_given, output, without_room, Piece, whole_tape, pieces, calls_for, RoomForEach, none, more}
+use Rattle.running_laws.specs.CallsLaws.{a_piece, AllLater, Repeated, repeats, without_room_lem}
+use Rattle.running_laws.specs.FedLaws.{never, going_at, Stands, going, broken, going_sound, limit, fed, fault_stays, fresh_stands, stands_open}
 
 module _ (kind : Machine) where
   abbrev ends : List ℕ → Ending
@@ -59,7 +58,7 @@ module _ (kind : Machine) where
   pub fed_all : {r : Running} {xs : List ℕ} → Stands kind r xs → (ps : List Piece) → length (xs ++ whole_tape ps) ≤ max_tape → RoomForEach kind xs ps
       → FedAll r xs ps
   unfolding whole_tape pieces transduced
-  fed_all {r} {xs} s [] fits no_more =
+  fed_all {r} {xs} s [] fits none =
       let q = append-nil xs in
       record { stands = subst (Stands kind r) (sym q) s; out = λ u. append-nil (fields New (items_on kind xs)) ∙ ap (λ (l : List ℕ). fields New (items_on kind l)) (sym q) }
   fed_all {r} {xs} s (p ∷ ps) fits (more roomy rest) =
@@ -81,26 +80,23 @@ module _ (kind : Machine) where
 
   -- x of the close, and y of the whole tape
   pub record Final (xs : List ℕ) (x y : Result) : Type 0 where
-    pub refused_as : (n place : ℕ) → y ≡ refusal n place → x ≡ refusal n place
-    pub accepted_as : (g : List ℕ) → y ≡ written g → ((n : ℕ) × (x ≡ written (end_field n))) × (fields New (items_on kind xs) ++ bytes_of x ≡ g)
-    pub reached : (g : List ℕ) → y ≡ written g → (t : State) × ((run (start kind) 0 xs).ending ≡ Reached t)
+    pub number_is : number_of (outcome x) ≡ number_of (outcome y)
+    pub place_is : place_of (outcome x) ≡ place_of (outcome y)
+    pub galley_is : (g : List ℕ) → y ≡ written g → (fields New (items_on kind xs) ++ bytes_of x ≡ g) × ((t : State) × ((run (start kind) 0 xs).ending ≡ Reached t))
 
   refused_both : (xs : List ℕ) {x y : Result} {n place : ℕ} → x ≡ refusal n place → y ≡ refusal n place → Final xs x y
-  refused_both xs p q =
-      record { refused_as = λ m at e. p ∙ sym q ∙ e; accepted_as = λ g e. absurd (suc-ne-zero 0 cc); reached = λ g e. absurd (suc-ne-zero 0 cc) }
+  refused_both xs {y = y} {n = n} {place = place} p q =
+      let f : Final xs (refusal n place) (refusal n place) = record { number_is = refl; place_is = refl; galley_is = λ g e. absurd (suc-ne-zero 0 cc) } in
+      subst (λ (x : Result). Final xs x y) (sym p) (subst (Final xs (refusal n place)) (sym q) f)
 
   written_both : (xs : List ℕ) {x y : Result} {t : State} → ends xs ≡ Reached t → x ≡ written (end_field (length (characters_of (items_on kind xs))))
       → y ≡ written (galley New (items_on kind xs)) → Final xs x y
   unfolding galley
-  written_both xs {t = t} e p q =
-      let n = length (characters_of (items_on kind xs)) in
-      record {
-        refused_as = λ m at h. absurd (suc-ne-zero 0 cc);
-        accepted_as = λ g h.
-            let w : fields New (items_on kind xs) ++ end_field n ≡ g = cc in
-            ((n, p), ap (λ (x : Result). fields New (items_on kind xs) ++ bytes_of x) p ∙ w);
-        reached = λ g h. (t, e);
-      }
+  written_both xs {y = y} {t = t} e p q =
+      let end = end_field (length (characters_of (items_on kind xs))) in
+      let f : Final xs (written end) (written (fields New (items_on kind xs) ++ end)) =
+      record { number_is = refl; place_is = refl; galley_is = λ g h. let w : fields New (items_on kind xs) ++ end ≡ g = cc in (w, (t, e)) } in
+      subst (λ (x : Result). Final xs x y) (sym p) (subst (Final xs (written end)) (sym q) f)
 
   pub final : {r : Running} {xs : List ℕ} → Stands kind r xs → length xs ≤ max_tape → (machine : ℕ) → machine_of machine ≡ some kind → (room whole : ℕ)
       → 7 ≤ room → length (galley New (items_on kind xs)) ≤ whole
@@ -122,32 +118,6 @@ module _ (kind : Machine) where
       go false d true s =
           written_both xs e (gives (close_whole (going_at kind xs t) room (going_sound kind xs t e short) d s roomy))
           (at_once (read_whole (start kind) xs whole t e d s (length (fields New (items_on kind xs))) refl (omega (arith, length_galley New (items_on kind xs), enough))))
-
--- a close after these calls, and the whole tape at once: refused alike, or both accepted, with End, and then the joined output is the galley
-pub record InPieces (r : Running) (machine : ℕ) (ps : List Piece) (cs : List Call) (room whole : ℕ) : Type 0 where
-  pub refused_as : (n place : ℕ) → tape_result (whole_tape ps) machine whole ≡ refusal n place → (close_of (tape_after r cs) room).result ≡ refusal n place
-  pub accepted_as : (g : List ℕ) → tape_result (whole_tape ps) machine whole ≡ written g → (n : ℕ) × ((close_of (tape_after r cs) room).result ≡ written (end_field n))
-  pub galley_is : (g : List ℕ) → tape_result (whole_tape ps) machine whole ≡ written g → output r (cs ++ (closing room ∷ [])) ≡ g
-
--- "the final number and place are those of the whole tape at once, and an accepted tape's joined output is its galley"
-pub record AsWhole (r : Running) (machine : ℕ) (ps : List Piece) (cs : List Call) (room whole : ℕ) : Type 0 where
-  pub number_is : number_of (outcome (close_of (tape_after r cs) room).result) ≡ number_of (outcome (tape_result (whole_tape ps) machine whole))
-  pub place_is : place_of (outcome (close_of (tape_after r cs) room).result) ≡ place_of (outcome (tape_result (whole_tape ps) machine whole))
-  pub galley_is : (g : List ℕ) → tape_result (whole_tape ps) machine whole ≡ written g → output r (cs ++ (closing room ∷ [])) ≡ g
-
-pub cut_at_will : {r : Running} {machine : ℕ} {ps : List Piece} {cs : List Call} {room whole : ℕ} → InPieces r machine ps cs room whole → AsWhole r machine ps cs room whole
-cut_at_will {r} {machine} {ps} {cs} {room} {whole} k =
-    record { number_is = compared number_of (λ a b. refl); place_is = compared place_of (λ a b. refl); galley_is = k.galley_is }
-  where
-    compared : (part : Outcome → ℕ) → ((a b : ℕ) → part (accepted a) ≡ part (accepted b))
-        → part (outcome (close_of (tape_after r cs) room).result) ≡ part (outcome (tape_result (whole_tape ps) machine whole))
-    compared part same = go (tape_result (whole_tape ps) machine whole) refl
-      where
-        go : (y : Result) → tape_result (whole_tape ps) machine whole ≡ y → part (outcome (close_of (tape_after r cs) room).result) ≡ part (outcome (tape_result (whole_tape ps) machine whole))
-        go (refusal n place) q = ap (λ (x : Result). part (outcome x)) (k.refused_as n place q ∙ sym q)
-        go (written g) q =
-            let c = k.accepted_as g q in
-            ap (λ (x : Result). part (outcome x)) c.1 ∙ same (length (end_field c.0)) (length g) ∙ ap (λ (x : Result). part (outcome x)) (sym q)
 
 -- a start on a machine of this number of fonts, and pieces within the limit, with room for each
 module _ (r : Running) (machine : ℕ) (kind : Machine) (named : machine_of machine ≡ some kind) (ps : List Piece) (short : length (whole_tape ps) ≤ max_tape) (roomy : RoomForEach kind [] ps) where
@@ -176,9 +146,9 @@ module _ (r : Running) (machine : ℕ) (kind : Machine) (named : machine_of mach
   past_limit {t} h p room long =
       ap (λ (q : Running). (feed_of q p room).result) (stands_open kind after_pieces h) ∙ ap (λ (x : Replied). x.result) (limit kind (whole_tape ps) t h short p room long)
 
-  -- and from then on, until an accepted start
+  -- and from then on, until a start
   pub past_limit_kept : {t : State} → (run (start kind) 0 (whole_tape ps)).ending ≡ Reached t → (p : List ℕ) (room : ℕ) → max_tape < length (whole_tape ps ++ p)
-      → {cs : List Call} → Since cs → Repeated (feed_of fed_tape p room).tape cs tape_too_long 0
+      → {cs : List Call} → AllLater cs → Repeated (feed_of fed_tape p room).tape cs tape_too_long 0
   past_limit_kept h p room long ls = repeats fed_tape (a_piece {bs = p} {room = room}) (past_limit h p room long) (λ e. omega (arith, e)) ls
 
   -- the extents are those of the whole tape's characters so far
@@ -186,55 +156,28 @@ module _ (r : Running) (machine : ℕ) (kind : Machine) (named : machine_of mach
       → fed_tape.extents ≡ extents_of (characters_of (items_on kind (whole_tape ps)))
   extents_whole h = ap (λ (q : Running). q.extents) (stands_open kind after_pieces h)
 
-  -- where calls come to the same running tape and the same output as the start and the pieces
-  pub closes_as : (cs : List Call) → tape_after r cs ≡ fed_tape → output r cs ≡ output r (starting machine ∷ pieces ps) → (room whole : ℕ) → 7 ≤ room
-      → length (galley New (items_on kind (whole_tape ps))) ≤ whole → InPieces r machine ps cs room whole
-  unfolding transduced
-  closes_as cs t o room whole close-room enough =
-      let f = final kind after_pieces short machine named room whole close-room enough in
-      record {
-        refused_as = λ n place e. ap (λ (q : Running). (close_of q room).result) t ∙ f.refused_as n place e;
-        accepted_as = λ g e. let k = (f.accepted_as g e).0 in (k.0, ap (λ (q : Running). (close_of q room).result) t ∙ k.1);
-        galley_is = λ g e.
-            transduced_append bytes_given tape_given r cs (closing room ∷ [])
-            ∙ (λ i. (o ∙ earlier_out (f.reached g e).1) i ++ append-nil (bytes_of (close_of (t i) room).result) i)
-            ∙ (f.accepted_as g e).1;
-      }
+  pub record InPieces (room whole : ℕ) : Type 0 where
+    pub number_is : number_of (outcome (close_of (tape_after r (starting machine ∷ pieces ps)) room).result) ≡ number_of (outcome (tape_result (whole_tape ps) machine whole))
+    pub place_is : place_of (outcome (close_of (tape_after r (starting machine ∷ pieces ps)) room).result) ≡ place_of (outcome (tape_result (whole_tape ps) machine whole))
+    pub galley_is : (g : List ℕ) → tape_result (whole_tape ps) machine whole ≡ written g → output r (calls_for machine ps room) ≡ g
+
+  whole_output : (room : ℕ) {y : Result} → Final kind (whole_tape ps) (close_of fed_tape room).result y → (g : List ℕ) → y ≡ written g
+      → output r (calls_for machine ps room) ≡ g
+  unfolding calls_for transduced
+  whole_output room f g e =
+      let k = f.galley_is g e in
+      transduced_append bytes_given tape_given r (starting machine ∷ pieces ps) (closing room ∷ [])
+      ∙ (λ i. earlier_out k.1.1 i ++ append-nil (bytes_of (close_of fed_tape room).result) i)
+      ∙ k.0
 
   -- the whole tape is read with room for its galley
-  pub in_pieces : (room whole : ℕ) → 7 ≤ room → length (galley New (items_on kind (whole_tape ps))) ≤ whole → InPieces r machine ps (starting machine ∷ pieces ps) room whole
-  in_pieces room whole close-room enough = closes_as (starting machine ∷ pieces ps) refl refl room whole close-room enough
+  pub in_pieces : (room whole : ℕ) → 7 ≤ room → length (galley New (items_on kind (whole_tape ps))) ≤ whole → InPieces room whole
+  in_pieces room whole close-room enough =
+      let f = final kind after_pieces short machine named room whole close-room enough in
+      record { number_is = f.number_is; place_is = f.place_is; galley_is = whole_output room f }
 
-  -- 7 bytes for the close and just the galley's for the whole tape are room enough
-  pub just_enough : InPieces r machine ps (starting machine ∷ pieces ps) 7 (length (galley New (items_on kind (whole_tape ps))))
-  just_enough = in_pieces 7 (length (galley New (items_on kind (whole_tape ps)))) (omega arith) (omega arith)
-
--- ---- with refusals that change nothing in between
-
-module _ (kind : Machine) where
-  -- pieces of which none is refused for room had room each
-  rooms : {r : Running} {xs : List ℕ} → Stands kind r xs → (ps : List Piece) → length (xs ++ whole_tape ps) ≤ max_tape → AllKept r (pieces ps) → RoomForEach kind xs ps
-  unfolding whole_tape pieces
-  rooms s [] fits none_left = no_more
-  rooms {r} {xs} s (p ∷ ps) fits (kept_then e k) =
-      let q : (xs ++ p.codes) ++ whole_tape ps ≡ xs ++ (p.codes ++ whole_tape ps) = append_assoc xs p.codes (whole_tape ps) in
-      let all : length ((xs ++ p.codes) ++ whole_tape ps) ≤ max_tape = omega (arith, ap length q, fits) in
-      let first : length (xs ++ p.codes) ≤ max_tape = omega (arith, length-append (xs ++ p.codes) (whole_tape ps), all) in
-      let roomy = had_room kind s p.codes p.room first (not_void (feed_of r p.codes p.room).result e) in
-      more roomy (rooms (fed kind s p.codes p.room first roomy).stands ps all k)
-
-kept_tail : {r : Running} {c : Call} {cs : List Call} → AllKept r (c ∷ cs) → AllKept (given r c).tape cs
-kept_tail (kept_then e k) = k
-
--- after calls of which a start and these pieces are the ones that were not refused for room or, if starts, with 50: they had room each, and the close gives what the
--- whole tape gives
-pub again : (r : Running) (machine : ℕ) (kind : Machine) → machine_of machine ≡ some kind → (ps : List Piece) → length (whole_tape ps) ≤ max_tape
-    → (cs : List Call) → without_void r cs ≡ starting machine ∷ pieces ps → (room whole : ℕ) → 7 ≤ room → length (galley New (items_on kind (whole_tape ps))) ≤ whole
-    → InPieces r machine ps cs room whole
-unfolding start_of
-again r machine kind named ps short cs q room whole close-room enough =
-    let k : AllKept r (starting machine ∷ pieces ps) = subst (AllKept r) q (all_kept r cs) in
-    let k' : AllKept (fresh kind) (pieces ps) = subst (λ (x : Replied). AllKept x.tape (pieces ps)) (ap (start_on r) named) (kept_tail k) in
-    let w = without_void_lem r cs in
-    closes_as r machine kind named ps short (rooms kind (fresh_stands kind) ps short k') cs
-    (sym w.tape_is ∙ ap (tape_after r) q) (sym w.output_is ∙ ap (output r) q) room whole close-room enough
+  -- the same where calls are refused for room and offered again
+  pub again : (cs : List Call) (room whole : ℕ) → 7 ≤ room → length (galley New (items_on kind (whole_tape ps))) ≤ whole
+      → without_room r cs ≡ calls_for machine ps room
+      → (g : List ℕ) → tape_result (whole_tape ps) machine whole ≡ written g → output r cs ≡ g
+  again cs room whole close-room enough q g e = sym (without_room_lem r cs).output_is ∙ ap (output r) q ∙ (in_pieces room whole close-room enough).galley_is g e

@@ -23,4 +23,4 @@ unfoldable pub if_readable : List ℕ → Bool → Result → Result
 if_readable file whole r = cond (ltb max_file (length file)) (refusal file_too_long 0) (cond whole r (refusal widths_not_whole 0))
 
 unfoldable pub call_refusal : ℕ → Bool → ℕ
-call_refusal bytes whole = cond (ltb max_file bytes) file_too_long (cond whole 0 widths_not_whole)
+call_refusal length whole = cond (ltb max_file length) file_too_long (cond whole 0 widths_not_whole)

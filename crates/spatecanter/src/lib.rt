@@ -3,7 +3,7 @@ ghost use Rattle.galley_file.specs.declared.form.Form.TheVariants.{New};
 ghost use Rattle.std.specs.Prelude.{◌≡◌};
 ghost use Rattle.octets.specs.Answer.{numbers_of, GivesNumbers};
 ghost use Rattle.galley_file.specs.Outcome.{check_outcome};
-ghost use Rattle.galley_check.specs.Found.{found_of, read_back_outcome};
+ghost use Rattle.galley_check.specs.Found.{found_of, outcome_of_found, read_back_outcome};
 ghost use Rattle.tape.specs.Tape.{tape_result};
 ghost use Rattle.conversion.specs.Conversion.{new_result, old_result};
 ghost use Rattle.dvi.specs.Sheet.{sheet_result};
@@ -16,7 +16,7 @@ use octets::answer;
 
 // Number, place and length of reading back.
 fn found_numbers(f: Found) -> [usize; 3]
-    ensures { result ≡ numbers_of (found_of f).outcome }
+    ensures { result ≡ numbers_of (outcome_of_found (found_of f)) }
 {
     match f {
         Found::Placed(_) => [0, 0, 0],
@@ -65,7 +65,7 @@ pub extern "C" fn sp_read_back(
     answer: &mut [usize; 3],
     character: &mut [i32; 4],
 )
-    ensures { (answer.new ≡ numbers_of (read_back_outcome galley.now n).outcome) × (character.new ≡ found_numbers (read_back_outcome galley.now n)) }
+    ensures { (answer.new ≡ numbers_of (outcome_of_found (read_back_outcome galley.now n))) × (character.new ≡ found_numbers (read_back_outcome galley.now n)) }
 {
     let f = galley_check::read_back(galley, n);
     *answer = found_numbers(f);

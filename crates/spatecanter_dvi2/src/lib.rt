@@ -1,8 +1,7 @@
 // The second edition of DVI for C and Rust callers.
-ghost use Rattle.std.specs.Prelude.{ℕ};
-ghost use Rattle.octets.specs.Answer.{Result, GivesNumbers};
+ghost use Rattle.octets.specs.Answer.{GivesNumbers};
 ghost use Rattle.dvi2.specs.Result.{dvi2_result};
-ghost use Rattle.dvi2_reading.specs.Beginning.{Reads};
+ghost use Rattle.dvi2_reading.specs.Reading.{read2_result};
 
 use octets::answer;
 
@@ -18,7 +17,7 @@ pub extern "C" fn sp_write_dvi2(galley: &[u8], dvi: &mut [u8], answer: &mut [usi
 // Reads such a file back into its galley.
 #[unsafe(no_mangle)]
 pub extern "C" fn sp_read_dvi2(dvi: &[u8], galley: &mut [u8], answer: &mut [usize; 3])
-    ensures* { λ _. ⌜ ((result : ℕ → Result) × (Reads dvi.now result × GivesNumbers answer.new result galley.old galley.new)) ⌝ }
+    ensures { GivesNumbers answer.new (read2_result dvi.now) galley.old galley.new }
 {
     let a = dvi2_reader::read_dvi2(dvi, galley);
     *answer = answer::numbers(a);

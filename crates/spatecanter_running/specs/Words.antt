@@ -2,14 +2,11 @@
 --     word_of                 a signed 32-bit number as a word, and signed_in the number that a word holds
 --     words_of                the words of a running tape
 --     tape_in                 the running tape that words hold: all words hold one
---     Lasting                a phase that words can hold
 --     reach_of, font_marks     extents as the numbers that a caller's arrays are given
 --     Holds                  words are those of a running tape, and hold it
---     changes                whether a call has changed the running tape: words_after are stored then, and no word else
---     Stores                 what `keep` promises
---     LeavesTape             what a call promises of the words before and after it, and LeavesWords also of what it gives
-use Rattle.std.specs.Prelude.{ℕ, ◌%◌, ◌≤◌, ◌≡◌, Bool, true, false, cond, List, [], ◌∷◌, eqb, ltb, ℤ, pos, nat_abs, ◌+ℤ◌, ◌-ℤ◌, length, get_or}
-use Rattle.octets.specs.Answer.{Outcome, accepted, refused, outcome, GivesNumbers}
+--     LeavesWords            what a call promises whose running tape is in words
+use Rattle.std.specs.Prelude.{ℕ, ◌%◌, ◌≡◌, Bool, cond, List, [], ◌∷◌, eqb, ℤ, pos, nat_abs, ◌+ℤ◌, ◌-ℤ◌, length, get_or}
+use Rattle.octets.specs.Answer.{GivesNumbers}
 use Rattle.extents.specs.declared.Extents.{Extents}
 use Rattle.typesetter.specs.declared.code.Machine.{Machine}
 use Rattle.typesetter.specs.declared.code.Machine.TheVariants.{Four, Eight}
@@ -54,17 +51,8 @@ place_word AtRest = 0
 place_word Open = 0
 place_word (Failed n place) = place
 
--- a refusal that is kept has one of the numbers 1 to 10: words with another are at rest
-abbrev pub refusal_in : ℕ → ℕ → Phase
-refusal_in n place = cond (ltb n 1) AtRest (cond (ltb 10 n) AtRest (Failed n place))
-
 abbrev pub phase_in : ℕ → ℕ → ℕ → Phase
-phase_in w n place = cond (eqb w 1) Open (cond (eqb w 2) (refusal_in n place) AtRest)
-
-abbrev pub Lasting : Phase → Type 0
-Lasting AtRest = Unit {0}
-Lasting Open = Unit {0}
-Lasting (Failed n place) = (1 ≤ n) × (n ≤ 10)
+phase_in w n place = cond (eqb w 1) Open (cond (eqb w 2) (Failed (n % 256) place) AtRest)
 
 -- ---- all words
 
@@ -129,33 +117,7 @@ pub record Holds (words : List ℕ) (r : Running) : Type 0 where
   pub words_are : words ≡ words_of r
   pub tape_is : tape_in words ≡ r
 
--- a refusal that an open running tape keeps from now on
-abbrev pub newly_kept : Phase → Phase → Bool
-newly_kept AtRest after = false
-newly_kept (Failed n place) after = false
-newly_kept Open AtRest = false
-newly_kept Open Open = false
-newly_kept Open (Failed n place) = true
-
--- the phases before and after a call, and its outcome: an accepted call changes the running tape, and so does a refusal that is newly kept;
--- 50, 12, 13 and a repeated refusal leave it as it was
-abbrev pub changes : Phase → Phase → Outcome → Bool
-changes before after (accepted n) = true
-changes before after (refused n place) = newly_kept before after
-
--- the words after a call: where the running tape is as it was, so is every word
-abbrev pub words_after : List ℕ → Replied → List ℕ
-words_after words x = cond (changes (tape_in words).phase x.tape.phase (outcome x.result)) (words_of x.tape) words
-
-pub record Stores (changed : Bool) (words : List ℕ) (r : Running) (later : List ℕ) : Type 0 where
-  pub words_are : later ≡ cond changed (words_of r) words
-  pub tape_is : changed ≡ true → Lasting r.phase → tape_in later ≡ r
-
-pub record LeavesTape (words later : List ℕ) (x : Replied) : Type 0 where
-  pub words_are : later ≡ words_after words x
-  pub tape_is : tape_in later ≡ x.tape
-
 -- the room is the length of the lent buffer
-pub record LeavesWords (given words left : List ℕ) (reply : ℕ → Replied) (buffer later : List ℕ) : Type 0 where
+pub record LeavesWords (given words : List ℕ) (reply : ℕ → Replied) (buffer later : List ℕ) : Type 0 where
   pub gives : GivesNumbers given (λ (room : ℕ). (reply room).result) buffer later
-  pub leaves : LeavesTape words left (reply (length buffer))
+  pub leaves : Holds words (reply (length buffer)).tape

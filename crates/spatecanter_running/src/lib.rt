@@ -1,11 +1,10 @@
-// The running tape for C and Rust callers: it lies in an array of words that the caller keeps, and lends to each call. A call that leaves the
-// running tape as it was stores no word.
+// The running tape for C and Rust callers: it lies in an array of words that the caller keeps, and lends to each call.
 pub mod words;
 
 ghost use Rattle.std.specs.Prelude.{◌≡◌};
 ghost use Rattle.octets.specs.Answer.{numbers_of, outcome};
 ghost use Rattle.running.specs.Running.{new_tape, start_of, feed_of, close_of};
-ghost use Rattle.spatecanter_running.specs.Words.{tape_in, reach_of, font_marks, Holds, LeavesTape, LeavesWords};
+ghost use Rattle.spatecanter_running.specs.Words.{tape_in, reach_of, font_marks, Holds, LeavesWords};
 
 use octets::answer;
 use words::TapeWords;
@@ -22,13 +21,12 @@ pub extern "C" fn sp_new_tape(tape: &mut TapeWords)
 // Starts a running tape anew, on the machine with so many fonts, 4 or 8.
 #[unsafe(no_mangle)]
 pub extern "C" fn sp_start(tape: &mut TapeWords, machine: u32, answer: &mut [usize; 3])
-    ensures { (answer.new ≡ numbers_of (outcome (start_of (tape_in tape.old) machine).result)) × LeavesTape tape.old tape.new (start_of (tape_in tape.old) machine) }
+    ensures { (answer.new ≡ numbers_of (outcome (start_of (tape_in tape.old) machine).result)) × Holds tape.new (start_of (tape_in tape.old) machine).tape }
 {
-    let r = words::tape_in(*tape);
-    let before = r.phase;
-    let f = kept_calls::start(r, machine);
-    words::keep(tape, before, f);
+    let f = running::started(words::tape_in(*tape), machine);
+    let next = f.tape;
     let a = f.answer;
+    *tape = words::words_of(next);
     *answer = answer::numbers(a);
 }
 
@@ -40,26 +38,24 @@ pub extern "C" fn sp_feed(
     out: &mut [u8],
     answer: &mut [usize; 3],
 )
-    ensures { LeavesWords answer.new tape.old tape.new (feed_of (tape_in tape.old) piece.now) out.old out.new }
+    ensures { LeavesWords answer.new tape.new (feed_of (tape_in tape.old) piece.now) out.old out.new }
 {
-    let r = words::tape_in(*tape);
-    let before = r.phase;
-    let f = kept_calls::feed(r, piece, out);
-    words::keep(tape, before, f);
+    let f = running_piece::fed(words::tape_in(*tape), piece, out);
+    let next = f.tape;
     let a = f.answer;
+    *tape = words::words_of(next);
     *answer = answer::numbers(a);
 }
 
 // The end of the tape: End goes into the lent buffer.
 #[unsafe(no_mangle)]
 pub extern "C" fn sp_close(tape: &mut TapeWords, out: &mut [u8], answer: &mut [usize; 3])
-    ensures { LeavesWords answer.new tape.old tape.new (close_of (tape_in tape.old)) out.old out.new }
+    ensures { LeavesWords answer.new tape.new (close_of (tape_in tape.old)) out.old out.new }
 {
-    let r = words::tape_in(*tape);
-    let before = r.phase;
-    let f = kept_calls::close(r, out);
-    words::keep(tape, before, f);
+    let f = running::closed(words::tape_in(*tape), out);
+    let next = f.tape;
     let a = f.answer;
+    *tape = words::words_of(next);
     *answer = answer::numbers(a);
 }
 

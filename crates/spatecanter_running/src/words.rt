@@ -1,14 +1,11 @@
 // A running tape as an array of words, and back: every array holds one.
 ghost use Rattle.std.specs.Prelude.{◌≡◌, ◌%◌};
-ghost use Rattle.octets.specs.Answer.{outcome_of};
-ghost use Rattle.running.specs.declared.Phase.TheVariants as phases;
-ghost use Rattle.spatecanter_running.specs.Words.{word_of, signed_in, flag_word, machine_word, machine_in, phase_word, number_word, place_word, refusal_in, phase_in, Lasting, words_of, state_in, extents_in, tape_in, newly_kept, changes, Stores};
+ghost use Rattle.spatecanter_running.specs.Words.{word_of, signed_in, flag_word, machine_word, machine_in, phase_word, number_word, place_word, phase_in, state_in, extents_in, tape_in, Holds};
 
 use extents::Extents;
 use extents::fonts::Fonts;
 use measure::{Quanta, Units};
-use octets::answer::Answer;
-use running::{Phase, Reply, Running};
+use running::{Phase, Running};
 use typesetter::code::Machine;
 use typesetter::machine::{Modes, State};
 
@@ -74,9 +71,6 @@ fn byte_word(n: u8) -> u64
     n as u64
 }
 
-// The greatest number of a refusal that is repeated; the least is 1.
-const LAST_KEPT: u64 = 10;
-
 // The three words of a phase: which, and the number and the place of the refusal that is repeated.
 fn phase_word(p: Phase) -> u64
     ensures { result ≡ phase_word p }
@@ -89,7 +83,7 @@ fn phase_word(p: Phase) -> u64
 }
 
 fn number_word(p: Phase) -> u64
-    ensures { result ≡ number_word p }
+    ensures { (result ≡ number_word p) × (result % 256 ≡ number_word p) }
 {
     match p {
         Phase::AtRest => 0,
@@ -108,34 +102,21 @@ fn place_word(p: Phase) -> u64
     }
 }
 
-// The refusal that is repeated; words with a number that no refusal of a piece or closing has are at rest.
-fn refusal_in(n: u64, place: u64) -> Phase
-    ensures { result ≡ refusal_in n place }
-{
-    if n < 1 {
-        return Phase::AtRest;
-    }
-    if LAST_KEPT < n {
-        return Phase::AtRest;
-    }
-    Phase::Failed(n as u8, place as usize)
-}
-
 fn phase_in(w: u64, n: u64, place: u64) -> Phase
     ensures { result ≡ phase_in w n place }
 {
     if w == 1 {
         Phase::Open
     } else if w == 2 {
-        refusal_in(n, place)
+        Phase::Failed((n % 256) as u8, place as usize)
     } else {
         Phase::AtRest
     }
 }
 
-// The words of a running tape, which hold it where its phase is one that words can hold.
+// The words of a running tape, which hold it.
 pub fn words_of(r: Running) -> TapeWords
-    ensures { (result ≡ words_of r) × (Lasting r.phase → tape_in result ≡ r) }
+    ensures { Holds result r }
 {
     let phase = r.phase;
     let state = r.state;
@@ -165,49 +146,6 @@ pub fn words_of(r: Running) -> TapeWords
         r.extents.fonts.low,
         r.extents.fonts.high,
     ]
-}
-
-fn is_failed(p: Phase) -> bool
-    ensures { result ≡ newly_kept phases.Open p }
-{
-    match p {
-        Phase::AtRest => false,
-        Phase::Open => false,
-        Phase::Failed(_, _) => true,
-    }
-}
-
-// Whether a refusal is one that an open running tape keeps from now on.
-fn newly_kept(before: Phase, after: Phase) -> bool
-    ensures { result ≡ newly_kept before after }
-{
-    match before {
-        Phase::AtRest => false,
-        Phase::Failed(_, _) => false,
-        Phase::Open => is_failed(after),
-    }
-}
-
-// Whether a call has changed the running tape.
-fn has_changed(before: Phase, after: Phase, a: Answer) -> bool
-    ensures { result ≡ changes before after (outcome_of a) }
-{
-    match a {
-        Answer::Accepted(_) => true,
-        Answer::Refused(_, _) => newly_kept(before, after),
-    }
-}
-
-// Stores what a call left, if it changed the running tape, whose phase was `before`; no word else.
-pub fn keep(words: &mut TapeWords, before: Phase, reply: Reply)
-    ensures { Stores (changes before reply.tape.phase (outcome_of reply.answer)) words.old reply.tape words.new }
-{
-    let next = reply.tape;
-    let after = next.phase;
-    let a = reply.answer;
-    if has_changed(before, after, a) {
-        *words = words_of(next);
-    }
 }
 
 // The machine's state that words hold.

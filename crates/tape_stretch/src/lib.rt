@@ -57,10 +57,7 @@ fn quick_step(s: State, d: Derived, b: u8) -> Quick
     requires { (Sound s) × (DerivedFrom s d) }
     ensures { Quickly s b result }
 {
-    if b >> 7 == 0 {
-        if d.last_flash < b {
-            return Quick::Slow;
-        }
+    if b <= d.last_flash {
         if b == 0 {
             let here = s.carriage;
             return Quick::At(here);
@@ -74,6 +71,9 @@ fn quick_step(s: State, d: Derived, b: u8) -> Quick
             font: d.font,
             code: code,
         });
+    }
+    if b >> 7 == 0 {
+        return Quick::Slow;
     }
     if d.last_escape < b {
         return Quick::Slow;

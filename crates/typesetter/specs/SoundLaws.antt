@@ -8,7 +8,7 @@ use Rattle.std.specs.Prelude.{◌≡◌, refl, Bool, true, false, cond, List, []
 use Rattle.std.proofs.Common.{ap, ◌∙◌, arith, ltb-true, ltb-false, lit≤}
 use Rattle.std.proofs.lemmas.Bool.{eqb-false}
 use Rattle.integers.specs.Parts.{integers, dif_parts, true_le_z}
-use Rattle.measure.specs.Place.{carriage_end, double_end, height_end, directed_by, within}
+use Rattle.measure.specs.Place.{carriage_end, height_end, directed_by, within}
 use Rattle.measure.specs.PlaceLaws.{InRange, height_in_lem}
 use Rattle.measure.specs.Target.{x_of}
 use Rattle.galley_file.specs.declared.character.Character.{Character}
@@ -106,10 +106,10 @@ code_range true v r e = let l = ltb-false 45 v e in (omega arith, omega arith)
 -- the carriage is in range, so x is valid in its size
 across : (d : Bool) (z : ℤ) → InRange carriage_end z → valid_x d (x_of z d) ≡ true
 unfolding x_of
-across false z r = rw (true_le_z (pos 0) z (omega (integers, r.low)), true_le_z z carriage_end (omega (integers, r.high)))
+across false z r = rw (true_le_z (pos 0) z (omega (integers, r.low)), true_le_z z (pos 3239) (omega (integers, r.high)))
 across true z r =
     let p = dif_parts z (pos 55) in
-    rw (true_le_z (negsuc 54) (z -ℤ pos 55) (omega (integers, r.low)), true_le_z (z -ℤ pos 55) double_end (omega (integers, r.high)))
+    rw (true_le_z (negsuc 54) (z -ℤ pos 55) (omega (integers, r.low)), true_le_z (z -ℤ pos 55) (pos 3184) (omega (integers, r.high)))
 
 in_range_within : (end z : ℤ) → InRange end z → within end z ≡ true
 in_range_within end z r = rw (true_le_z (pos 0) z (omega (integers, r.low)), true_le_z z end (omega (integers, r.high)))

@@ -113,7 +113,7 @@ fn pair_in(m: Modes) -> u8
 }
 
 // The font in force.
-pub fn font_in(machine: Machine, m: Modes) -> u8
+fn font_in(machine: Machine, m: Modes) -> u8
     ensures { (result ≡ font_in machine m) × ((1 ≤ result) × (result ≤ 8)) }
 {
     let pair = pair_in(m);

@@ -1,3 +1,2 @@
 pub mod Puts
 mod Stretches
-mod Places

@@ -1,6 +1,11 @@
 -- The fields of some marks, written or only counted.
 -- Assumes nothing.
-use Rattle.std.proofs.Common.{◌≡◌, ℕ, ◌+◌, Bool, true, false, List, [], ◌∷◌, ◌++◌, length, ℤ, pos, sym, ap, ◌∙◌, length-append}
+use mathlib.Core.Path.{◌≡◌, sym, ap, ◌∙◌}
+use mathlib.Core.Bool.{Bool, true, false}
+use mathlib.Core.List.{List, [], ◌∷◌, ◌++◌}
+use Prim.Native.Nat.{ℕ, ◌+◌}
+use lib.IntN.{ℤ, pos}
+use lib.ListN.{length, length-append}
 use Rattle.octets.specs.Write as O
 use Rattle.octets.specs.Write.{Put, put_named}
 use Rattle.sheet.specs.Sheet.{Mark, page_mark, char_mark, mark_field, mark_fields}

@@ -1,6 +1,13 @@
 -- A stretch of ordinary characters: each is one mark, and x alone changes.
 -- Assumes nothing.
-use Rattle.std.proofs.Common.{◌≡◌, ℕ, ◌+◌, ◌<◌, ◌≤◌, true, List, [], ◌∷◌, ◌++◌, length, get_or, drop, ℤ, pos, ◌+ℤ◌, sym, ap, ◌∙◌, add-zero, arith, length-append}
+use mathlib.Core.Path.{◌≡◌, sym, ap, ◌∙◌}
+use mathlib.Core.Bool.{true}
+use mathlib.Core.List.{List, [], ◌∷◌, ◌++◌}
+use Prim.Native.Nat.{ℕ, ◌+◌, ◌≤◌, ◌<◌}
+use native.Mathlib.Nat.{add-zero}
+use native.Mathlib.Omega.{arith}
+use lib.IntN.{ℤ, pos, ◌+ℤ◌}
+use lib.ListN.{length, get_or, drop, length-append}
 use Rattle.octets.specs.Octets.{fits32}
 use Rattle.sheet.specs.Sheet.{Mark, char_mark}
 use Rattle.sheet.specs.Shown.{shows_first}

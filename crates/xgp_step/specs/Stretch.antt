@@ -2,7 +2,7 @@
 --     Ran           the codes up to a place are ordinary characters
 --     Room          the fields of every such stretch have room
 --     Stretched     what a stretch has read, and put on the sheet
-use Rattle.std.specs.Prelude.{◌≡◌, ℕ, ◌+◌, ◌≤◌, Bool, List, length, drop, ℤ}
+use Rattle.std.specs.Prelude.{◌≡◌, Bool, List, ℕ, ◌+◌, ◌≤◌, ℤ, length, drop}
 use Rattle.sheet.specs.Sheet.{Mark, mark_fields}
 use Rattle.sheet.specs.Shown.{shows_first}
 use Rattle.octets.specs.Write.{Put}

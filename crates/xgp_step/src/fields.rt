@@ -1,5 +1,5 @@
 // The fields of a character.
-ghost use Rattle.std.specs.Prelude.{◌≡◌, ℕ, ◌+◌, ◌≤◌, true, [], ◌∷◌, length, ℤ, pos};
+ghost use Rattle.std.specs.Prelude.{◌≡◌, true, [], ◌∷◌, ℕ, ◌+◌, ◌≤◌, ℤ, pos, length};
 ghost use Rattle.octets.specs.Write.{Put};
 ghost use Rattle.sheet.specs.Sheet.{char_mark, mark_fields};
 ghost use Rattle.sheet.specs.Readable.{last_place};

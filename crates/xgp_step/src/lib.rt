@@ -1,9 +1,8 @@
 // One code of a file of XGP character mode (003), a stretch of ordinary characters, and the fields of a character.
 pub mod fields;
-mod placed;
 pub mod stretch;
 
-ghost use Rattle.std.specs.Prelude.{◌≡◌, ◌+◌, ◌<◌, ◌≤◌, length, drop, slice_index};
+ghost use Rattle.std.specs.Prelude.{◌≡◌, ◌+◌, ◌≤◌, ◌<◌, length, get_or, drop};
 ghost use Rattle.xgp.specs.Effect.{effect_of};
 ghost use Rattle.xgp.specs.File as S;
 ghost use Rattle.xgp_step.specs.Step.{step_of};
@@ -35,7 +34,7 @@ fn after_effect(n: usize, e: Effect) -> Stepped
 // The code at `at`.
 pub fn step(file: &[u8], spacing: u16, widths: &[i32], at: usize, s: State) -> Stepped
     requires { (at < length file.now) × (s.page + 1 ≤ 2147483647) }
-    ensures { step_of s result ≡ S.step widths.now spacing s (slice_index file.now at) (drop (at + 1) file.now) }
+    ensures { step_of s result ≡ S.step widths.now spacing s (get_or file.now at 0) (drop (at + 1) file.now) }
 {
     let b = file[at];
     let d = xgp_code::decode(file, at + 1, b);

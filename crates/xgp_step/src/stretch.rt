@@ -1,11 +1,10 @@
 // Stretches of ordinary characters, the commonest codes, without the whole step.
-ghost use Rattle.std.specs.Prelude.{◌≡◌, ◌+◌, ◌*◌, ◌≤◌, true, length};
+ghost use Rattle.std.specs.Prelude.{◌≡◌, true, ◌+◌, ◌*◌, ◌≤◌, length};
 ghost use Rattle.sheet.specs.Readable.{max_file};
 ghost use Rattle.xgp_code.specs.Measure.{in_dots};
 ghost use Rattle.xgp.specs.State.{y_in};
 ghost use Rattle.xgp_step.specs.Stretch.{Stretched, Room};
 
-use crate::placed;
 use octets::reach;
 use octets::reach::Reach;
 use xgp::state;
@@ -62,9 +61,8 @@ fn set_stretch(
     requires room { writing ≡ true → Room widths.now spacing file.now s from first (length out.old) }
     ensures { Stretched widths.now spacing file.now s from first writing out.old out.new result }
 {
-    let start = s.x;
-    let mut x = start.0;
-    let mut place = placed::place_of(x, y.0);
+    let place = s.x;
+    let mut x = place.0;
     let mut at = from;
     let mut to = first;
     while at < file.len() {
@@ -80,9 +78,8 @@ fn set_stretch(
         let sum = reach::sum(x, w);
         match sum {
             Reach::To(v) => {
-                let next = placed::show_char(out, to, place, font, b, writing);
+                let next = sheet::show_char(out, to, x, y.0, font as i32, b, writing);
                 to = next;
-                place = placed::moved(place, w);
                 x = v;
                 at = at + 1;
             }

@@ -1,14 +1,13 @@
-//! Explains refusals of DVI files of the second edition: what was found, and what the writer puts there.
+//! Refusals of DVI files of the second edition in words: what stands at the place, and what the writer puts there.
 
 use super::{offset, Explained};
-use crate::dvi2::{amount, first_command, name, write_dvi2};
-use crate::font::FontNumber;
-use crate::limits::{CHARACTER_FIELD_BYTES, CUT_FIELD_BYTES, ITEM_LIMIT};
+use crate::edition2::write_dvi2;
+use crate::operations::ITEM_LIMIT;
 use crate::refusal::Refusal;
 use crate::text::grouped;
 
 impl Refusal {
-    /// Explains the refusal of a DVI file of the second edition.
+    /// What it says of a DVI file of the second edition.
     ///
     /// ```
     /// use spatecanter::read_dvi2;
@@ -21,22 +20,21 @@ impl Refusal {
             return Explained::new(self);
         };
         let before = Before::new(dvi, place);
-        let rest = dvi.get(place..).unwrap_or_default();
-        let (stands, expected) = match rest.first() {
-            Some(&command) => (in_words(command), before.expected(rest, command)),
+        let (stands, expected) = match dvi.get(place) {
+            Some(&command) => (in_words(command), before.expected(&dvi[place..])),
             None => ("the end of the file".into(), before.expected_rest(dvi)),
         };
-        Explained::of(self, format!("{}: {stands}", offset(place)), expected)
+        let found = format!("{}: {stands}", offset(place));
+        Explained { refusal: self, found: Some(found), expected: Some(expected) }
     }
 }
 
-/// The stage that the commands before a place reach.
-#[derive(Clone, Copy, Default, PartialEq)]
+/// Where the commands before a place lead.
+#[derive(Clone, Copy, PartialEq)]
 enum Stage {
     /// Before the first page.
-    #[default]
     Start,
-    /// On a page, before the next character or eop.
+    /// On a page, where a character begins or eop comes.
     Page,
     /// On a page, after a definition; after a font; after a move right; after a move down.
     Defined,
@@ -49,19 +47,18 @@ enum Stage {
     End,
 }
 
-/// The commands before a place, all of which the writer could have written.
-#[derive(Default)]
+/// The good commands before a place.
 struct Before {
     stage: Stage,
-    /// The offset of their end: the place, or the start of an incomplete command.
+    /// Where they end: at the place, or before a command that is cut short.
     place: usize,
     /// The characters and cuts, as fields of a galley, and their numbers.
     fields: Vec<u8>,
-    characters: usize,
+    characters: u32,
     cuts: usize,
     /// The fonts defined.
     fonts: Vec<u8>,
-    /// The font in force, or the one just defined; and the place after the last move.
+    /// The font in force, or the one just defined; and where the last move led.
     font: Option<u8>,
     x: i32,
     y: i32,
@@ -69,9 +66,20 @@ struct Before {
 
 impl Before {
     fn new(dvi: &[u8], place: usize) -> Before {
-        let mut before = Before::default();
-        while before.place < place && before.items() <= ITEM_LIMIT {
-            let Some(command) = first_command(dvi.get(before.place..).unwrap_or_default()) else { break };
+        let mut before = Before {
+            stage: Stage::Start,
+            place: 0,
+            fields: vec![],
+            characters: 0,
+            cuts: 0,
+            fonts: vec![],
+            font: None,
+            x: 0,
+            y: 0,
+        };
+        while before.place < place {
+            let rest = &dvi[before.place..];
+            let Some(command) = rest.get(..length(rest[0])) else { break };
             before.take(command);
             before.place += command.len();
         }
@@ -96,11 +104,11 @@ impl Before {
             171..=234 => self.font(command[0] - 171),
             235 => self.font(command[1]),
             143..=146 => {
-                self.x = self.x.saturating_add(amount(command));
+                self.x += amount(command);
                 Stage::Right
             }
             157..=160 => {
-                self.y = self.y.saturating_add(amount(command));
+                self.y += amount(command);
                 Stage::Down
             }
             133 => {
@@ -115,7 +123,7 @@ impl Before {
         };
     }
 
-    /// Takes a font command; in the postamble it is one of the last bytes.
+    /// A font command, or in the postamble one of its last bytes.
     fn font(&mut self, font: u8) -> Stage {
         if self.stage == Stage::End {
             return Stage::End;
@@ -124,31 +132,31 @@ impl Before {
         Stage::Font
     }
 
-    /// The field of a character at the place after the last move.
-    fn field(&self, font: u8, code: u8) -> [u8; CHARACTER_FIELD_BYTES] {
+    /// The field of a character where the last move led.
+    fn field(&self, font: u8, code: u8) -> [u8; 11] {
         let [x1, x2] = (self.x as i16).to_be_bytes();
         let [a, b, c, d] = (self.y / 3).to_be_bytes();
         [7, 0, 8, x1, x2, a, b, c, d, font, code]
     }
 
-    /// The command that the writer puts at the place if these fields are the next and the last ones.
+    /// The command that the writer puts at the place if these fields come next and are the last.
     fn written(&self, next: &[u8]) -> Option<String> {
-        let characters = self.characters + usize::from(next.len() > CUT_FIELD_BYTES);
-        let count = u32::try_from(characters).ok()?.to_be_bytes();
-        let galley = [&self.fields, next, &[2, 0, 4], &count].concat();
+        let characters = self.characters + u32::from(next.len() > 3);
+        let galley = [&self.fields, next, &[2, 0, 4], &characters.to_be_bytes()].concat();
         let dvi = write_dvi2(&galley).ok()?;
-        let command = first_command(dvi.as_bytes().get(self.place..)?);
+        let rest = &dvi[self.place.min(dvi.len())..];
+        let command = rest.first().map(|&command| &rest[..length(command)]);
         Some(command.map_or("the end of the file".into(), in_bytes))
     }
 
-    /// The command that the writer puts before a character of a font: its definition or, after that, the font.
+    /// The definition of a font, or after that its command: what the writer puts before a character of it.
     fn written_font(&self, font: u8) -> Option<String> {
         self.written(&[7, 0, 8, 0, 0, 0, 0, 0, 0, font, 1])
     }
 
-    /// What was expected in place of the command that starts `rest`.
-    fn expected(&self, rest: &[u8], command: u8) -> String {
-        let exactly = match (self.stage, command) {
+    /// What was expected in place of the first command of a rest.
+    fn expected(&self, rest: &[u8]) -> String {
+        let exactly = match (self.stage, rest[0]) {
             (Stage::Start | Stage::End, _) => self.written(&[]),
             (Stage::AfterPage, 139) if !self.is_full() => self.written(&[6, 0, 0]),
             (Stage::AfterPage, 248) => self.written(&[]),
@@ -159,25 +167,21 @@ impl Before {
                 .and_then(|&font| self.written_font(font)),
             _ => None,
         };
-        exactly.unwrap_or_else(|| self.expected_kind(rest, command))
+        exactly.unwrap_or_else(|| self.expected_kind(rest))
     }
 
-    fn items(&self) -> usize {
-        self.characters + self.cuts
-    }
-
-    /// Whether a galley holds no further character or cut.
+    /// Whether there are as many characters and cuts as there can be.
     fn is_full(&self) -> bool {
-        self.items() >= ITEM_LIMIT
+        self.characters as usize + self.cuts == ITEM_LIMIT
     }
 
-    fn expected_kind(&self, rest: &[u8], command: u8) -> String {
+    fn expected_kind(&self, rest: &[u8]) -> String {
         let full = || format!("after {} characters and cuts", grouped(ITEM_LIMIT));
-        match (self.stage, command) {
+        match (self.stage, rest[0]) {
             (Stage::AfterPage, _) if self.is_full() => format!("post (F8), {}", full()),
             (Stage::AfterPage, _) => "bop (8B) of the next page, or post (F8)".into(),
             (Stage::Page, _) if self.is_full() => format!("eop (8C), {}", full()),
-            (Stage::Page, 171..=238) => self.expected_font(rest, command),
+            (Stage::Page, 171..=238) => self.expected_font(rest),
             (Stage::Page | Stage::Font, 143..=146) if self.font.is_some() => {
                 format!("the shortest move right from {} to another x, {}", self.x, self.range())
             }
@@ -190,10 +194,10 @@ impl Before {
         }
     }
 
-    /// What was expected in place of a font command, 171 to 238.
-    fn expected_font(&self, rest: &[u8], command: u8) -> String {
-        let font = if command < 235 { command - 171 } else { rest.get(1).copied().unwrap_or(u8::MAX) };
-        if font > 119 || command > 235 || (font < 64) != (command < 235) {
+    /// What may come where a font is not right.
+    fn expected_font(&self, rest: &[u8]) -> String {
+        let font = if rest[0] < 235 { rest[0] - 171 } else { rest.get(1).copied().unwrap_or(u8::MAX) };
+        if font > 119 || rest[0] > 235 || (font < 64) != (rest[0] < 235) {
             "a font of 0 to 119, in the shortest form (AB to EA, or EB 40 to EB 77)".into()
         } else if self.font == Some(font) {
             format!("no font, since font {font} is in force")
@@ -205,24 +209,25 @@ impl Before {
         }
     }
 
-    fn font_number(&self) -> Option<FontNumber> {
-        self.font.and_then(FontNumber::new)
-    }
-
     /// Whether a font is in force, and x is valid in it.
     fn has_place(&self) -> bool {
-        self.font_number().is_some_and(|number| number.x_range().contains(&self.x))
+        let shift = if self.is_double() { 55 } else { 0 };
+        self.font.is_some() && (0..3_240).contains(&(self.x + shift))
+    }
+
+    fn is_double(&self) -> bool {
+        self.font.is_some_and(|font| font % 15 >= 9)
     }
 
     fn range(&self) -> &'static str {
-        if self.font_number().is_some_and(FontNumber::is_double) {
+        if self.is_double() {
             "-55 to 3,184 in a double size"
         } else {
             "0 to 3,239 in a single size"
         }
     }
 
-    /// The kinds of command that may come next.
+    /// What may come next at all.
     fn expected_next(&self) -> String {
         match self.stage {
             Stage::Page if self.font.is_none() => {
@@ -242,13 +247,35 @@ impl Before {
     fn expected_rest(&self, dvi: &[u8]) -> String {
         match dvi.get(self.place) {
             Some(&command) => format!("the rest of {} at {}", in_words(command), self.place),
-            // As if the next command were 0, which the writer writes nowhere.
-            None => self.expected(&[0], 0),
+            // As in place of a command that is good nowhere.
+            None => self.expected(&[0]),
         }
     }
 }
 
-/// A command, by its name and its bytes.
+/// The bytes of a command that the writer uses, with its parameters; of any other, one.
+fn length(command: u8) -> usize {
+    match command {
+        133..=136 => usize::from(command) - 131,
+        139 => 45,
+        143..=146 => usize::from(command) - 141,
+        157..=160 => usize::from(command) - 155,
+        235..=238 => usize::from(command) - 233,
+        243 => 20,
+        247 => 15,
+        248 => 29,
+        249 => 6,
+        _ => 1,
+    }
+}
+
+/// The signed number after a move's command.
+fn amount(command: &[u8]) -> i32 {
+    let high = i32::from(command[1] as i8);
+    command[2..].iter().fold(high, |number, &byte| number << 8 | i32::from(byte))
+}
+
+/// A command by its name and its bytes.
 fn in_bytes(command: &[u8]) -> String {
     let bytes: Vec<String> = command.iter().map(|byte| format!("{byte:02X}")).collect();
     format!("{} as {}", name(command[0]), bytes.join(" "))
@@ -256,4 +283,39 @@ fn in_bytes(command: &[u8]) -> String {
 
 fn in_words(command: u8) -> String {
     format!("command {command}, {}", name(command))
+}
+
+/// A command's name in DVItype.
+fn name(command: u8) -> String {
+    let numbered = |name: &str, first: u8| format!("{name}{}", command - first + 1);
+    match command {
+        0..=127 => format!("set_char_{command}"),
+        128..=131 => numbered("set", 128),
+        132 => "set_rule".into(),
+        133..=136 => numbered("put", 133),
+        137 => "put_rule".into(),
+        138 => "nop".into(),
+        139 => "bop".into(),
+        140 => "eop".into(),
+        141 => "push".into(),
+        142 => "pop".into(),
+        143..=146 => numbered("right", 143),
+        147 => "w0".into(),
+        148..=151 => numbered("w", 148),
+        152 => "x0".into(),
+        153..=156 => numbered("x", 153),
+        157..=160 => numbered("down", 157),
+        161 => "y0".into(),
+        162..=165 => numbered("y", 162),
+        166 => "z0".into(),
+        167..=170 => numbered("z", 167),
+        171..=234 => format!("fnt_num_{}", command - 171),
+        235..=238 => numbered("fnt", 235),
+        239..=242 => numbered("xxx", 239),
+        243..=246 => numbered("fnt_def", 243),
+        247 => "pre".into(),
+        248 => "post".into(),
+        249 => "post_post".into(),
+        250..=255 => "which is undefined".into(),
+    }
 }

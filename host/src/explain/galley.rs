@@ -1,44 +1,42 @@
-//! Explains refusals of galleys.
+//! Refusals of galleys in words.
 
-use super::{bytes_in_words, offset, Explained, Hint};
-use crate::font::FontNumber;
+use super::{bytes_in_words, offset, Explained};
 use crate::galley::{items, Form, Item};
-use crate::limits::{CHARACTER_FIELD_BYTES, HEIGHT_LIMIT, ITEM_LIMIT, LAST_CODE};
+use crate::operations::ITEM_LIMIT;
 use crate::refusal::Refusal;
 use crate::text::{counted, grouped};
 
 impl Refusal {
-    /// Explains the refusal of a galley that was read in this form.
+    /// What it says of a galley that was taken for one of this form.
     ///
     /// ```
-    /// use spatecanter::{galley_to_new, Form, Hint};
+    /// use spatecanter::{galley_to_new, Form};
     ///
     /// let galley = [7, 0, 8];
-    /// let explained = galley_to_new(&galley).unwrap_err().in_galley(&galley, Form::Old);
-    /// assert!(explained.expected.unwrap().ends_with("tag 7 is the new form"));
-    /// assert_eq!(explained.hint, Some(Hint::NewForm));
+    /// let refusal = galley_to_new(&galley).unwrap_err();
+    /// let expected = refusal.in_galley(&galley, Form::Old).expected.unwrap();
+    /// assert!(expected.contains("tag 7 is the new form"));
     /// ```
     pub fn in_galley(self, galley: &[u8], form: Form) -> Explained {
-        let (before, rest) = galley.split_at(self.place().min(galley.len()));
-        let (expected, hint) = match self {
-            Refusal::GalleyMalformed { .. } => expected_field(form, run_of(before), rest),
-            Refusal::HeightTooGreat { .. } => (expected_height(rest), None),
+        let rest = &galley[self.place().min(galley.len())..];
+        let expected = match self {
+            Refusal::GalleyMalformed { place } => expected_field(form, galley, place),
+            Refusal::HeightTooGreat { .. } => expected_height(rest),
             _ => return Explained::new(self),
         };
-        let bytes = bytes_in_words(rest, CHARACTER_FIELD_BYTES);
-        let found = format!("{} of the galley: {bytes}", offset(self.place()));
-        Explained { hint, ..Explained::of(self, found, expected) }
+        let found = format!("{} of the galley: {}", offset(self.place()), bytes_in_words(rest, 11));
+        Explained { refusal: self, found: Some(found), expected: Some(expected) }
     }
 }
 
-/// What was expected in place of the first bad field of a galley of this form.
-fn expected_field(form: Form, before: Run, rest: &[u8]) -> (String, Option<Hint>) {
-    let expected = match (form, rest) {
-        _ if before.ended => "the end of the file, since End was read".into(),
-        (_, [2, 0, 4, _, _, _, _, ..]) => {
-            format!("an End that counts {}", counted(before.characters, "character"))
-        }
-        _ if before.is_full() => {
+/// What is wrong with the first bad field of a galley of this form.
+fn expected_field(form: Form, galley: &[u8], place: usize) -> String {
+    let (before, rest) = galley.split_at(place.min(galley.len()));
+    let Run { characters, cuts, ended } = run_of(before);
+    match (form, rest) {
+        _ if ended => "the end of the file, since End was read".into(),
+        (_, [2, 0, 4, _, _, _, _, ..]) => format!("an End that counts {}", counted(characters, "character")),
+        _ if characters + cuts == ITEM_LIMIT => {
             format!("End (02 00 04 ...), after {} characters and cuts", grouped(ITEM_LIMIT))
         }
         (Form::New, [7, 0, 8, _, _, height1, height2, height3, height4, font_number, code, ..]) => {
@@ -53,33 +51,25 @@ fn expected_field(form: Form, before: Run, rest: &[u8]) -> (String, Option<Hint>
             "the rest of the field, which is cut short".into()
         }
         (Form::New, [1, ..]) => {
-            return ("a character (07 00 08 ...); tag 1 is the old form".into(), Some(Hint::OldForm));
+            "a character (07 00 08 ...); tag 1 is the old form, see spatecanter convert --to new".into()
         }
         (Form::Old, [7, ..]) => {
-            return ("a character (01 00 06 ...); tag 7 is the new form".into(), Some(Hint::NewForm));
+            "a character (01 00 06 ...); tag 7 is the new form, see spatecanter convert --to old".into()
         }
         (Form::New, _) => "a character (07 00 08 ...), a cut (06 00 00) or End (02 00 04 ...)".into(),
         (Form::Old, _) => "a character (01 00 06 ...), a cut (06 00 00) or End (02 00 04 ...)".into(),
-    };
-    (expected, None)
+    }
 }
 
-/// The fields before the first bad one: the number of characters and of cuts, and whether there is an End.
-#[derive(Clone, Copy, Default)]
+/// What stands before the first bad field: how many characters and cuts, and whether End.
+#[derive(Default)]
 struct Run {
     characters: usize,
     cuts: usize,
     ended: bool,
 }
 
-impl Run {
-    /// Whether a galley holds no further character or cut.
-    fn is_full(self) -> bool {
-        self.characters + self.cuts >= ITEM_LIMIT
-    }
-}
-
-/// Counts valid fields of one form.
+/// Good fields of one form.
 fn run_of(fields: &[u8]) -> Run {
     let mut run = Run::default();
     let mut rest = fields;
@@ -96,18 +86,20 @@ fn run_of(fields: &[u8]) -> Run {
 }
 
 fn expected_character(height: u32, font_number: u8, code: u8) -> &'static str {
-    if height > HEIGHT_LIMIT.unsigned_abs() {
-        return "a height of 0 to 1,000,000";
-    }
-    match FontNumber::new(font_number) {
-        None => "a font number of 0 to 119",
-        Some(_) if !(1..=LAST_CODE).contains(&code.into()) => "a character of 1 to 108",
-        Some(number) if number.is_double() => "an x of -55 to 3,184, in a double size",
-        Some(_) => "an x of 0 to 3,239, in a single size",
+    if height > 1_000_000 {
+        "a height of 0 to 1,000,000"
+    } else if font_number > 119 {
+        "a font number of 0 to 119"
+    } else if !(1..=108).contains(&code) {
+        "a character of 1 to 108"
+    } else if font_number % 15 >= 9 {
+        "an x of -55 to 3,184, in a double size"
+    } else {
+        "an x of 0 to 3,239, in a single size"
     }
 }
 
-/// What DVI of 1980 and the old form require of the character at the start of a rest.
+/// What DVI and the old form ask of the height of the character that comes first in a rest.
 fn expected_height(rest: &[u8]) -> String {
     let height = match items(rest).next() {
         Some(Item::Character(character)) => character.height as usize,

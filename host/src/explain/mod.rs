@@ -1,6 +1,6 @@
-//! Refusals in words: what was found at the place, and what was expected there.
+//! Refusals in words: what stands at the place, and what was expected there.
 
-mod dvi1980;
+mod dvi;
 mod dvi2;
 mod galley;
 mod tape;
@@ -10,7 +10,7 @@ use crate::refusal::Refusal;
 use std::error::Error;
 use std::fmt;
 
-/// A refusal with what was found at its place and what was expected there, as far as they are known.
+/// A refusal with what stands at its place and what was expected there, as far as there is something to tell.
 ///
 /// ```
 /// use spatecanter::{read_tape, Machine};
@@ -24,43 +24,15 @@ use std::fmt;
 pub struct Explained {
     /// The refusal.
     pub refusal: Refusal,
-    /// What was found at the place.
+    /// What stands at the place.
     pub found: Option<String>,
-    /// What was expected there.
+    /// What would have been right there.
     pub expected: Option<String>,
-    /// What the input may be instead. The text does not say it.
-    pub hint: Option<Hint>,
-}
-
-/// What a refused input may be instead, or where its reader may look. A program can turn it into advice.
-///
-/// ```
-/// use spatecanter::{read_tape, Hint, Machine};
-///
-/// let tape = [0x40, 0x4E, 0x49];
-/// let explained = read_tape(&tape, Machine::Four).unwrap_err().in_tape(&tape, Machine::Four);
-/// assert_eq!(explained.hint, Some(Hint::EightFontMachine));
-/// ```
-#[derive(Clone, Copy, Debug, PartialEq, Eq, Hash)]
-#[non_exhaustive]
-pub enum Hint {
-    /// The tape has a tilt code, so it was made for the 8-font machine.
-    EightFontMachine,
-    /// The galley is of the old form.
-    OldForm,
-    /// The galley is of the new form.
-    NewForm,
-    /// The XGP file has a code that is not read here.
-    XgpCodes,
 }
 
 impl Explained {
     fn new(refusal: Refusal) -> Explained {
-        Explained { refusal, found: None, expected: None, hint: None }
-    }
-
-    fn of(refusal: Refusal, found: String, expected: String) -> Explained {
-        Explained { found: Some(found), expected: Some(expected), ..Explained::new(refusal) }
+        Explained { refusal, found: None, expected: None }
     }
 }
 
@@ -83,7 +55,7 @@ impl Error for Explained {
     }
 }
 
-/// Bytes that are not a valid file, and why.
+/// Bytes that are not what they were taken for, and why.
 ///
 /// ```
 /// use spatecanter::Galley;
@@ -114,18 +86,6 @@ impl Refused {
     /// ```
     pub fn refusal(&self) -> Refusal {
         self.explained.refusal
-    }
-
-    /// The refusal, explained.
-    ///
-    /// ```
-    /// use spatecanter::{Galley, Hint};
-    ///
-    /// let refused = Galley::from_bytes(vec![1]).unwrap_err();
-    /// assert_eq!(refused.explained().hint, Some(Hint::OldForm));
-    /// ```
-    pub fn explained(&self) -> &Explained {
-        &self.explained
     }
 
     /// The bytes.
@@ -159,12 +119,12 @@ impl Error for Refused {
     }
 }
 
-/// An offset in words.
+/// A place in words.
 fn offset(place: usize) -> String {
     format!("at offset {place} (hexadecimal {place:X})")
 }
 
-/// The first bytes of a rest, in hexadecimal.
+/// The first bytes of a rest in hexadecimal.
 fn bytes_in_words(rest: &[u8], most: usize) -> String {
     if rest.is_empty() {
         return "the end of the file".into();

@@ -1,13 +1,13 @@
-//! Explains refusals of tapes.
+//! Refusals of tapes in words.
 
-use super::{offset, Explained, Hint};
+use super::{offset, Explained};
 use crate::galley::{items, Item};
-use crate::limits::{CARRIAGE_END, HEIGHT_LIMIT};
+use crate::machine::Machine;
 use crate::refusal::Refusal;
-use crate::tape::{has_tilt_code, Machine, RunningTape, TapeCode};
+use crate::running::RunningTape;
 
 impl Refusal {
-    /// Explains the refusal of a whole tape for this machine.
+    /// What it says of a whole tape of this machine.
     ///
     /// ```
     /// use spatecanter::{read_tape, Machine};
@@ -21,8 +21,8 @@ impl Refusal {
         self.in_piece(&before, 0, tape, machine)
     }
 
-    /// Explains the refusal of a piece, or of closing (an empty `piece`). `fed` is the number of bytes fed before it
-    /// and `before` the running tape at that moment.
+    /// What it says of a piece, or of a closing with an empty one, before which so many bytes were fed. `before` is the
+    /// running tape as it was then.
     ///
     /// ```
     /// use spatecanter::{Machine, RunningTape};
@@ -37,7 +37,7 @@ impl Refusal {
     /// # Ok::<(), spatecanter::Refusal>(())
     /// ```
     pub fn in_piece(self, before: &RunningTape, fed: usize, piece: &[u8], machine: Machine) -> Explained {
-        // The place of only these is that of a byte, or the tape's length.
+        // Only these are at a byte of the tape, or at its end.
         if !(2..=10).contains(&self.number()) {
             return Explained::new(self);
         }
@@ -47,19 +47,12 @@ impl Refusal {
             Some(code) => format!("{place}: byte {code:02X}, {}", code_in_words(code)),
             None => format!("{place}: the end of the tape"),
         };
-        let code = code.unwrap_or(0);
-        let expected = expected_code(codes, code, machine, self);
-        Explained { hint: hint(self, code, machine), ..Explained::of(self, found, expected) }
+        let expected = expected_code(codes, code.unwrap_or(0), machine, self);
+        Explained { refusal: self, found: Some(found), expected: Some(expected) }
     }
 }
 
-/// A tilt code is illegal on the 4-font machine alone.
-fn hint(refusal: Refusal, code: u8, machine: Machine) -> Option<Hint> {
-    let is_illegal = matches!(refusal, Refusal::IllegalCode { .. });
-    (is_illegal && machine == Machine::Four && has_tilt_code(&[code])).then_some(Hint::EightFontMachine)
-}
-
-/// A run of codes, their offset on the tape, and the running tape before them.
+/// Some codes of a tape, where they start, and the running tape before them.
 #[derive(Clone, Copy)]
 struct Stretch<'a> {
     before: &'a RunningTape,
@@ -68,13 +61,13 @@ struct Stretch<'a> {
 }
 
 impl Stretch<'_> {
-    /// The code at an offset of the tape.
+    /// The code at a place of the tape.
     fn code(self, place: usize) -> Option<u8> {
         self.codes.get(place.checked_sub(self.start)?).copied()
     }
 
-    /// The carriage and the height before a place. They are those of one more character there, in size 7; a parked
-    /// carriage first leaves the switch.
+    /// The carriage and the height before a place: those of one more character there, in size 7. A parked
+    /// carriage has to leave the switch first.
     fn standing(self, place: usize) -> Option<(i32, i32)> {
         let mut tape = self.before.clone();
         tape.feed(self.codes.get(..place.checked_sub(self.start)?)?).ok()?;
@@ -88,15 +81,39 @@ impl Stretch<'_> {
     }
 }
 
-/// A code in words, with an article.
 fn code_in_words(code: u8) -> String {
-    match TapeCode::from(code) {
-        TapeCode::Illegal => "which has no meaning".into(),
-        TapeCode::Size(_) => "a size".into(),
-        code @ (TapeCode::Flash(_) | TapeCode::Lead(_) | TapeCode::Cut) => format!("a {code}"),
-        code @ TapeCode::Escape(_) => format!("an {code}"),
-        code => code.to_string(),
-    }
+    let words = match code {
+        0x00 => "nothing",
+        0x01..=0x3F => return format!("a flash of {code}"),
+        0x40 => "initialize",
+        0x41 => "lower rail",
+        0x42 => "upper rail",
+        0x43 => "upper mag",
+        0x44 => "lower mag",
+        0x45 => "lower half",
+        0x46 => "upper half",
+        0x47 => "escape forward",
+        0x48 => "escape backward",
+        0x49 => "stop",
+        0x4A => "lead forward",
+        0x4B => "a cut",
+        0x4C => "lead backward",
+        0x4E => "tilt up",
+        0x4F => "tilt down",
+        0x4D | 0x5F | 0xFF => "which means nothing to the machine",
+        0x50..=0x5E => "a size",
+        0x60..=0x7F => return format!("a lead of {} quanta", lead_size(code)),
+        0x80..=0xFE => return format!("an escape of {} units", escape_size(code)),
+    };
+    words.into()
+}
+
+fn lead_size(code: u8) -> i32 {
+    i32::from(!code & 31)
+}
+
+fn escape_size(code: u8) -> i32 {
+    i32::from(!code & 127)
 }
 
 fn expected_code(codes: Stretch, code: u8, machine: Machine, refusal: Refusal) -> String {
@@ -115,36 +132,31 @@ fn expected_code(codes: Stretch, code: u8, machine: Machine, refusal: Refusal) -
     words.into()
 }
 
-/// The legal codes. An illegal tilt may mean that the tape was made for the other machine.
+/// Which codes are legal. A tilt that is not may tell that the tape was made for the other machine.
 fn expected_legal_code(machine: Machine, code: u8) -> &'static str {
-    match machine {
-        Machine::Eight => "any code but 4D, 5F and FF",
-        Machine::Four if has_tilt_code(&[code]) => {
-            "any code but 4D to 4F, 5F and FF; tilts are codes of the 8-font machine"
+    match (machine, code) {
+        (Machine::Eight, _) => "any code but 4D, 5F and FF",
+        (Machine::Four, 0x4E | 0x4F) => {
+            "any code but 4D to 4F, 5F and FF; tilts are codes of the 8-font machine (--machine 8)"
         }
-        Machine::Four => "any code but 4D to 4F, 5F and FF",
+        (Machine::Four, _) => "any code but 4D to 4F, 5F and FF",
     }
 }
 
-/// The range of a motion, and where the refused one would end.
+/// What a motion has to keep to, and where it would go.
 fn expected_motion(codes: Stretch, code: u8, place: usize) -> String {
     let standing = codes.standing(place);
-    match TapeCode::from(code) {
-        TapeCode::Lead(size) => {
-            let way = standing.map_or(String::new(), |(_, height)| way(height, size, HEIGHT_LIMIT));
-            format!("a lead that keeps the height in 0 to 1,000,000{way}")
-        }
-        TapeCode::Escape(size) => {
-            let way = standing.map_or(String::new(), |(carriage, _)| way(carriage, size, CARRIAGE_END));
-            format!("an escape that keeps the carriage in 0 to 3,239{way}")
-        }
-        _ => "a motion that stays in its range".into(),
+    if code >= 0x80 {
+        let way = standing.map_or(String::new(), |(carriage, _)| way(carriage, escape_size(code), 3_239));
+        format!("an escape that keeps the carriage in 0 to 3,239{way}")
+    } else {
+        let way = standing.map_or(String::new(), |(_, height)| way(height, lead_size(code), 1_000_000));
+        format!("a lead that keeps the height in 0 to 1,000,000{way}")
     }
 }
 
-/// The start and the end of a refused motion, which goes forward if that leaves the range, and else backward.
-fn way(from: i32, size: u8, most: i32) -> String {
-    let size = i32::from(size);
+/// Where a refused motion starts and ends: forward if that is beyond the range, else backward.
+fn way(from: i32, size: i32, most: i32) -> String {
     let to = if from + size > most { from + size } else { from - size };
     format!("; it would go from {from} to {to}")
 }

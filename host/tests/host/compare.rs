@@ -2,7 +2,7 @@
 
 use crate::implementation::{Answer, Implementation, ReportWords, RunningTape, PLAIN};
 use crate::plain;
-use crate::sample::Random;
+use spatecanter::sample::Random;
 use std::collections::BTreeMap;
 use std::io::Write;
 

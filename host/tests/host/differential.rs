@@ -4,7 +4,7 @@ use crate::cases::{self, Form};
 use crate::compare::Comparison;
 use crate::implementation::{Implementation, RunningTape, Words, BRACKETS, GUARD, LIBRARY, QUICK};
 use crate::plain;
-use crate::sample::Random;
+use spatecanter::sample::Random;
 
 const SEED: u64 = 1980;
 

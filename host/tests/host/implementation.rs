@@ -199,9 +199,13 @@ pub const LIBRARY: Implementation = Implementation {
         assert_eq!([before, after], [0x5A5A_5A5A; 2], "written beside the item");
         (answer, [kind, x, height, font_number, code])
     },
-    write_dvi: |galley, dvi| unsafe { over_bytes(ffi::sp_write_dvi, galley, dvi) },
-    read_dvi: |dvi, widths, sheet| unsafe { with_widths(ffi::sp_read_dvi, dvi, widths, sheet) },
-    dvi_to_galley: |dvi, widths, galley| unsafe { with_widths(ffi::sp_dvi_to_galley, dvi, widths, galley) },
+    write_dvi: |galley, dvi| answered(|answer| ffi::over_bytes(ffi::sp_write_dvi, galley, dvi, answer)),
+    read_dvi: |dvi, widths, sheet| {
+        answered(|answer| ffi::with_widths(ffi::sp_read_dvi, dvi, widths, sheet, answer))
+    },
+    dvi_to_galley: |dvi, widths, galley| {
+        answered(|answer| ffi::with_widths(ffi::sp_dvi_to_galley, dvi, widths, galley, answer))
+    },
     read_xgp: |file, spacing, widths, sheet| {
         answered(|answer| unsafe {
             ffi::sp_read_xgp(
@@ -233,11 +237,11 @@ pub const LIBRARY: Implementation = Implementation {
         }
         answer
     },
-    write_dvi2: |galley, dvi| unsafe { over_bytes(ffi::sp_write_dvi2, galley, dvi) },
-    read_dvi2: |dvi, galley| unsafe { over_bytes(ffi::sp_read_dvi2, dvi, galley) },
-    punch_tape: |galley, tape| unsafe { over_bytes(ffi::sp_punch_tape, galley, tape) },
-    to_new: |old, new| unsafe { over_bytes(ffi::sp_galley_to_new, old, new) },
-    to_old: |new, old| unsafe { over_bytes(ffi::sp_galley_to_old, new, old) },
+    write_dvi2: |galley, dvi| answered(|answer| ffi::over_bytes(ffi::sp_write_dvi2, galley, dvi, answer)),
+    read_dvi2: |dvi, galley| answered(|answer| ffi::over_bytes(ffi::sp_read_dvi2, dvi, galley, answer)),
+    punch_tape: |galley, tape| answered(|answer| ffi::over_bytes(ffi::sp_punch_tape, galley, tape, answer)),
+    to_new: |old, new| answered(|answer| ffi::over_bytes(ffi::sp_galley_to_new, old, new, answer)),
+    to_old: |new, old| answered(|answer| ffi::over_bytes(ffi::sp_galley_to_old, new, old, answer)),
     count_tape: |tape, machine, report| {
         let mut lent = [0x5A5A_5A5A_5A5A_5A5A_u64; 137];
         lent[1..136].copy_from_slice(report);
@@ -260,7 +264,9 @@ pub const LIBRARY: Implementation = Implementation {
 /// The library, with its plain reader of DVI files for the quick one.
 pub const BRACKETS: Implementation = Implementation {
     name: "library's plain reader",
-    read_dvi: |dvi, widths, sheet| unsafe { with_widths(ffi::sp_read_dvi_plain, dvi, widths, sheet) },
+    read_dvi: |dvi, widths, sheet| {
+        answered(|answer| ffi::with_widths(ffi::sp_read_dvi_plain, dvi, widths, sheet, answer))
+    },
     ..LIBRARY
 };
 
@@ -309,25 +315,6 @@ impl RunningTape for Words {
         assert_eq!([marks[0], marks[3]], [GUARD; 2], "written beside the marks");
         ([reach[1], reach[2]], marked([marks[1], marks[2]]))
     }
-}
-
-/// An operation of the C interface from bytes to bytes.
-type OverBytes = unsafe extern "C" fn(*const u8, usize, *mut u8, usize, *mut Answer);
-
-/// The same with a table of widths.
-type WithWidths = unsafe extern "C" fn(*const u8, usize, *const i32, usize, *mut u8, usize, *mut Answer);
-
-/// Calls an operation from bytes to bytes, which may read the first slice and write the second.
-unsafe fn over_bytes(operation: OverBytes, from: &[u8], to: &mut [u8]) -> Answer {
-    answered(|answer| unsafe { operation(from.as_ptr(), from.len(), to.as_mut_ptr(), to.len(), answer) })
-}
-
-/// The same with a table of widths, which the operation may read.
-unsafe fn with_widths(operation: WithWidths, from: &[u8], widths: &[i32], to: &mut [u8]) -> Answer {
-    let (table, count) = (widths.as_ptr(), widths.len());
-    answered(|answer| unsafe {
-        operation(from.as_ptr(), from.len(), table, count, to.as_mut_ptr(), to.len(), answer)
-    })
 }
 
 fn answered(call: impl FnOnce(&mut Answer)) -> Answer {

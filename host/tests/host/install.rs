@@ -1,8 +1,8 @@
 //! The script `install`, in a small repository, with the library and the command that the tests run on.
 
 use crate::scripts::{err, found, out, Repository};
-use crate::support::left_out;
 use std::fs;
+use std::io::Write;
 use std::path::{Path, PathBuf};
 use std::process::{Command, Output};
 
@@ -179,7 +179,9 @@ impl Package {
 #[test]
 fn programs_are_compiled_by_pkg_config() {
     if found("pkg-config").is_none() {
-        return left_out("there is no pkg-config");
+        writeln!(std::io::stdout().lock(), "left out: there is no pkg-config to compile programs by")
+            .unwrap();
+        return;
     }
     let package = Package { repository: repository("install_pkg_config") };
     let installed = install(&package.repository, &["--prefix", package.prefix().to_str().unwrap()]);

@@ -4,16 +4,15 @@ use crate::cases;
 use crate::compare::Comparison;
 use crate::implementation::{Implementation, BRACKETS, LIBRARY, QUICK};
 use crate::plain;
-use crate::sample::{
+use spatecanter::sample::{
     book, book_widths, chart, stations, stations_widths, yearbook, Random, STATIONS_SPACING,
 };
 use spatecanter::{
-    Machine, DVI2_LIMIT, DVI_HEIGHT_LIMIT, DVI_LIMIT, FONT_NUMBERS, GALLEY_LIMIT, HEIGHT_LIMIT, LONGEST_DVI,
-    LONGEST_DVI2, OLD_GALLEY_LIMIT, SHEET_LIMIT, TAPE_LIMIT, XGP_LIMIT,
+    Machine, DVI2_LIMIT, DVI_LIMIT, GALLEY_LIMIT, OLD_GALLEY_LIMIT, SHEET_LIMIT, TAPE_LIMIT, XGP_LIMIT,
 };
 
 /// Characters and cuts in a galley, together.
-const ITEMS: usize = spatecanter::ITEM_LIMIT;
+const ITEMS: usize = 1_048_576;
 const STACK: usize = 256 * 1024;
 
 #[test]
@@ -45,7 +44,6 @@ fn on_a_small_stack(implementation: Implementation) {
         galleys(&mut comparison);
         galleys_with_cuts(&mut comparison);
         long_columns(&mut comparison);
-        longest_dvi_file(&mut comparison);
         punches(&mut comparison);
         conversions(&mut comparison);
         each_dvi_file(|dvi, widths| comparison.dvi(dvi, widths));
@@ -280,7 +278,7 @@ fn back_to_galleys(comparison: &mut Comparison) {
 }
 
 /// The files of full galleys: of text, also cut short and with a command or a page more, of any characters and
-/// cuts, of cuts alone, and the longest file. Then bytes after the longest to the limit, and one more.
+/// cuts, and of cuts alone, which is the longest. Then bytes after the longest to the limit, and one more.
 fn second_edition(comparison: &mut Comparison) {
     let text = text_galley();
     comparison.write_dvi2(&text);
@@ -296,45 +294,13 @@ fn second_edition(comparison: &mut Comparison) {
     comparison.read_dvi2(&[&dvi[..post], &[139]].concat());
     comparison.read_dvi2(&plain::write_dvi2(&cases::tall_galley(&mut Random::new(13), ITEMS, 10)).unwrap());
 
-    comparison.read_dvi2(&plain::write_dvi2(&cuts_alone()).unwrap());
-    let mut longest = plain::write_dvi2(&longest_dvi2_galley()).unwrap();
-    assert_eq!(longest.len(), LONGEST_DVI2);
+    let mut longest = plain::write_dvi2(&cuts_alone()).unwrap();
+    assert_eq!(longest.len(), 48_234_596);
     comparison.read_dvi2(&longest);
     longest.resize(DVI2_LIMIT, 223);
     comparison.read_dvi2(&longest);
     longest.push(223);
     comparison.read_dvi2(&longest);
-}
-
-/// Characters in all fonts, and then in the fonts with the longest commands, each far from the one before.
-fn longest_dvi_galley() -> Vec<u8> {
-    let fonts = (0..FONT_NUMBERS as u8).chain([118, 119].into_iter().cycle());
-    let places = [(3_000, DVI_HEIGHT_LIMIT), (0, 0)].into_iter().cycle();
-    let characters = fonts.zip(places).take(ITEMS).flat_map(|(font, place)| character(font, place));
-    ended_galley(characters.collect(), ITEMS)
-}
-
-/// A character in each font, each far from the one before, and then cuts.
-fn longest_dvi2_galley() -> Vec<u8> {
-    let places = [(3_000, HEIGHT_LIMIT), (0, 0)].into_iter().cycle();
-    let characters = (0..FONT_NUMBERS as u8).zip(places).flat_map(|(font, place)| character(font, place));
-    let cuts = [6, 0, 0].repeat(ITEMS - FONT_NUMBERS);
-    ended_galley(characters.chain(cuts).collect(), FONT_NUMBERS)
-}
-
-fn character(font: u8, (x, height): (u16, i32)) -> Vec<u8> {
-    [&[7, 0, 8][..], &x.to_be_bytes(), &height.to_be_bytes(), &[font, 1]].concat()
-}
-
-fn ended_galley(fields: Vec<u8>, characters: usize) -> Vec<u8> {
-    [&fields[..], &[2, 0, 4], &(characters as u32).to_be_bytes()].concat()
-}
-
-/// The galley with the longest DVI file of 1980.
-fn longest_dvi_file(comparison: &mut Comparison) {
-    let galley = longest_dvi_galley();
-    comparison.galley(&galley);
-    assert_eq!(plain::write_dvi(&galley).unwrap().len(), LONGEST_DVI);
 }
 
 /// The characters of a tape, over and over.

@@ -1,19 +1,19 @@
-//! The Rust package: every public item has an example, which `cargo test --doc` runs; unsafe calls stand in one file;
-//! refusals are errors with a source; and checked types accept what the operations write.
+//! The Rust package: every public item has an example, which `cargo test --doc` runs; refusals are errors with a source;
+//! and checked types take what the operations make.
 
 use crate::hex;
-use spatecanter::{Dvi2File, Galley, Machine, Refusal, Sheet};
+use spatecanter::{Form, Galley, Machine, Refusal, Sheet};
 use std::error::Error;
 use std::fs;
 use std::path::{Path, PathBuf};
 
-/// The package's sources, without the command and the two files that only declare and call the C interface.
+/// The package's sources but for the command and what is hidden from its documentation.
 fn sources() -> Vec<PathBuf> {
     let source = Path::new(env!("CARGO_MANIFEST_DIR")).join("src");
-    let folders = [source.join("explain"), source.join("tape"), source];
+    let folders = [source.join("explain"), source];
     let entries = folders.iter().flat_map(|folder| fs::read_dir(folder).unwrap());
     let files = entries.map(|entry| entry.unwrap().path());
-    files.filter(|path| path.is_file() && !path.ends_with("ffi.rs") && !path.ends_with("call.rs")).collect()
+    files.filter(|path| path.is_file() && !path.ends_with("ffi.rs")).collect()
 }
 
 /// The public items of a source that have no example in the comment before them.
@@ -39,18 +39,6 @@ fn every_public_item_has_an_example() {
         assert_eq!(without_example(&text), [""; 0], "{}", path.display());
     }
     assert_eq!(without_example("/// A.\npub fn a() {}\n/// ```\n/// ```\n#[b]\npub enum B {\n"), ["a() {}"]);
-}
-
-/// The package has no other unsafe code than the calls of the library, and no words of the command.
-#[test]
-fn unsafe_calls_stand_in_one_file() {
-    for path in sources() {
-        let text = fs::read_to_string(&path).unwrap();
-        let code = text.replace("unsafe_op_in_unsafe_fn", "");
-        for word in ["unsafe", "std::fs", "std::io", "see spatecanter", "--machine"] {
-            assert!(!code.contains(word), "{word} in {}", path.display());
-        }
-    }
 }
 
 #[test]
@@ -80,22 +68,39 @@ fn errors_have_their_refusal_for_a_source() {
     assert_eq!(boxed.to_string(), words);
 }
 
+/// An explanation asks nothing of its input: with another tape, file or place it tells what it can.
+#[test]
+fn explanations_take_any_input() {
+    let running = spatecanter::RunningTape::new();
+    for (_, number, _) in Refusal::TABLE {
+        for place in [0, 1, 5, usize::MAX] {
+            let refusal = Refusal::from_parts(*number, place);
+            for bytes in
+                [&[][..], &[0x4D], &[0x82; 9], &[7, 0, 8, 0, 0], &[129, 0, 0, 0, 1, 255, 255, 255, 255]]
+            {
+                let explained = [
+                    refusal.in_tape(bytes, Machine::Four),
+                    refusal.in_piece(&running, 3, bytes, Machine::Eight),
+                    refusal.in_galley(bytes, Form::New),
+                    refusal.in_galley(bytes, Form::Old),
+                    refusal.in_dvi(bytes, &[]),
+                ];
+                assert!(explained.iter().all(|it| it.to_string().starts_with(&refusal.to_string())));
+            }
+        }
+    }
+}
+
 #[test]
 fn checked_types_are_what_the_operations_make() {
     let galley = spatecanter::read_tape(&hex("40 EF 52 4E 01 4B 40 EF 02 49"), Machine::Eight).unwrap();
-    assert_eq!(Galley::from_bytes(galley.as_bytes().to_vec()), Ok(galley.clone()));
-    assert_eq!(Galley::try_from(galley.as_bytes().to_vec()), Ok(galley.clone()));
+    assert_eq!(Galley::from_bytes(galley.to_vec()), Ok(galley.clone()));
+    assert_eq!(Galley::try_from(galley.to_vec()), Ok(galley.clone()));
     let made = spatecanter::reprint(&galley, &[]).unwrap();
-    assert_eq!(spatecanter::DviFile::from_bytes(made.dvi.as_bytes().to_vec(), &[]), Ok(made.dvi.clone()));
-    let second = spatecanter::write_dvi2(&galley).unwrap();
-    assert_eq!(Dvi2File::from_bytes(second.as_bytes().to_vec()), Ok(second));
-    assert_eq!(Sheet::try_from(made.sheet.as_bytes().to_vec()), Ok(made.sheet.clone()));
+    assert_eq!(spatecanter::DviFile::from_bytes(made.dvi.to_vec(), &[]), Ok(made.dvi.clone()));
+    assert_eq!(Sheet::try_from(made.sheet.to_vec()), Ok(made.sheet.clone()));
     let shown = made.dvi.commands().filter(|command| command.shows()).count();
     assert_eq!(shown, made.sheet.fields().count());
     let last = made.dvi.commands().last().unwrap();
-    assert_eq!(
-        (last.code, made.dvi.as_bytes()[last.place + 1]),
-        (130, 131),
-        "the last command of a page is before PST"
-    );
+    assert_eq!((last.code, made.dvi[last.place + 1]), (130, 131), "the last command of a page is before PST");
 }

@@ -1,6 +1,6 @@
 //! The files in samples/ are what their README says.
 
-use crate::sample::{chart, codes, pages, stations, stations_widths, yearbook, STATIONS_SPACING};
+use spatecanter::sample::{chart, codes, pages, stations, stations_widths, yearbook, STATIONS_SPACING};
 use spatecanter::sheet::Field;
 use spatecanter::{Machine, Refusal};
 use std::fs;
@@ -19,10 +19,7 @@ fn the_yearbook_is_made_by_the_generator() {
     let galley = spatecanter::read_tape(&tape, Machine::Eight).unwrap();
     assert_eq!(spatecanter::check_galley(&galley), Ok(2_628));
     let reprint = spatecanter::reprint(&galley, &[]).unwrap();
-    assert_eq!(
-        (galley.byte_len(), reprint.dvi.byte_len(), reprint.sheet.byte_len()),
-        (28_915, 16_090, 42_062)
-    );
+    assert_eq!((galley.len(), reprint.dvi.len(), reprint.sheet.len()), (28_915, 16_090, 42_062));
 }
 
 #[test]
@@ -32,7 +29,7 @@ fn the_pages_are_made_by_the_generator() {
     let galley = spatecanter::read_tape(&tape, Machine::Eight).unwrap();
     assert_eq!(spatecanter::check_galley(&galley), Ok(628));
     let reprint = spatecanter::reprint(&galley, &[]).unwrap();
-    assert_eq!((galley.byte_len(), reprint.dvi.byte_len(), reprint.sheet.byte_len()), (6_921, 3_940, 10_076));
+    assert_eq!((galley.len(), reprint.dvi.len(), reprint.sheet.len()), (6_921, 3_940, 10_076));
     let starts: Vec<(usize, Field)> =
         reprint.sheet.fields().enumerate().filter(|(_, field)| matches!(field, Field::Page(_))).collect();
     assert_eq!(starts, [(0, Field::Page(1)), (335, Field::Page(2)), (336, Field::Page(3))]);
@@ -46,12 +43,9 @@ fn the_four_font_tape_is_made_by_the_generator() {
     let galley = spatecanter::read_tape(&tape, Machine::Four).unwrap();
     assert_eq!(spatecanter::check_galley(&galley), Ok(982));
     let whole = spatecanter::read_tape(&sample("yearbook.tape"), Machine::Eight).unwrap();
-    assert!(galley.as_bytes()[..11 * 982] == whole.as_bytes()[..11 * 982]);
+    assert!(galley[..11 * 982] == whole[..11 * 982]);
     let reprint = spatecanter::reprint(&galley, &[]).unwrap();
-    assert_eq!(
-        (galley.byte_len(), reprint.dvi.byte_len(), reprint.sheet.byte_len()),
-        (10_809, 6_065, 15_726)
-    );
+    assert_eq!((galley.len(), reprint.dvi.len(), reprint.sheet.len()), (10_809, 6_065, 15_726));
 }
 
 #[test]
@@ -69,7 +63,7 @@ fn the_chart_is_made_by_the_generator() {
     let tape = sample("chart.tape");
     assert!(tape == chart(1980, 70_000));
     let galley = spatecanter::read_tape(&tape, Machine::Eight).unwrap();
-    assert_eq!((galley.byte_len(), spatecanter::check_galley(&galley)), (2_504, Ok(227)));
+    assert_eq!((galley.len(), spatecanter::check_galley(&galley)), (2_504, Ok(227)));
     assert_eq!(galley.characters().last().unwrap().height, 70_000);
     let first = galley.characters().position(|it| it.height > 65_535).unwrap();
     let refused = Refusal::HeightTooGreat { place: 11 * first };
@@ -95,7 +89,7 @@ fn the_shelf_is_converted() {
     let shelf = sample("shelf.galley");
     assert_eq!(spatecanter::check_galley(&shelf), Err(Refusal::GalleyMalformed { place: 0 }));
     let galley = spatecanter::read_tape(&sample("pages.tape"), Machine::Eight).unwrap();
-    assert_eq!((shelf.len(), galley.byte_len()), (5_665, 6_921));
+    assert_eq!((shelf.len(), galley.len()), (5_665, 6_921));
     assert!(spatecanter::galley_to_new(&shelf).unwrap() == galley);
     assert!(spatecanter::galley_to_old(&galley).unwrap() == shelf);
 }
@@ -109,7 +103,7 @@ fn the_stations_are_made_by_the_generator() {
     let bytes: Vec<u8> = widths.iter().flat_map(|width| width.to_be_bytes()).collect();
     assert!(bytes == sample("stations.widths"));
     let sheet = spatecanter::read_xgp(&file, STATIONS_SPACING, &widths).unwrap();
-    assert_eq!((sheet.byte_len(), sheet.fields().count()), (34_005, 2_126));
+    assert_eq!((sheet.len(), sheet.fields().count()), (34_005, 2_126));
     let starts: Vec<Field> = sheet.fields().filter(|field| matches!(field, Field::Page(_))).collect();
     assert_eq!(starts, [Field::Page(1), Field::Page(2)]);
     for short in [&widths[..511], &[]] {
@@ -131,7 +125,7 @@ fn the_damaged_tape_has_lost_a_bit() {
 fn p3_gives_two_characters() {
     let galley = spatecanter::read_tape(&sample("p3.tape"), Machine::Eight).unwrap();
     assert_eq!(spatecanter::check_galley(&galley), Ok(2));
-    assert_eq!(spatecanter::write_dvi(&galley).unwrap().byte_len(), 59);
+    assert_eq!(spatecanter::write_dvi(&galley).unwrap().len(), 59);
 }
 
 #[test]
@@ -150,9 +144,9 @@ fn command_and_text(part: &str) -> (String, String) {
     (command.into(), text.trim_end().into())
 }
 
-/// A folder that looks like the root of the repository to who reads the samples' README or a page of docs/.
-fn root_for_readers(name: &str) -> std::path::PathBuf {
-    let root = Path::new(env!("CARGO_TARGET_TMPDIR")).join(name);
+/// A folder that looks like the root of the repository to who reads the samples' README.
+fn root_for_readers() -> std::path::PathBuf {
+    let root = Path::new(env!("CARGO_TARGET_TMPDIR")).join("samples_readme");
     let _ = fs::remove_dir_all(&root);
     fs::create_dir_all(root.join("target/staticlib")).unwrap();
     let host = Path::new(env!("CARGO_MANIFEST_DIR"));
@@ -174,11 +168,14 @@ fn the_picture_is_that_of_the_yearbook() {
     assert!(output.stdout == sample("yearbook.svg"));
 }
 
-/// Every command of a page writes what the page says, in one folder, from top to bottom. Returns the number of blocks.
-fn run_as_told(page: &str, folder: &str) -> usize {
-    let root = root_for_readers(folder);
-    let transcripts = transcripts(page);
-    for transcript in &transcripts {
+/// Every command of the README writes what the README says, in one folder, from top to bottom.
+#[test]
+fn the_readme_tells_what_happens() {
+    let root = root_for_readers();
+    let readme = String::from_utf8(sample("README.md")).unwrap();
+    let transcripts = transcripts(&readme);
+    assert!(transcripts.len() > 8);
+    for transcript in transcripts {
         let commands: String =
             transcript.iter().map(|(command, _)| format!("{command}\ns=$?; echo @@; (exit $s)\n")).collect();
         let script = format!("exec 2>&1\n{commands}");
@@ -188,62 +185,4 @@ fn run_as_told(page: &str, folder: &str) -> usize {
             assert_eq!(written.trim_end(), expected, "{command}");
         }
     }
-    transcripts.len()
-}
-
-#[test]
-fn the_readme_tells_what_happens() {
-    let readme = String::from_utf8(sample("README.md")).unwrap();
-    assert!(run_as_told(&readme, "samples_readme") > 8);
-}
-
-/// The line that is set by hand: its commands show what the page works out.
-#[test]
-fn the_line_by_hand_is_the_line_of_the_commands() {
-    let page = String::from_utf8(sample("../docs/BY-HAND.md")).unwrap();
-    assert_eq!(run_as_told(&page, "by_hand"), 7);
-    // The tables' bytes are those of the commands.
-    for part in page.split("\n## ") {
-        let bytes =
-            part.split('`').skip(1).step_by(2).filter(|it| it.len() > 2 && it.bytes().all(is_hexadecimal));
-        let blocks: String = part.split("\n```\n").skip(1).step_by(2).collect();
-        for bytes in bytes.filter(|_| part.starts_with("In the") || part.starts_with("On the")) {
-            assert!(blocks.contains(bytes), "{bytes}");
-        }
-    }
-}
-
-fn is_hexadecimal(byte: u8) -> bool {
-    matches!(byte, b'0'..=b'9' | b'A'..=b'F' | b' ')
-}
-
-/// The rows of a table in docs/FORMATS.md that take a file apart: their offsets and bytes.
-fn example(page: &str, part: &str) -> Vec<u8> {
-    let part = page.split("\n## ").find(|it| it.starts_with(&format!("{part}\n"))).unwrap();
-    let (_, table) = part.split_once("\nExample, ").unwrap();
-    let mut bytes = Vec::new();
-    for row in table.lines().filter(|line| line.starts_with("| ")).skip(1) {
-        let cells: Vec<&str> = row.split('|').map(str::trim).collect();
-        assert_eq!(cells[1], bytes.len().to_string(), "{row}");
-        bytes.extend(crate::hex(cells[2].trim_matches('`')));
-    }
-    bytes
-}
-
-/// The examples of docs/FORMATS.md are the files that the library reads and writes.
-#[test]
-fn the_examples_of_formats_are_files() {
-    let page = String::from_utf8(sample("../docs/FORMATS.md")).unwrap();
-    let tape = example(&page, "Tape");
-    assert!(tape == sample("p3.tape"));
-    let galley = spatecanter::read_tape(&tape, Machine::Eight).unwrap();
-    assert_eq!(galley, example(&page, "Galley"));
-    let reprint = spatecanter::reprint(&galley, &[]).unwrap();
-    assert_eq!(reprint.dvi, example(&page, "DVI of 1980"));
-    assert_eq!(reprint.sheet, example(&page, "Sheet"));
-    assert_eq!(spatecanter::write_dvi2(&galley).unwrap(), example(&page, "DVI of the second edition"));
-    let sheet = spatecanter::read_xgp(&example(&page, "XGP"), 40, &[10; 512]).unwrap();
-    let places: Vec<Field> = sheet.fields().collect();
-    let at = |x, y, code| Field::Character { x, y, font: 0, code };
-    assert_eq!(places, [Field::Page(1), at(0, 40, 65), at(8, 40, 66), at(128, 40, 67), at(138, 80, 68)]);
 }

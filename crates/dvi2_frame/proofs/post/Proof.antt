@@ -7,7 +7,7 @@ use Rattle.dvi2_frame.proofs.post.Statement.{statement}
 use Rattle.dvi2_frame.proofs.post.Tie as tie
 
 returns : tie.Need-returns
-returns c = put_if_room_whole c.before.Put-post.ensures (length_post _ _ _)
+returns c = put_if_room_whole c.before.Put-post.ensures (length_post _ _ _ _)
 
 pub post-spec : {M : Type 1} → statement M
 post-spec = tie.close (tie.spec (λ c. search rules) (λ c κs. search rules) returns)

@@ -1,41 +1,37 @@
--- `dvi2_frame::put_post` meets its contract: one write after the other, or none.
+-- `dvi2_frame::put_post` meets its contract: three times the greatest height, and the farthest x.
 -- Assumes nothing.
-use mathlib.Core.Path.{refl}
-use native.Mathlib.Omega.{arith}
 use borrow.Author.Rules.{rules}
-use Rattle.octets.specs.Octets.{bytes}
-use Rattle.octets.specs.Write.{then, room_after}
-use Rattle.octets.specs.PutIfRoomLaws.{put_if_room_written, put_if_room_counted}
-use Rattle.dvi2.specs.Writer.{unit_bytes}
-use Rattle.dvi2_frame.specs.Frame.{post_of}
-use Rattle.dvi2_frame.specs.FrameLaws.{length_post}
+use lib.IntN.{pos, ◌*ℤ◌}
+use mir.Syntax.{w32}
+use mir.Val.{SFits}
+use Rattle.integers.specs.Parts.{integers, scale_parts}
+use Rattle.integers.specs.Bits.{plain}
+use Rattle.extents.specs.declared.Extents.{Extents}
+use Rattle.dvi2_frame.specs.Frame.{Ranged}
 use Rattle.dvi2_frame.proofs.put_post.Statement.{statement}
 use Rattle.dvi2_frame.proofs.put_post.Tie as tie
 
+x_fits : (e : Extents) → Ranged e → SFits w32 e.x.0
+x_fits e r = omega (integers, r.left, r.right)
+
+height-fits : (e : Extents) → Ranged e → SFits w32 e.height.0
+height-fits e r = omega (integers, r.low, r.high)
+
+times-fits : (e : Extents) → Ranged e → SFits w32 (pos 3 *ℤ e.height.0)
+times-fits e r = omega (integers, r.low, r.high, scale_parts 3 e.height.0)
+
+mul-height : tie.Need-overflow-mul-height
+mul-height c = let s = c.before.before.before in rw (plain (height-fits s.args.e s.requires.1)) (times-fits s.args.e s.requires.1)
+
+put-numbers-requires : tie.Need-put-numbers-requires
+put-numbers-requires c κs = c.before.before.before.before.before.requires.0
+
 returns : tie.Need-returns
-returns c = put_if_room_counted _ _ _ 29 (length_post _ _ _) c.if1.true
-
-put-unit-requires : tie.Need-put-unit-requires
-unfolding bytes
-put-unit-requires c κs = omega (arith, room_after (then c.before.before.before.before.before.before.before.put_byte.ensures c.before.before.before.put_nat4.ensures) 5 24 refl c.before.before.before.before.before.before.before.before.before.if1.false)
-
-put-extents-requires : tie.Need-put-extents-requires
-unfolding bytes unit_bytes
-put-extents-requires c κs = (
-  omega (arith, room_after (then c.before.before.before.before.before.before.before.before.before.before.before.put_byte.ensures (then c.before.before.before.before.before.before.before.put_nat4.ensures c.before.before.before.put_unit.ensures)) 17 12 refl c.before.before.before.before.before.before.before.before.before.before.before.before.before.if1.false),
-  c.before.before.before.before.before.before.before.before.before.before.before.before.before.before.before.requires.1,
-)
-
-returns-2 : tie.Need-returns-2
-unfolding post_of
-returns-2 c =
-    put_if_room_written
-    (then c.before.before.before.before.before.before.before.before.before.before.before.before.before.before.put_byte.ensures
-    (then c.before.before.before.before.before.before.before.before.before.before.put_nat4.ensures
-    (then c.before.before.before.before.before.before.put_unit.ensures c.before.before.put_extents.ensures)))
+returns c =
+    let s = c.before.before.before.before.before.before.before.before in
+    let e = s.args.e in
+    let r = s.requires.1 in
+    rw (plain (height-fits e r), plain (times-fits e r), plain (x_fits e r)) at c.before.before.put_numbers.ensures
 
 pub put-post-spec : {M : Type 1} → statement M
-put-post-spec =
-    tie.close
-    (tie.spec (λ c. search rules) (λ c. search rules) returns (λ c κs. search rules) (λ c κs. search rules) put-unit-requires put-extents-requires
-    (λ c. search rules) returns-2)
+put-post-spec = tie.close (tie.spec mul-height put-numbers-requires (λ c. search rules) returns)

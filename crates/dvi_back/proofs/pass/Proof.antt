@@ -1,10 +1,10 @@
--- `dvi_back::pass` meets its contract: a turn is a quick run, and one command. The invariant: what the file shows so far (`Standing`), and the counts and the buffer of what that
+-- `dvi_back::pass` meets its contract. The invariant: what the file shows so far (`Standing`), and the counts and the buffer of what that
 -- makes (`Passes`, `Tallied`). The measure is what is left of the file.
 -- Assumes nothing.
 use mathlib.Core.Path.{◌≡◌, refl, sym, ap, subst, ◌∙◌}
 use mathlib.Core.Bool.{true}
 use mathlib.Core.List.{List, [], ◌∷◌, ◌++◌}
-use Prim.Native.Nat.{ℕ, ◌+◌, ◌-◌, ◌<◌}
+use Prim.Native.Nat.{ℕ, ◌+◌, ◌-◌}
 use native.Mathlib.Omega.{arith}
 use borrow.Author.Rules.{rules}
 use lib.IntN.{ℤ}
@@ -21,13 +21,10 @@ use Rattle.dvi_step.specs.declared.State.{State}
 use Rattle.dvi_step.specs.declared.Stepped.{Stepped}
 use Rattle.octets.specs.PassLaws.{passed_refused}
 use Rattle.dvi_galley.specs.Back.{Made, nothing, with_one_item, makes, shown_galley}
-use Rattle.dvi_galley.specs.BackLaws.{makes_append}
 use Rattle.dvi_galley.specs.Taken.{taken_of}
-use Rattle.dvi_back.specs.Tally.{pages_in, Tallied}
+use Rattle.dvi_back.specs.Tally.{pages_in}
 use Rattle.dvi_back.specs.declared.tally.Tally.{Tally}
-use Rattle.dvi_back.specs.declared.quick.Quick.{Quick}
-use Rattle.dvi_back.proofs.Quicks.{standing_quick}
-use Rattle.dvi_back.proofs.Passes.{Fits, standing_fits, tallied_start, tallied_still, tallied_more, tallied_named, tallied_unwritten, marked, more_room, end_room, passed_finished}
+use Rattle.dvi_back.proofs.Passes.{Fits, standing_fits, Tallied, tallied_start, tallied_still, tallied_more, tallied_named, tallied_unwritten, marked, more_room, end_room, passed_finished}
 use Rattle.dvi_back.proofs.pass.Statement.{statement}
 use Rattle.dvi_back.proofs.pass.Tie as tie
 
@@ -38,58 +35,33 @@ invariant-loop dvi widths out₀ writing targets stack₀ q₀ at₀ g₀ out st
 abbrev decreases-loop : tie.decreases-loop
 decreases-loop dvi widths out₀ writing targets stack₀ q₀ at₀ g₀ out stack q at g = length dvi - at
 
--- where the pass stands after a quick run
-module _ (c : tie.After-quickly invariant-loop decreases-loop) where
-  abbrev loop : tie.At-loop invariant-loop decreases-loop
-  loop = c.before.before.before.before
-
-  abbrev begun : tie.Start invariant-loop decreases-loop
-  begun = c.before.before.before.before.before.before.before.before
-
-  abbrev ended : Quick
-  ended = c.quickly.result
-
-  abbrev run-marks : List PlacedMark
-  run-marks = loop.loop.inv.0 ++ c.quickly.ensures.places
-
-  run-standing : Standing placed_at begun.args.widths.now begun.args.dvi.now loop.loop.stack ended.state ended.at run-marks
-  run-standing = standing_quick loop.loop.inv.1.0 c.quickly.ensures
-
-  run-tallied : Tallied begun.args.writing begun.args.out.now c.quickly.new.1.1.0 (makes nothing run-marks) ended.tally
-  run-tallied =
-      let i = loop.loop.inv in
-      tallied_named (sym (makes_append nothing i.0 c.quickly.ensures.places)) (c.quickly.ensures.making begun.args.out.now (makes nothing i.0) i.1.1)
-
 -- what one step says of the file
 module _ (c : tie.After-step invariant-loop decreases-loop) where
-  abbrev from : tie.After-quickly invariant-loop decreases-loop
-  from = c.before.before.before.before.before
+  abbrev loop : tie.At-loop invariant-loop decreases-loop
+  loop = c.before.before.before
 
   abbrev start : tie.Start invariant-loop decreases-loop
-  start = begun from
+  start = loop.before.before.before.before
 
   abbrev place : ℕ
-  place = (ended from).at
+  place = loop.loop.at
 
   abbrev marks : List PlacedMark
-  marks = run-marks from
+  marks = loop.loop.inv.0
 
   abbrev counts : Tally
-  counts = (ended from).tally
+  counts = loop.loop.g
 
-  abbrev standing : Standing placed_at start.args.widths.now start.args.dvi.now (loop from).loop.stack (ended from).state place marks
-  standing = run-standing from
+  abbrev standing : Standing placed_at start.args.widths.now start.args.dvi.now loop.loop.stack loop.loop.q place marks
+  standing = loop.loop.inv.1.0
 
-  abbrev tallied : Tallied start.args.writing start.args.out.now from.quickly.last.1.1.0 (makes nothing marks) counts
-  tallied = run-tallied from
-
-  inside : place < length start.args.dvi.now
-  inside = c.before.before.if1.true
+  abbrev tallied : Tallied start.args.writing start.args.out.now loop.loop.out (makes nothing marks) counts
+  tallied = loop.loop.inv.1.1
 
   abbrev entries : List ℤ
   entries = c.step.new.1.1.0
 
-  stepped : {r : Stepped} → c.step.result ≡ r → step_here start.args.widths.now start.args.dvi.now place (state_of (ended from).state (loop from).loop.stack) ≡ step_of r entries
+  stepped : {r : Stepped} → c.step.result ≡ r → step_here start.args.widths.now start.args.dvi.now place (state_of loop.loop.q loop.loop.stack) ≡ step_of r entries
   stepped e = sym c.step.ensures ∙ ap (λ (r : Stepped). step_of r entries) e
 
   -- where a command leads that goes on
@@ -97,7 +69,7 @@ module _ (c : tie.After-step invariant-loop decreases-loop) where
   Further t ms n = Standing placed_at start.args.widths.now start.args.dvi.now entries t (place + 1 + n) (marks ++ placed_at place ms)
 
   further : (t : State) (ms : List Mark) (n : ℕ) {r : Stepped} → c.step.result ≡ r → step_of r entries ≡ go_on (state_of t entries) ms n → Further t ms n
-  further t ms n e f = standing_next standing inside entries t ms n (c.step.auto.1.1.0 ∙ standing.whole) (stepped e ∙ f)
+  further t ms n e f = standing_next standing c.before.before.loop-test.true entries t ms n (c.step.auto.1.1.0 ∙ standing.whole) (stepped e ∙ f)
 
 goes : (c : tie.After-known-told2 invariant-loop decreases-loop) → let g = c.before.r2.given.0 in Further c.before.before.before.before g.0 [] g.1.0
 goes c = let g = c.before.r2.given in further c.before.before.before.before g.0.0 [] g.0.1.0 g.1 refl
@@ -134,16 +106,10 @@ loop-holds c =
     let a = c.before.before.before.args in
     ([], (standing_start placed_at a.widths.now a.dvi.now _ refl, tallied_start a.writing a.out.now))
 
-quickly-requires : tie.Need-quickly-requires invariant-loop decreases-loop
-quickly-requires c κs =
-    let s = c.before.before.before.before.before.before.before in
-    ((omega (arith, c.before.before.loop-test.true), s.requires.0), c.before.before.before.before.targets.ensures)
-
 step-requires : tie.Need-step-requires invariant-loop decreases-loop
 step-requires c κs =
-    let k = c.before.before.before.before in
-    let i = run-standing k in
-    (c.before.if1.true, (omega (arith, i.within, (begun k).requires.0), (i.whole, i.low)))
+    let i = c.before.before.loop.invariant.1.0 in
+    (c.before.loop-test.true, (omega (arith, i.within, c.before.before.before.before.before.before.requires.0), (i.whole, i.low)))
 
 same_length : tie.Need-same-length invariant-loop decreases-loop
 same_length c = (tallied c.before.before.before.before).same
@@ -152,7 +118,7 @@ returns : tie.Need-returns invariant-loop decreases-loop
 unfolding shown_galley
 returns c =
     let k = c.before.before.before.before in
-    let e = standing_refused (standing k) (inside k) _ (stepped k c.before.r.given.1) in
+    let e = standing_refused (standing k) k.before.before.loop-test.true _ (stepped k c.before.r.given.1) in
     passed_refused (ap shown_galley e) (start k).requires.1 (tallied_unwritten (tallied k))
 
 add_at : tie.Need-overflow-add-at invariant-loop decreases-loop
@@ -162,7 +128,7 @@ add-at-2 : tie.Need-overflow-add-at-2 invariant-loop decreases-loop
 add-at-2 c = record { fits = omega (arith, (goes c).within, (start c.before.before.before.before).pre.0) }
 
 loop-less : tie.Need-loop-smaller invariant-loop decreases-loop
-loop-less c = let k = c.before.before.before.before in omega (arith, (goes c).within, inside k, (from k).quickly.ensures.forward)
+loop-less c = omega (arith, (goes c).within, c.before.before.before.before.before.before.loop-test.true)
 
 loop-again : tie.Need-loop-preserved invariant-loop decreases-loop
 loop-again c = let k = c.before.before.before.before in (_, (goes c, tallied_still (marks k) (place k) (tallied k)))
@@ -183,7 +149,7 @@ add-at-4 : tie.Need-overflow-add-at-4 invariant-loop decreases-loop
 add-at-4 c = record { fits = omega (arith, (showing (told (item c))).within, (start (here (item c))).pre.0) }
 
 loop-less-2 : tie.Need-loop-smaller-2 invariant-loop decreases-loop
-loop-less-2 c = let k = here (item c) in omega (arith, (showing (told (item c))).within, inside k, (from k).quickly.ensures.forward)
+loop-less-2 c = omega (arith, (showing (told (item c))).within, (here (item c)).before.before.loop-test.taken)
 
 loop-again-2 : tie.Need-loop-preserved-2 invariant-loop decreases-loop
 loop-again-2 c =
@@ -207,16 +173,9 @@ returns-2 : tie.Need-returns-2 invariant-loop decreases-loop
 unfolding shown_galley
 returns-2 c =
     let k = c.before.before.before.before.before.before.before in
-    let e = standing_finished (standing k) (inside k) (stepped k c.before.before.before.before.enum_told.given.1) in
+    let e = standing_finished (standing k) k.before.before.loop-test.true (stepped k c.before.before.before.before.enum_told.given.1) in
     let f = c.before.before.finish.ensures in
     passed_finished (tallied k) (ap shown_galley e) f.0 f.1
-
--- a run that goes to the end of the file
-loop-less-3 : tie.Need-loop-smaller-3 invariant-loop decreases-loop
-loop-less-3 c = omega (arith, c.if1.false, c.before.before.before.before.before.before.loop-test.true)
-
-loop-again-3 : tie.Need-loop-preserved-3 invariant-loop decreases-loop
-loop-again-3 c = let k = c.before.before.before in (_, (run-standing k, run-tallied k))
 
 same-length-3 : tie.Need-same-length-3 invariant-loop decreases-loop
 same-length-3 c = c.before.loop.invariant.1.1.same
@@ -230,7 +189,7 @@ returns-3 c =
 pub pass_spec : {M : Type 1} → statement M
 pass_spec =
     tie.close
-    (tie.spec invariant-loop decreases-loop (λ c κs. search rules) loop-holds quickly-requires (λ c. search rules) step-requires (λ c. search rules) same_length returns
+    (tie.spec invariant-loop decreases-loop (λ c κs. search rules) loop-holds (λ c. search rules) step-requires (λ c. search rules) same_length returns
     (λ c. search rules) add_at add-at-2 loop-less loop-again (λ c. search rules) (λ c κs. search rules) (λ c κs. search rules) show-item-requires
-    (λ c κs. search rules) add-at-3 add-at-4 loop-less-2 loop-again-2 (λ c. search rules) finish-requires same-length-2 returns-2 loop-less-3 loop-again-3
-    same-length-3 returns-3)
+    (λ c κs. search rules) add-at-3 add-at-4 loop-less-2 loop-again-2 (λ c. search rules) finish-requires same-length-2 returns-2 same-length-3
+    returns-3)

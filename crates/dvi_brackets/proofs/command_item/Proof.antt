@@ -4,9 +4,11 @@ use mathlib.Core.Path.{◌≡◌, refl, sym, ap, subst, ◌∙◌}
 use mathlib.Core.List.{[]}
 use borrow.Author.Rules.{rules}
 use lib.ListN.{length, get_or, drop}
+use Rattle.dvi.specs.Command as S
 use Rattle.dvi.specs.Command.{decode}
+use Rattle.dvi_command.specs.Command.{decoded_of}
 use Rattle.dvi_page.specs.Page.{page_of, effect_of}
-use Rattle.dvi.specs.declared.command.Decoded.{Decoded}
+use Rattle.dvi_command.specs.declared.Decoded.{Decoded}
 use Rattle.dvi_brackets.specs.Brackets.{Item, effect_item, command_item}
 use Rattle.dvi_brackets.specs.Inner.{InnerDecoded, inner_decoded}
 use Rattle.dvi_brackets.specs.Reading.{RoomyItem, ItemDone}
@@ -19,14 +21,14 @@ module _ (c : tie.After-decode) where
   abbrev start : tie.Start
   start = c.before.before.before.before
 
-  abbrev here : Decoded → Item
+  abbrev here : S.Decoded → Item
   here d = command_item start.args.widths.now start.args.at (page_of start.args.p []) d
 
-  abbrev whole : Decoded
+  abbrev whole : S.Decoded
   whole = decode (get_or start.args.s.now 0 0) (drop 1 start.args.s.now)
 
-  decoded : {k : Decoded} → c.decode.result ≡ k → whole ≡ k
-  decoded e = sym c.decode.ensures ∙ e
+  decoded : {k : Decoded} → c.decode.result ≡ k → whole ≡ decoded_of k
+  decoded e = sym c.decode.ensures ∙ ap decoded_of e
 
 plain-effect-requires : tie.Need-plain-effect-requires
 plain-effect-requires c κs =

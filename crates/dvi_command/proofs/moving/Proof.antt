@@ -9,15 +9,15 @@ use Rattle.dvi_command.proofs.moving.Tie as tie
 
 returns : tie.Need-returns
 unfolding moving_of
-returns c = ap (λ (k : ℕ). moving_of k c.before.args.m) (sym c.match.keys1)
+returns c = ap (λ (k : ℕ). moving_of k c.before.args.m.0) (sym c.match.keys1)
 
 returns-2 : tie.Need-returns-2
 unfolding moving_of
-returns-2 c = ap (λ (k : ℕ). moving_of k c.before.args.m) (sym c.match.keys2)
+returns-2 c = ap (λ (k : ℕ). moving_of k c.before.args.m.0) (sym c.match.keys2)
 
 returns-3 : tie.Need-returns-3
 unfolding moving_of
-returns-3 c = ap (λ (k : ℕ). moving_of k c.before.args.m) (sym c.match.keys3)
+returns-3 c = ap (λ (k : ℕ). moving_of k c.before.args.m.0) (sym c.match.keys3)
 
 returns-4 : tie.Need-returns-4
 unfolding moving_of

@@ -6,12 +6,13 @@ use Prim.Native.Nat.{ℕ}
 use borrow.Author.Rules.{rules}
 use denote.Enum.Declared.{tag_of}
 use types.Run.{OneOf, miss}
-use Rattle.dvi_effect.specs.NoBracket.{NoBracket}
+use Rattle.dvi.specs.Command.{NoBracket}
 use Rattle.dvi.specs.Page.{Page, effect}
+use Rattle.dvi_command.specs.Command.{command_of}
 use Rattle.dvi_page.specs.Page.{page_of}
-use Rattle.dvi.specs.declared.command.Command.{Command}
-use Rattle.dvi.specs.contracts.command.Command.{the_type}
-use Rattle.dvi.specs.declared.command.Command.TheVariants.{SetChar, Nop, Eop, Push, Pop, VertRule, HorzRule, HorzChar, SetFont, MoveW, MoveW0, MoveX, MoveX0, MoveY, MoveY0, MoveZ, MoveZ0}
+use Rattle.dvi_command.specs.declared.Command.{Command}
+use Rattle.dvi_command.specs.contracts.Command.{the_type}
+use Rattle.dvi_command.specs.declared.Command.TheVariants.{SetChar, Nop, Eop, Push, Pop, VertRule, HorzRule, HorzChar, SetFont, MoveW, MoveW0, MoveX, MoveX0, MoveY, MoveY0, MoveZ, MoveZ0}
 use Rattle.dvi_effect.proofs.effect_of.Statement.{statement}
 use Rattle.dvi_effect.proofs.effect_of.Tie as tie
 
@@ -19,7 +20,7 @@ use Rattle.dvi_effect.proofs.effect_of.Tie as tie
 abbrev others : List ℕ
 others = 0 ∷ 1 ∷ 2 ∷ 5 ∷ 6 ∷ 7 ∷ 8 ∷ 9 ∷ 10 ∷ 11 ∷ 12 ∷ 13 ∷ 14 ∷ 15 ∷ 16 ∷ []
 
-no-bracket : (k : Command) → OneOf others (tag_of the_type k) → NoBracket k
+no-bracket : (k : Command) → OneOf others (tag_of the_type k) → NoBracket (command_of k)
 no-bracket (SetChar c) h = tt
 no-bracket Nop h = tt
 no-bracket Eop h = tt
@@ -43,8 +44,8 @@ module _ (s : tie.Start) where
   abbrev page : Page
   page = page_of s.args.p s.args.entries.now
 
-  found : {k : Command} → s.args.c ≡ k → effect s.args.widths.now page k ≡ effect s.args.widths.now page s.args.c
-  found e = ap (λ (k : Command). effect s.args.widths.now page k) (sym e)
+  found : {k : Command} → s.args.c ≡ k → effect s.args.widths.now page (command_of k) ≡ effect s.args.widths.now page (command_of s.args.c)
+  found e = ap (λ (k : Command). effect s.args.widths.now page (command_of k)) (sym e)
 
 plain-effect-requires : tie.Need-plain-effect-requires
 plain-effect-requires c κs = no-bracket c.before.args.c c.match.keys3

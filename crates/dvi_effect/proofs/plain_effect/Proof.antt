@@ -6,11 +6,11 @@ use borrow.Author.Rules.{rules}
 use mir.Syntax.{w32}
 use lib.IntN.{ℤ}
 use Rattle.integers.specs.Bits.{plain}
-use Rattle.dvi_effect.specs.NoBracket.{NoBracket}
-use Rattle.dvi.specs.declared.command.Command.TheVariants.{HorzChar, SetFont}
+use Rattle.dvi.specs.Command.{NoBracket, horz_char, set_font}
 use Rattle.dvi.specs.Page.{Page, right_by, down_by, set_w, set_x, set_y, set_z, effect}
+use Rattle.dvi_command.specs.Command.{command_of}
 use Rattle.dvi_page.specs.Page.{page_of}
-use Rattle.dvi.specs.declared.command.Command.{Command}
+use Rattle.dvi_command.specs.declared.Command.{Command}
 use Rattle.dvi_effect.proofs.plain_effect.Statement.{statement}
 use Rattle.dvi_effect.proofs.plain_effect.Tie as tie
 
@@ -19,11 +19,11 @@ module _ (s : tie.Start) where
   abbrev page : List ℤ → Page
   page l = page_of s.args.p l
 
-  found : (l : List ℤ) {k : Command} → s.args.c ≡ k → effect s.args.widths.now (page l) k ≡ effect s.args.widths.now (page l) s.args.c
-  found l e = ap (λ (k : Command). effect s.args.widths.now (page l) k) (sym e)
+  found : (l : List ℤ) {k : Command} → s.args.c ≡ k → effect s.args.widths.now (page l) (command_of k) ≡ effect s.args.widths.now (page l) (command_of s.args.c)
+  found l e = ap (λ (k : Command). effect s.args.widths.now (page l) (command_of k)) (sym e)
 
-  bracket : {k : Command} → s.args.c ≡ k → NoBracket k
-  bracket e = subst (λ (k : Command). NoBracket k) e s.pre
+  bracket : {k : Command} → s.args.c ≡ k → NoBracket (command_of k)
+  bracket e = subst (λ (k : Command). NoBracket (command_of k)) e s.pre
 
 -- ---- characters, NOP, EOP, brackets
 
@@ -61,14 +61,14 @@ returns-8 c l =
     let s = c.before.before.before.before.before in
     let g = c.before.before.c4.given in
     let e = plain {w = w32} {z = g.0.0} (search rules) in
-    c.horz_char.ensures s.args.widths.now l ∙ ap (λ (z : ℤ). effect s.args.widths.now (page s l) (HorzChar z)) e ∙ found s l g.1
+    c.horz_char.ensures s.args.widths.now l ∙ ap (λ (z : ℤ). effect s.args.widths.now (page s l) (horz_char z)) e ∙ found s l g.1
 
 returns-9 : tie.Need-returns-9
 returns-9 c l =
     let s = c.before.before.before.before.before in
     let g = c.before.before.c5.given in
     let e = plain {w = w32} {z = g.0.0} (search rules) in
-    c.set_font.ensures s.args.widths.now l ∙ ap (λ (z : ℤ). effect s.args.widths.now (page s l) (SetFont z)) e ∙ found s l g.1
+    c.set_font.ensures s.args.widths.now l ∙ ap (λ (z : ℤ). effect s.args.widths.now (page s l) (set_font z)) e ∙ found s l g.1
 
 -- ---- moves
 

@@ -1,28 +1,25 @@
--- `dvi_reader::pass` meets its contract: a turn is a quick run, and one command. The invariant: what the file shows so far (`Standing`), and the buffer that
+-- `dvi_reader::pass` meets its contract. The invariant: what the file shows so far (`Standing`), and the buffer that
 -- holds it (`Filled`). The measure is what is left of the file.
 -- Assumes nothing.
 use mathlib.Core.Path.{◌≡◌, refl, sym, ap, ◌∙◌}
 use mathlib.Core.Bool.{true}
 use mathlib.Core.List.{List, [], ◌∷◌, ◌++◌}
-use Prim.Native.Nat.{ℕ, ◌+◌, ◌-◌, ◌/◌, ◌≤◌, ◌<◌}
+use Prim.Native.Nat.{ℕ, ◌+◌, ◌-◌, ◌≤◌}
 use native.Mathlib.Omega.{arith}
 use borrow.Author.Rules.{rules}
 use lib.IntN.{ℤ}
-use lib.ListN.{length, drop, length-append}
+use lib.ListN.{length, length-append}
 use Rattle.sheet.specs.Sheet.{Mark, mark_fields}
-use Rattle.dvi.specs.File.{go_on, run, marks_alone}
+use Rattle.dvi.specs.File.{go_on, marks_alone}
 use Rattle.dvi.specs.FileLaws.{step_here}
 use Rattle.sheet.specs.SheetLaws.{field_size, length_mark_field, one_field, mark_fields_append}
-use Rattle.sheet.specs.Shown.{shows_first}
-use Rattle.sheet.specs.ShownLaws.{shown_room, shows_first_append}
+use Rattle.sheet.specs.ShownLaws.{shown_room}
 use Rattle.dvi.specs.Mark.{mark_of}
-use Rattle.sheet.specs.Filled.{Filled, filled_start, filled_still, filled_more, filled_mark, filled_refused, filled_finished}
+use Rattle.sheet.specs.Filled.{Filled, filled_start, filled_still, filled_mark, filled_refused, filled_finished}
 use Rattle.dvi_step.specs.Step.{state_of, step_of}
 use Rattle.dvi_step.specs.Standing.{Standing, standing_start, standing_next, standing_refused, standing_finished, standing_ended}
 use Rattle.dvi_step.specs.declared.State.{State}
 use Rattle.dvi_step.specs.declared.Stepped.{Stepped}
-use Rattle.dvi_reader.specs.declared.quick.Quick.{Quick}
-use Rattle.dvi_reader.proofs.Quicks.{standing_quick}
 use Rattle.dvi_reader.proofs.pass.Statement.{statement}
 use Rattle.dvi_reader.proofs.pass.Tie as tie
 
@@ -33,52 +30,38 @@ invariant-loop dvi widths out₀ writing stack₀ q₀ at₀ to₀ count₀ out 
 abbrev decreases-loop : tie.decreases-loop
 decreases-loop dvi widths out₀ writing stack₀ q₀ at₀ to₀ count₀ out stack q at to count = length dvi - at
 
--- where the pass stands after a quick run
-module _ (c : tie.After-quickly invariant-loop decreases-loop) where
-  abbrev before : tie.At-loop invariant-loop decreases-loop
-  before = c.before.before.before
-
-  abbrev start : tie.Start invariant-loop decreases-loop
-  start = c.before.before.before.before.before.before
-
-  abbrev ended : Quick
-  ended = c.quickly.result
-
-  abbrev marks : List Mark
-  marks = before.loop.inv.0 ++ c.quickly.ensures.marks
-
-  standing : Standing marks_alone start.args.widths.now start.args.dvi.now before.loop.stack ended.state ended.at marks
-  standing = standing_quick before.loop.inv.1.0 c.quickly.ensures.ran
-
-  -- the fields of the run
-  fields_are : (ended.to - before.loop.to) / 16 ≡ length c.quickly.ensures.marks
-  fields_are = let r = c.quickly.ensures in omega (arith, r.put.place, r.ran.sixteen)
-
-  filled : Filled start.args.writing start.args.out.now c.quickly.new.1.1.0 marks ended.at ended.to (before.loop.count + (ended.to - before.loop.to) / 16)
-  filled =
-      let r = c.quickly.ensures in
-      filled_more before.loop.inv.1.1 ended.at r.marks r.ran.few r.put (ap (λ (n : ℕ). before.loop.count + n) fields_are) c.quickly.auto.1.1.0
-
 -- what one step says of the file
 module _ (c : tie.After-step invariant-loop decreases-loop) where
-  abbrev from : tie.After-quickly invariant-loop decreases-loop
-  from = c.before.before.before.before.before.before
+  abbrev loop : tie.At-loop invariant-loop decreases-loop
+  loop = c.before.before.before
+
+  abbrev start : tie.Start invariant-loop decreases-loop
+  start = loop.before.before.before
+
+  abbrev place : ℕ
+  place = loop.loop.at
+
+  abbrev marks : List Mark
+  marks = loop.loop.inv.0
+
+  abbrev standing : Standing marks_alone start.args.widths.now start.args.dvi.now loop.loop.stack loop.loop.q place marks
+  standing = loop.loop.inv.1.0
+
+  abbrev filled : Filled start.args.writing start.args.out.now loop.loop.out marks place loop.loop.to loop.loop.count
+  filled = loop.loop.inv.1.1
 
   abbrev entries : List ℤ
   entries = c.step.new.1.1.0
 
-  here : (ended from).at < length (start from).args.dvi.now
-  here = c.before.before.if1.true
-
-  stepped : {r : Stepped} → c.step.result ≡ r → step_here (start from).args.widths.now (start from).args.dvi.now (ended from).at (state_of (ended from).state (before from).loop.stack) ≡ step_of r entries
+  stepped : {r : Stepped} → c.step.result ≡ r → step_here start.args.widths.now start.args.dvi.now place (state_of loop.loop.q loop.loop.stack) ≡ step_of r entries
   stepped e = sym c.step.ensures ∙ ap (λ (r : Stepped). step_of r entries) e
 
   -- where a command leads that goes on
   abbrev Further : State → List Mark → ℕ → Type 0
-  Further t ms n = Standing marks_alone (start from).args.widths.now (start from).args.dvi.now entries t ((ended from).at + 1 + n) (marks from ++ ms)
+  Further t ms n = Standing marks_alone start.args.widths.now start.args.dvi.now entries t (place + 1 + n) (marks ++ ms)
 
   further : (t : State) (ms : List Mark) (n : ℕ) {r : Stepped} → c.step.result ≡ r → step_of r entries ≡ go_on (state_of t entries) ms n → Further t ms n
-  further t ms n e f = standing_next (standing from) here entries t ms n (c.step.auto.1.1.0 ∙ (standing from).whole) (stepped e ∙ f)
+  further t ms n e f = standing_next standing c.before.before.loop-test.true entries t ms n (c.step.auto.1.1.0 ∙ standing.whole) (stepped e ∙ f)
 
 goes : (c : tie.After-known-told2 invariant-loop decreases-loop) → let g = c.before.r2.given.0 in Further c.before.before.before.before g.0 [] g.1.0
 goes c = let g = c.before.r2.given in further c.before.before.before.before g.0.0 [] g.0.1.0 g.1 refl
@@ -90,14 +73,14 @@ showing c =
     further c.before.before.before.before g.0.0 (mark_of g.0.1.0 ∷ []) g.0.1.1.0 g.1 refl
 
 -- the field of the mark that is shown has room, if writing
-room : (c : tie.After-known-told3 invariant-loop decreases-loop) → (start (from c.before.before.before.before)).args.writing ≡ true
-    → length (mark_fields (marks (from c.before.before.before.before))) + field_size (mark_of c.before.r3.given.0.1.0) + 7 ≤ length (start (from c.before.before.before.before)).args.out.now
+room : (c : tie.After-known-told3 invariant-loop decreases-loop) → (start c.before.before.before.before).args.writing ≡ true
+    → length (mark_fields (marks c.before.before.before.before)) + field_size (mark_of c.before.r3.given.0.1.0) + 7 ≤ length (start c.before.before.before.before).args.out.now
 room c w =
-    let k = from c.before.before.before.before in
+    let k = c.before.before.before.before in
     let m = mark_of c.before.r3.given.0.1.0 in
     omega (
       arith,
-      shown_room (marks k ++ (m ∷ [])) _ (showing c).so_far ((start k).pre.1 w),
+      shown_room (marks k ++ (m ∷ [])) _ (showing c).so_far ((start k).requires.1 w),
       ap length (mark_fields_append (marks k) (m ∷ [])),
       length-append (mark_fields (marks k)) (mark_fields (m ∷ [])),
       ap length (one_field m),
@@ -109,117 +92,82 @@ loop-holds c =
     let a = c.before.before.args in
     ([], (standing_start marks_alone a.widths.now a.dvi.now _ refl, filled_start a.writing a.out.now))
 
-quickly-requires : tie.Need-quickly-requires invariant-loop decreases-loop
-quickly-requires c κs =
-    let s = c.before.before.before.before.before in
-    let k = c.before.before in
-    let i = k.loop.invariant in
-    let p = i.1.1 in (
-      ((c.before.loop-test.true, s.requires.0), p.near),
-      λ w at t ms e.
-          omega (
-            arith,
-            shown_room (i.0 ++ ms) _ (i.1.0.so_far ∙ ap (shows_first i.0) (e k.loop.stack) ∙ shows_first_append i.0 ms (run s.args.widths.now at (t k.loop.stack) 0 (drop at s.args.dvi.now))) (s.requires.1 w),
-            ap length (mark_fields_append i.0 ms),
-            length-append (mark_fields i.0) (mark_fields ms),
-            p.put.place,
-            p.same,
-          ),
-    )
-
-sub-count : tie.Need-overflow-sub-count invariant-loop decreases-loop
-sub-count c = omega (arith, c.before.before.before.quickly.ensures.put.place)
-
-cast-count : tie.Need-overflow-cast-count invariant-loop decreases-loop
-cast-count c = let k = c.before.before.before in record { fits = omega (arith, fields_are k, k.quickly.ensures.ran.few, (standing k).within, (start k).requires.0) }
-
-add-count : tie.Need-overflow-add-count invariant-loop decreases-loop
-add-count c = let k = c.before.before.before in record { fits = omega (arith, (filled k).few, (standing k).within, (start k).requires.0) }
-
 step-requires : tie.Need-step-requires invariant-loop decreases-loop
 step-requires c κs =
-    let k = c.before.before.before.before.before in
-    (c.before.if1.true, (omega (arith, (standing k).within, (start k).requires.0), ((standing k).whole, (standing k).low)))
+    let i = c.before.before.loop.invariant.1.0 in
+    (c.before.loop-test.true, (omega (arith, i.within, c.before.before.before.before.before.requires.0), (i.whole, i.low)))
 
 same_length : tie.Need-same-length invariant-loop decreases-loop
-same_length c = (filled (from c.before.before.before.before)).same
+same_length c = (filled c.before.before.before.before).same
 
 returns : tie.Need-returns invariant-loop decreases-loop
 returns c =
     let k = c.before.before.before.before in
     let g = c.before.r.given in
-    filled_refused (filled (from k)) (standing_refused (standing (from k)) (here k) g.0.0 (stepped k g.1)) (start (from k)).pre.1
+    filled_refused (filled k) (standing_refused (standing k) k.before.before.loop-test.true g.0.0 (stepped k g.1)) (start k).requires.1
 
 add_at : tie.Need-overflow-add-at invariant-loop decreases-loop
-add_at c = record { fits = omega (arith, (goes c).within, (start (from c.before.before.before.before)).pre.0) }
+add_at c = record { fits = omega (arith, (goes c).within, (start c.before.before.before.before).pre.0) }
 
 add-at-2 : tie.Need-overflow-add-at-2 invariant-loop decreases-loop
-add-at-2 c = record { fits = omega (arith, (goes c).within, (start (from c.before.before.before.before)).pre.0) }
+add-at-2 c = record { fits = omega (arith, (goes c).within, (start c.before.before.before.before).pre.0) }
 
 loop-less : tie.Need-loop-smaller invariant-loop decreases-loop
-loop-less c = let k = c.before.before.before.before in omega (arith, (goes c).within, here k, (from k).quickly.ensures.ran.few)
+loop-less c = omega (arith, (goes c).within, c.before.before.before.before.before.before.loop-test.true)
 
 loop-again : tie.Need-loop-preserved invariant-loop decreases-loop
-loop-again c = (_, (goes c, filled_still (filled (from c.before.before.before.before)) _ (omega arith)))
+loop-again c = (_, (goes c, filled_still (filled c.before.before.before.before) _ (omega arith)))
 
 show-mark-requires : tie.Need-show-mark-requires invariant-loop decreases-loop
 show-mark-requires c κs =
-    let k = from c.before.before.before.before.before in
+    let k = c.before.before.before.before.before in
     let p = filled k in
-    (omega (arith, p.near, (standing k).within, (start k).pre.0), λ w. omega (arith, room c.before w, p.put.place, p.same))
+    (omega (arith, p.near, (standing k).within, (start k).requires.0), λ w. omega (arith, room c.before w, p.put.place, p.same))
 
-add-count-2 : tie.Need-overflow-add-count-2 invariant-loop decreases-loop
-add-count-2 c =
-    let k = from c.before.before.before.before.before.before.before.before in
-    record { fits = omega (arith, (filled k).few, (standing k).within, (start k).pre.0) }
+add-count : tie.Need-overflow-add-count invariant-loop decreases-loop
+add-count c =
+    let k = c.before.before.before.before.before.before.before.before in
+    record { fits = omega (arith, (filled k).few, (standing k).within, (start k).requires.0) }
 
 add-at-3 : tie.Need-overflow-add-at-3 invariant-loop decreases-loop
 add-at-3 c =
     let t = c.before.before.before.before in
-    record { fits = omega (arith, (showing t).within, (start (from t.before.before.before.before)).pre.0) }
+    record { fits = omega (arith, (showing t).within, (start t.before.before.before.before).pre.0) }
 
 add-at-4 : tie.Need-overflow-add-at-4 invariant-loop decreases-loop
 add-at-4 c =
     let t = c.before.before.before.before in
-    record { fits = omega (arith, (showing t).within, (start (from t.before.before.before.before)).pre.0) }
+    record { fits = omega (arith, (showing t).within, (start t.before.before.before.before).pre.0) }
 
 loop-less-2 : tie.Need-loop-smaller-2 invariant-loop decreases-loop
 loop-less-2 c =
     let t = c.before.before.before.before in
-    let k = t.before.before.before.before in
-    omega (arith, (showing t).within, here k, (from k).quickly.ensures.ran.few)
+    omega (arith, (showing t).within, t.before.before.before.before.before.before.loop-test.true)
 
 loop-again-2 : tie.Need-loop-preserved-2 invariant-loop decreases-loop
 loop-again-2 c =
     let t = c.before.before.before.before in
     let p = c.before.before.show_mark in
-    (_, (showing t, filled_mark (filled (from t.before.before.before.before)) _ (mark_of t.before.r3.given.0.1.0) (omega arith) p.ensures p.auto.0))
+    (_, (showing t, filled_mark (filled t.before.before.before.before) _ (mark_of t.before.r3.given.0.1.0) (omega arith) p.ensures p.auto.0))
 
 show-end-requires : tie.Need-show-end-requires invariant-loop decreases-loop
 show-end-requires c κs w =
-    let k = from c.before.before.before.before in
-    omega (arith, shown_room (marks k) _ (standing k).so_far ((start k).pre.1 w), (filled k).put.place, (filled k).same)
+    let k = c.before.before.before.before in
+    omega (arith, shown_room (marks k) _ (standing k).so_far ((start k).requires.1 w), (filled k).put.place, (filled k).same)
 
-add-t35 : tie.Need-overflow-add-t35 invariant-loop decreases-loop
-add-t35 c =
-    let k = from c.before.before.before.before.before.before.before in
-    record { fits = omega (arith, (filled k).near, (standing k).within, (start k).pre.0) }
+add-t29 : tie.Need-overflow-add-t29 invariant-loop decreases-loop
+add-t29 c =
+    let k = c.before.before.before.before.before.before.before in
+    record { fits = omega (arith, (filled k).near, (standing k).within, (start k).requires.0) }
 
 same-length-2 : tie.Need-same-length-2 invariant-loop decreases-loop
-same-length-2 c = c.before.before.show_end.auto.0 ∙ (filled (from c.before.before.before.before.before.before.before)).same
+same-length-2 c = c.before.before.show_end.auto.0 ∙ (filled c.before.before.before.before.before.before.before).same
 
 returns-2 : tie.Need-returns-2 invariant-loop decreases-loop
 returns-2 c =
     let k = c.before.before.before.before.before.before.before in
-    let e = standing_finished (standing (from k)) (here k) (stepped k c.before.before.before.before.enum_told.given.1) in
-    filled_finished (filled (from k)) e c.before.before.show_end.ensures
-
--- a run that goes to the end of the file
-loop-less-3 : tie.Need-loop-smaller-3 invariant-loop decreases-loop
-loop-less-3 c = omega (arith, c.if1.false, c.before.before.before.before.before.before.loop-test.true)
-
-loop-again-3 : tie.Need-loop-preserved-3 invariant-loop decreases-loop
-loop-again-3 c = (_, (standing c.before.before.before.before, filled c.before.before.before.before))
+    let e = standing_finished (standing k) k.before.before.loop-test.true (stepped k c.before.before.before.before.enum_told.given.1) in
+    filled_finished (filled k) e c.before.before.show_end.ensures
 
 same-length-3 : tie.Need-same-length-3 invariant-loop decreases-loop
 same-length-3 c = c.before.loop.invariant.1.1.same
@@ -232,6 +180,6 @@ returns-3 c =
 pub pass_spec : {M : Type 1} → statement M
 pass_spec =
     tie.close
-    (tie.spec invariant-loop decreases-loop loop-holds quickly-requires sub-count cast-count add-count (λ c. search rules) step-requires (λ c. search rules) same_length returns
-    (λ c. search rules) add_at add-at-2 loop-less loop-again (λ c. search rules) show-mark-requires add-count-2 add-at-3 add-at-4 loop-less-2 loop-again-2
-    (λ c. search rules) show-end-requires add-t35 same-length-2 returns-2 loop-less-3 loop-again-3 same-length-3 returns-3)
+    (tie.spec invariant-loop decreases-loop loop-holds (λ c. search rules) step-requires (λ c. search rules) same_length returns (λ c. search rules) add_at add-at-2
+    loop-less loop-again (λ c. search rules) show-mark-requires add-count add-at-3 add-at-4 loop-less-2 loop-again-2 (λ c. search rules)
+    show-end-requires add-t29 same-length-2 returns-2 same-length-3 returns-3)

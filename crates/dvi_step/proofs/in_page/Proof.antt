@@ -5,6 +5,7 @@ use borrow.Author.Rules.{rules}
 use lib.IntN.{ℤ}
 use Rattle.integers.specs.Bits.{plain}
 use Rattle.dvi.specs.File.{after_effect, in_page, step}
+use Rattle.dvi_command.specs.Command.{decoded_of}
 use Rattle.dvi_page.specs.Page.{page_of, effect_of}
 use Rattle.dvi_step.proofs.in_page.Statement.{statement}
 use Rattle.dvi_step.proofs.in_page.Tie as tie
@@ -13,13 +14,13 @@ returns : tie.Need-returns
 unfolding step in_page
 returns c =
     let a = c.before.before.before.before.before.args in
-    ap (in_page a.widths.now a.last (page_of a.p a.entries.now)) (sym c.enum_told.given.1 ∙ c.before.before.decode.ensures)
+    ap (in_page a.widths.now a.last (page_of a.p a.entries.now)) (ap decoded_of (sym c.enum_told.given.1) ∙ c.before.before.decode.ensures)
 
 returns-2 : tie.Need-returns-2
 unfolding step in_page
 returns-2 c =
     let a = c.before.before.before.before.before.args in
-    ap (in_page a.widths.now a.last (page_of a.p a.entries.now)) (sym c.enum-told2.given.1 ∙ c.before.before.decode.ensures)
+    ap (in_page a.widths.now a.last (page_of a.p a.entries.now)) (ap decoded_of (sym c.enum-told2.given.1) ∙ c.before.before.decode.ensures)
 
 returns-3 : tie.Need-returns-3
 unfolding step in_page
@@ -33,7 +34,7 @@ returns-3 c =
     c.after_effect.ensures l
     ∙ ap (λ (z : ℤ). after_effect z n (effect_of e.result l)) (plain s.ranges.last)
     ∙ ap (after_effect a.last n) e.ensures
-    ∙ ap (in_page a.widths.now a.last (page_of a.p a.entries.now)) (sym g.1 ∙ c.before.before.before.before.before.before.before.decode.ensures)
+    ∙ ap (in_page a.widths.now a.last (page_of a.p a.entries.now)) (ap decoded_of (sym g.1) ∙ c.before.before.before.before.before.before.before.decode.ensures)
 
 pub in-page-spec : {M : Type 1} → statement M
 in-page-spec =

@@ -2,7 +2,7 @@
 -- Assumes nothing.
 use mathlib.Core.Path.{ap, ◌∙◌}
 use borrow.Author.Rules.{rules}
-use Rattle.galley_check.specs.Found.{FoundOutcome}
+use Rattle.galley_check.specs.Found.{FoundOutcome, outcome_of_found}
 use Rattle.octets.specs.Answer.{numbers_of}
 use Rattle.spatecanter.specs.Numbers.{found_numbers}
 use Rattle.spatecanter.proofs.sp_read_back.Statement.{statement}
@@ -11,7 +11,7 @@ use Rattle.spatecanter.proofs.sp_read_back.Tie as tie
 returns : tie.Need-returns
 returns c =
     let r = c.before.before.read_back.ensures in
-    (c.before.found_numbers.ensures ∙ ap (λ (f : FoundOutcome). numbers_of f.outcome) r, c.found_character.ensures ∙ ap found_numbers r)
+    (c.before.found_numbers.ensures ∙ ap (λ (f : FoundOutcome). numbers_of (outcome_of_found f)) r, c.found_character.ensures ∙ ap found_numbers r)
 
 pub sp-read-back-spec : {M : Type 1} → statement M
 sp-read-back-spec = tie.close (tie.spec (λ c κs. search rules) (λ c κs. search rules) (λ c κs. search rules) returns)

@@ -1,9 +1,10 @@
 -- `xgp_step::after_effect` meets its contract: by the effect.
 -- Assumes nothing.
-use Rattle.std.proofs.Common.{sym, ap, rules}
+use mathlib.Core.Path.{sym, ap}
 use Rattle.xgp.specs.Effect.{effect_of}
 use Rattle.xgp.specs.File.{after_effect}
 use Rattle.xgp.specs.declared.state.Effect.{Effect}
+use borrow.Author.Rules.{rules}
 use Rattle.xgp_step.proofs.after_effect.Statement.{statement}
 use Rattle.xgp_step.proofs.after_effect.Tie as tie
 

@@ -1,7 +1,8 @@
 -- `xgp_step::step` meets its contract: the code is decoded, its effect taken, and the step made of it.
 -- Assumes nothing.
-use Rattle.std.proofs.Common.{sym, ap, ◌∙◌, rules}
+use mathlib.Core.Path.{sym, ap, ◌∙◌}
 use Rattle.xgp.specs.File.{after_effect, after_code, step}
+use borrow.Author.Rules.{rules}
 use Rattle.xgp_step.proofs.step.Statement.{statement}
 use Rattle.xgp_step.proofs.step.Tie as tie
 

@@ -1,114 +1,101 @@
 //! The command `spatecanter`: `spatecanter --help` says what it does.
-//!
-//! `cli` parses the words by its table of commands, `commands` has a file for each command, and the other folders
-//! have what they share.
 
-mod cli;
+mod arguments;
+mod codes;
 mod commands;
-mod error;
+mod completions;
+mod differences;
+mod done;
+mod each;
+mod edition;
+mod failure;
+mod flags;
+mod folders;
+mod font_marks;
+mod fonts;
+mod grid;
+mod help;
+mod index;
 mod input;
+mod listing;
+mod loudness;
+mod manual;
+mod many;
+mod marks;
+mod options;
 mod output;
-mod page;
-mod run;
-mod write;
+mod pieces;
+mod plan;
+mod plot;
+mod progress;
+mod refused;
+mod report;
+mod sheets;
+mod signals;
+mod split;
+mod summary;
+mod tapes;
+mod text;
+mod threads;
+mod version;
+mod words;
+mod xgp;
 
-use cli::table::{Command, COMMANDS};
-use cli::{completions, help, manual, nearest, parse};
-use error::Failure;
-use input::name::quoted_word;
-use output::place::print;
-use run::progress::{self, say};
-use std::ffi::{OsStr, OsString};
+use commands::{Command, COMMANDS};
+use failure::Failure;
+use std::ffi::OsString;
 use std::process::ExitCode;
 
 fn main() -> ExitCode {
-    run::signals::clean_up_before_the_end(output::abandon);
+    signals::tidy_before_the_end(output::abandon);
     let words: Vec<OsString> = std::env::args_os().skip(1).collect();
     match run(&words) {
         Ok(()) => ExitCode::SUCCESS,
-        Err(failure) => report(failure),
+        Err(failure) => failure.report(),
     }
 }
 
 fn run(words: &[OsString]) -> Result<(), Failure> {
     let Some((first, rest)) = words.split_first() else {
-        return Err(Failure::usage("no command given"));
+        return Err(Failure::Usage("no command is given".into()));
     };
     match first.to_str() {
-        Some("--help" | "-h" | "help") => help_on(rest),
-        Some("--version" | "-V") => no_more(rest).and_then(|()| print(&help::version())),
-        Some("--generate") => print(&generated(rest)?),
+        Some("--help" | "-h") => output::print(help::WHOLE),
+        Some("help") => help_on(rest),
+        Some("--version" | "-V") => output::print(&version::text()),
+        Some("--generate") => output::print(&generated(rest)?),
         _ => call(named(first)?, rest),
     }
 }
 
 fn call(command: &Command, words: &[OsString]) -> Result<(), Failure> {
-    let Some(values) = parse::parse(command, words)? else {
-        return print(&help::of(command));
-    };
-    progress::set_loudness(values.loudness());
-    (command.run)(values)
+    if arguments::ask_for_help(words) {
+        return output::print(&help::of(command));
+    }
+    let arguments = arguments::parse(command, words)?;
+    loudness::set(arguments.loudness()?);
+    (command.run)(&arguments)
 }
 
 fn help_on(words: &[OsString]) -> Result<(), Failure> {
-    let Some((name, rest)) = words.split_first() else {
-        return print(&help::whole());
-    };
-    no_more(rest)?;
-    print(&help::of(named(name)?))
+    match words.first() {
+        None => output::print(help::WHOLE),
+        Some(name) => output::print(&help::of(named(name)?)),
+    }
 }
 
-/// The manual page, or completions for a shell.
+/// A text for the tools that help with a command: the manual page, or the completions of a shell.
 fn generated(words: &[OsString]) -> Result<String, Failure> {
-    let (word, rest) = words.split_first().map_or((OsStr::new(""), words), |(word, rest)| (word, rest));
-    no_more(rest)?;
-    match word.to_str() {
+    match words.first().and_then(|word| word.to_str()) {
         Some("man") => Ok(manual::page()),
         Some("bash") => Ok(completions::bash()),
         Some("zsh") => Ok(completions::zsh()),
         Some("fish") => Ok(completions::fish()),
-        _ => Err(Failure::usage("--generate: expected man, bash, zsh or fish")),
+        _ => Err(Failure::Usage("--generate makes man, bash, zsh or fish".into())),
     }
 }
 
-fn no_more(words: &[OsString]) -> Result<(), Failure> {
-    match words.first() {
-        None => Ok(()),
-        Some(word) => Err(Failure::usage(format!("{}: unexpected word", quoted_word(word)))),
-    }
-}
-
-fn named(name: &OsStr) -> Result<&'static Command, Failure> {
-    let unknown = || {
-        let word = quoted_word(name);
-        let meant = nearest::meant(&word, COMMANDS.iter().map(|command| command.name));
-        Failure::usage(format!("{word}: no such command{meant}"))
-    };
-    COMMANDS.iter().find(|command| name == command.name).ok_or_else(unknown)
-}
-
-/// Reports a failure on standard error. The status is 1 for a refusal or a difference, 0 if the reader of standard
-/// output closed it, and 2 for all other failures.
-fn report(failure: Failure) -> ExitCode {
-    match failure {
-        Failure::Refused(refused) => {
-            say(&format!("spatecanter: {}", refused.lines().join("\n")));
-            ExitCode::from(1)
-        }
-        Failure::UnknownMachine(tape) => {
-            say(&format!("spatecanter: {}", tape.lines().join("\n")));
-            ExitCode::from(2)
-        }
-        Failure::Usage { what, usage } => {
-            let usage = usage.map_or(String::new(), |usage| format!("\nUsage: {usage}"));
-            say(&format!("spatecanter: {what}{usage}\nSee spatecanter --help."));
-            ExitCode::from(2)
-        }
-        Failure::File(what) | Failure::Different(what) => {
-            say(&format!("spatecanter: {what}"));
-            ExitCode::from(2)
-        }
-        Failure::Reported(status) => ExitCode::from(status),
-        Failure::Closed => ExitCode::SUCCESS,
-    }
+fn named(name: &OsString) -> Result<&'static Command, Failure> {
+    let unknown = || Failure::Usage(format!("there is no command {}", name.to_string_lossy()));
+    COMMANDS.iter().find(|command| *name == *command.name).ok_or_else(unknown)
 }

@@ -2,8 +2,8 @@
 
 use super::dvi::DviFile;
 use super::valid_galley_with_cuts;
-use crate::sample::Random;
 use spatecanter::galley::{items, Character, Item};
+use spatecanter::sample::Random;
 
 /// A file that shows a galley, or nearly so.
 pub fn shown_galley(random: &mut Random) -> DviFile {
@@ -51,7 +51,7 @@ impl Writer {
     }
 
     fn character(&mut self, random: &mut Random, character: Character) {
-        let mut font = i32::from(character.font_number);
+        let mut font = character.font_number;
         let mut code = character.code;
         if self.slips && random.one_in(40) {
             font = random.pick(&[-1, 120, i32::MIN, i32::MAX, (font + 9) % 120]);

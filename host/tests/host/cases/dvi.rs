@@ -2,7 +2,7 @@
 
 use super::{damaged, valid_galley_with_cuts};
 use crate::plain;
-use crate::sample::Random;
+use spatecanter::sample::Random;
 
 #[derive(Clone)]
 pub struct DviFile {

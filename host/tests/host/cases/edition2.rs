@@ -2,7 +2,7 @@
 
 use super::{damaged, tall_galley};
 use crate::plain;
-use crate::sample::Random;
+use spatecanter::sample::Random;
 
 /// A file as our writer makes it.
 pub fn valid_edition2_file(random: &mut Random) -> Vec<u8> {

@@ -1,7 +1,7 @@
 //! Galleys, of the new form and of the old.
 
 use super::damaged;
-use crate::sample::Random;
+use spatecanter::sample::Random;
 
 /// The form of a galley's characters.
 #[derive(Clone, Copy, PartialEq)]

@@ -16,7 +16,7 @@ pub use galley::{
 pub use tape::{tape, valid_tape};
 pub use xgp::{valid_xgp_file, xgp_file};
 
-use crate::sample::Random;
+use spatecanter::sample::Random;
 
 /// The same bytes with one thing wrong: a byte changed, left out or put in, or the end cut off or grown.
 pub fn damaged(random: &mut Random, mut bytes: Vec<u8>) -> Vec<u8> {

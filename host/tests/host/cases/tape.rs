@@ -1,7 +1,7 @@
 //! Tapes.
 
 use super::damaged;
-use crate::sample::Random;
+use spatecanter::sample::Random;
 
 /// A tape of any kind for the machine with so many fonts, 4 or 8: valid, damaged, with a bad cut or a tilt, near
 /// the greatest height, of likely codes, or of any bytes.

@@ -1,7 +1,7 @@
 //! Files of XGP character mode with their line spacings and width tables.
 
 use super::damaged;
-use crate::sample::Random;
+use spatecanter::sample::Random;
 
 #[derive(Clone)]
 pub struct XgpFile {

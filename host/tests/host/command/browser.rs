@@ -1,9 +1,9 @@
-//! Pictures and indexes in a real browser, if one is installed.
+//! Pictures and indexes, looked at in a real browser, where one is installed.
 
 use super::*;
-use crate::sample::{codes, pages, yearbook};
-use crate::support::left_out;
+use spatecanter::sample::{codes, pages, yearbook};
 use spatecanter::Machine;
+use std::io::stderr;
 
 /// Chromium, or a browser of its kind.
 fn browser() -> Option<PathBuf> {
@@ -14,7 +14,7 @@ fn browser() -> Option<PathBuf> {
         .find(|it| it.is_file())
 }
 
-/// What the browser finds in the folder's index and in its picture out/a.tape.large.svg, a line for each fact.
+/// What the browser finds in the folder's index and in its picture out/a.tape.svg: a line for each.
 fn looked_at(browser: &Path, folder: &Path) -> String {
     fs::write(folder.join("browser.html"), include_str!("browser.html")).unwrap();
     let output = Command::new(browser)
@@ -32,7 +32,12 @@ fn looked_at(browser: &Path, folder: &Path) -> String {
 #[test]
 fn a_browser_shows_the_index_and_the_picture() {
     let Some(browser) = browser() else {
-        return left_out("there is no Chromium");
+        // Past the capture of a test's output, so that it is seen.
+        let _ = writeln!(
+            stderr(),
+            "left out: a_browser_shows_the_index_and_the_picture, since there is no chromium"
+        );
+        return;
     };
     let folder = folder("browser");
     let shelf = folder.join("shelf");
@@ -56,7 +61,7 @@ fn a_browser_shows_the_index_and_the_picture() {
     }
     assert_eq!(value("first"), "Tdk; font 3, 16 points; codes 46 4 11; x 0.000 in, height 0.000 in");
     assert_eq!(value("words"), value("words under the pointer"));
-    // A mark has several pixels, so each colour has more pixels than its fonts have characters.
+    // A mark is some pixels: of each colour as many as there are characters of its fonts, and more.
     let galley = spatecanter::read_tape(&tape, Machine::Eight).unwrap();
     let of_fonts = |fonts: &[i32]| galley.characters().filter(|it| fonts.contains(&it.font())).count();
     for (colour, fonts) in [("blue", &[1][..]), ("orange", &[2]), ("grey", &[3])] {

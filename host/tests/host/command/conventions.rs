@@ -1,4 +1,5 @@
-//! Conventions of the command line: the version, short and long options, -q and -v, the manual page and completions.
+//! What the command has in common with others: the version, short and long options, how much is told, and the texts
+//! for the manual and for shells.
 
 use super::*;
 use std::process;
@@ -22,7 +23,7 @@ fn the_version_names_library_and_toolchain() {
     assert_eq!(run(&folder, &["-V"]).text(), text);
 }
 
-/// The package and the library have the same version.
+/// The package's version is the number that the library gives.
 #[test]
 fn the_package_and_the_library_have_one_version() {
     let parts: Vec<u32> = env!("CARGO_PKG_VERSION").split('.').map(|part| part.parse().unwrap()).collect();
@@ -53,8 +54,8 @@ fn an_output_is_named_in_each_usual_way() {
     assert_eq!(names(&folder.join("out")), ["p3.tape.dvi", "p3.tape.galley", "p3.tape.sheet"]);
     let refused = run(&folder, &["read", "p3.tape", "-o", "a", "--output", "b"]);
     assert_eq!(refused.status, 2);
-    assert!(refused.err.starts_with("spatecanter: --output: given twice\n"), "{}", refused.err);
-    for (word, what) in [("-qx", "-x: not an option of read"), ("--quiet=1", "--quiet: takes no value")] {
+    assert!(refused.err.starts_with("spatecanter: --output is given twice\n"), "{}", refused.err);
+    for (word, what) in [("-qx", "-x is no option of read"), ("--quiet=1", "--quiet takes no value")] {
         let refused = run(&folder, &["read", "p3.tape", word]);
         assert_eq!(refused.status, 2);
         assert!(refused.err.starts_with(&format!("spatecanter: {what}\n")), "{}", refused.err);
@@ -65,9 +66,9 @@ fn an_output_is_named_in_each_usual_way() {
 fn quiet_and_verbose() {
     let folder = folder("loudness");
     fs::write(folder.join("p3.tape"), hex(P3_TAPE)).unwrap();
-    fs::write(folder.join("one.tape"), hex("40 EF 52 4E 01 49")).unwrap();
-    // Neither the output nor a warning is reported.
-    for tape in ["p3.tape", "one.tape"] {
+    fs::write(folder.join("four.tape"), hex(PAIRS_TAPE)).unwrap();
+    // Neither what was written nor a hint.
+    for tape in ["p3.tape", "four.tape"] {
         let quiet = run(&folder, &["read", tape, "--quiet"]);
         assert_eq!((quiet.status, quiet.err.as_str()), (0, ""), "{tape}");
     }
@@ -82,7 +83,7 @@ fn quiet_and_verbose() {
     assert_eq!(run(&folder, &["read", "p3.tape", "-qv", "--force"]).status, 2);
 }
 
-/// The commands that the whole help lists.
+/// The commands, as the whole help has them.
 fn commands(folder: &Path) -> Vec<String> {
     let help = run(folder, &["--help"]).text();
     let lines = help.lines().skip_while(|line| !line.starts_with("Usage")).skip(2);
@@ -92,7 +93,7 @@ fn commands(folder: &Path) -> Vec<String> {
         .collect()
 }
 
-/// The options in a command's usage line.
+/// The options of a command, as its usage line has them.
 fn options(folder: &Path, command: &str) -> Vec<String> {
     let help = run(folder, &[command, "--help"]).text();
     let usage = help.split("Usage: ").nth(1).unwrap().split("\n\n").next().unwrap();
@@ -135,93 +136,12 @@ fn the_manual_has_the_texts_of_help() {
         };
         assert!(plain.contains(text.trim_end()), "{text}");
     }
-    let sections = [
-        "NAME",
-        "SYNOPSIS",
-        "DESCRIPTION",
-        "COMMANDS",
-        "OPTIONS",
-        "FILES",
-        "EXIT STATUS",
-        "EXAMPLES",
-        "SEE ALSO",
-    ];
-    for section in sections {
+    for section in ["NAME", "SYNOPSIS", "DESCRIPTION", "COMMANDS", "OPTIONS", "FILES", "EXIT STATUS"] {
         assert!(plain.contains(&format!("\n.SH {section}\n")), "{section}");
     }
 }
 
-/// No line of help or manual is too long, and each help has examples of its own command.
-#[test]
-fn texts_fit_and_have_examples() {
-    let folder = folder("texts_fit");
-    let mut texts = vec![run(&folder, &["--help"]).text(), run(&folder, &["--generate", "man"]).text()];
-    for command in commands(&folder) {
-        let help = run(&folder, &[&command, "--help"]).text();
-        let examples = help.split_once("\nExamples:\n").unwrap_or_else(|| panic!("{command}")).1;
-        assert!(examples.starts_with(&format!("  spatecanter {command} ")), "{examples}");
-        texts.push(help);
-    }
-    for line in texts.iter().flat_map(|text| text.lines()) {
-        assert!(line.chars().count() <= 100, "{line}");
-    }
-    // The manual shows lines between .nf and .fi as they are, seven columns to the right.
-    let mut indent = 0;
-    for line in texts[1].replace("\\-", "-").lines() {
-        match line {
-            ".nf" => indent = 7,
-            ".fi" => indent = 0,
-            _ => assert!(indent + line.chars().count() <= 100, "{line}"),
-        }
-    }
-}
-
-/// An unknown command or option is answered with the nearest known one, if one is near.
-#[test]
-fn the_nearest_known_word() {
-    let folder = folder("nearest");
-    let calls: [(&[&str], &str); 6] = [
-        (&["raed", "a"], "raed: no such command; did you mean read?\n"),
-        (&["compair", "a"], "compair: no such command; did you mean compare?\n"),
-        (&["help", "reports"], "reports: no such command; did you mean report?\n"),
-        (&["frobnicate"], "frobnicate: no such command\n"),
-        (&["read", "a", "--machin", "4"], "--machin: not an option of read; did you mean --machine?\n"),
-        (&["plot", "a", "-x"], "-x: not an option of plot\n"),
-    ];
-    for (words, what) in calls {
-        let wrong = run(&folder, words);
-        assert_eq!(wrong.status, 2, "{words:?}");
-        assert!(wrong.err.starts_with(&format!("spatecanter: {what}")), "{words:?}: {}", wrong.err);
-    }
-}
-
-/// A file of another kind that is given as a tape is named.
-#[test]
-fn files_of_another_kind_are_named() {
-    let folder = folder("other_kinds");
-    fs::write(folder.join("a.tape"), hex(P3_TAPE)).unwrap();
-    assert_eq!(run(&folder, &["reprint", "a.tape", "-d", "."]).status, 0);
-    assert_eq!(run(&folder, &["set", "a.tape.galley", "--edition", "2", "-o", "second.dvi"]).status, 0);
-    for (name, what) in [
-        ("a.tape.dvi", "this seems to be a DVI file of 1980: see spatecanter show and back\n"),
-        ("second.dvi", "this seems to be a DVI file of the second edition: see spatecanter back\n"),
-        ("a.tape.sheet", "this seems to be a sheet: see spatecanter sheet\n"),
-    ] {
-        let bytes = fs::read(folder.join(name)).unwrap();
-        for run in [
-            run(&folder, &["read", name]),
-            run(&folder, &["list", name]),
-            run_on(&folder, &["read", "-"], &bytes),
-        ] {
-            assert_eq!(run.status, 1, "{name}: {}", run.err);
-            assert!(run.err.ends_with(what), "{name}: {}", run.err);
-        }
-    }
-    let galley = run(&folder, &["read", "a.tape.galley"]);
-    assert!(galley.err.ends_with("this seems to be a galley: see spatecanter check\n"), "{}", galley.err);
-}
-
-/// What the completions for bash offer for the last of these words.
+/// What the completions for bash offer after these words, of which the last is begun.
 fn completed(script: &Path, folder: &Path, words: &[&str]) -> Vec<String> {
     let program =
         "source \"$1\"; shift; COMP_WORDS=(\"$@\"); COMP_CWORD=$(($# - 1)); COMPREPLY=(); _spatecanter; \
@@ -285,7 +205,7 @@ fn zsh_and_fish_have_every_command_and_option() {
             }
         }
         fs::write(folder.join(shell), &script).unwrap();
-        // The shell itself checks the script, if it is installed.
+        // The shell's own reading, where there is one.
         if let Ok(read) = process::Command::new(shell).arg("-n").arg(folder.join(shell)).output() {
             assert!(read.status.success(), "{shell}: {}", String::from_utf8_lossy(&read.stderr));
         }

@@ -1,7 +1,7 @@
 //! Both editions of DVI.
 
 use super::*;
-use crate::sample::{chart, yearbook};
+use spatecanter::sample::{chart, yearbook};
 use spatecanter::Machine;
 
 #[test]
@@ -10,8 +10,7 @@ fn a_galley_set_in_either_edition_and_back() {
     fs::write(folder.join("a.galley"), hex(NEW_P3)).unwrap();
     for (edition, length) in [("1980", 70), ("2", 196)] {
         let set = run(&folder, &["set", "a.galley", "--edition", edition, "-o", "a.dvi", "--force"]);
-        let first = set.err.lines().next();
-        assert_eq!((set.status, first), (0, Some(format!("a.dvi: {length} bytes").as_str())));
+        assert_eq!((set.status, set.err.as_str()), (0, format!("a.dvi: {length} bytes\n").as_str()));
         let back = run(&folder, &["back", "a.dvi", "--force"]);
         assert_eq!((back.status, back.err.as_str()), (0, "a.dvi.galley: 2 characters\n"));
         assert_eq!(fs::read(folder.join("a.dvi.galley")).unwrap(), hex(NEW_P3));
@@ -30,16 +29,16 @@ fn widths_are_not_for_the_second_edition() {
     fs::write(folder.join("widths"), [0; 512]).unwrap();
     let back = run(&folder, &["back", "a.dvi", "--widths", "widths"]);
     assert_eq!(back.status, 2);
-    assert!(back.err.contains("--widths: a.dvi is in the second edition, which needs none"), "{}", back.err);
+    assert!(back.err.contains("a.dvi is of the second edition, which needs no --widths"), "{}", back.err);
     let show = run(&folder, &["show", "a.dvi"]);
     assert_eq!(show.status, 1);
-    for part in ["refused 21 at 0", "this is a file of the second edition: see spatecanter back"] {
+    for part in ["refused 21 at 0", "a file of the second edition begins so: see spatecanter back"] {
         assert!(show.err.contains(part), "{}", show.err);
     }
     assert_eq!(names(&folder), ["a.dvi", "widths"]);
 }
 
-/// The summary is the same in both editions. The second holds columns that are too long for 1980.
+/// The summary is the same in both editions; columns that are too long for 1980 are not for the second.
 #[test]
 fn a_tape_reprinted_in_either_edition() {
     let folder = folder("reprint_editions");
@@ -69,15 +68,14 @@ fn other_editions_are_wrong_usage() {
     for edition in ["1", "3", "", "second", "02"] {
         let set = run(&folder, &["set", "a.galley", "--edition", edition]);
         assert_eq!(set.status, 2);
-        let word = if edition.is_empty() { "\"\"" } else { edition };
-        let told = format!("--edition {word}: expected 1980 or 2");
+        let told = format!("--edition {edition} is no edition of DVI: it is 1980 or 2");
         assert!(set.err.contains(&told), "{}", set.err);
     }
     assert_eq!(run(&folder, &["back", "a.galley", "--edition", "2"]).status, 2);
     assert_eq!(names(&folder), ["a.galley"]);
 }
 
-/// The DVI file of P3 with a cut, with other bytes from some place on.
+/// The file of P3 with its cut, and some other bytes from a place on: what is said of it.
 #[test]
 fn a_file_of_the_second_edition_that_set_does_not_make_says_why() {
     let folder = folder("not_ours");
@@ -139,7 +137,7 @@ fn a_file_of_the_second_edition_that_set_does_not_make_says_why() {
         (196, "DF", "refused 46 at 196", "fnt_num_52\n  expected: the end of the file"),
     ];
     for (place, other, refusal, more) in rows {
-        fs::write(folder.join("a.dvi"), [&dvi.as_bytes()[..place], &hex(other)].concat()).unwrap();
+        fs::write(folder.join("a.dvi"), [&dvi[..place], &hex(other)].concat()).unwrap();
         let run = run(&folder, &["back", "a.dvi"]);
         assert_eq!((run.status, run.text().as_str()), (1, ""), "{place} {other}");
         assert!(run.err.contains(refusal) && run.err.contains(more), "{place} {other}: {}", run.err);
@@ -147,7 +145,7 @@ fn a_file_of_the_second_edition_that_set_does_not_make_says_why() {
     }
 }
 
-/// A single size cannot stand at -1: a move right is missing.
+/// From -1 to a single size a move right has to come.
 #[test]
 fn a_place_that_the_font_does_not_have() {
     let folder = folder("not_valid");
@@ -155,7 +153,7 @@ fn a_place_that_the_font_does_not_have() {
     let dvi = spatecanter::write_dvi2(&galley).unwrap();
     let other =
         spatecanter::write_dvi2(&hex("07 00 08 00 00 00 00 00 00 02 01 02 00 04 00 00 00 01")).unwrap();
-    fs::write(folder.join("a.dvi"), [&dvi.as_bytes()[..85], &other.as_bytes()[60..]].concat()).unwrap();
+    fs::write(folder.join("a.dvi"), [&dvi[..85], &other[60..]].concat()).unwrap();
     let run = run(&folder, &["back", "a.dvi"]);
     assert!(run.err.contains("refused 46 at 106"), "{}", run.err);
     let expected = "expected: a move right, since x is -1, and has to be 0 to 3,239 in a single size";

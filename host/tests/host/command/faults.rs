@@ -2,8 +2,7 @@
 
 use super::many::{files, outputs_of};
 use super::*;
-use crate::sample::yearbook;
-use crate::support::left_out;
+use spatecanter::sample::yearbook;
 use spatecanter::Machine;
 use std::collections::BTreeMap;
 use std::ffi::c_int;
@@ -13,7 +12,7 @@ use std::process::{Child, Output};
 use std::thread;
 use std::time::Duration;
 
-/// A shelf of generated tapes, some in a folder below, and what reprint makes of them.
+/// A shelf of made tapes, some in a folder of their own, and what reprint makes of all.
 struct Shelf {
     folder: PathBuf,
     tapes: BTreeMap<String, Vec<u8>>,
@@ -35,8 +34,8 @@ impl Shelf {
         shelf
     }
 
-    /// Checks that the inputs are unchanged, and that each tape has all its outputs or what was there before. Returns
-    /// how many tapes have their outputs.
+    /// The inputs are there as they were, and so is each tape's whole output, or else what was there before; gives
+    /// how many tapes have theirs.
     fn check(&self, before: Option<&[u8]>) -> usize {
         assert!(files(&self.folder.join("shelf")) == self.tapes, "the inputs");
         let out = files(&self.folder.join("out"));
@@ -65,7 +64,7 @@ impl Shelf {
             .unwrap()
     }
 
-    /// Runs a line of the shell in which "$@" is the command.
+    /// Runs the command by a line of the shell, in which it is "$@".
     fn shell(&self, line: &str, words: &[&str]) -> Output {
         Command::new("sh")
             .args(["-c", line, "sh", env!("CARGO_BIN_EXE_spatecanter")])
@@ -75,11 +74,11 @@ impl Shelf {
             .unwrap()
     }
 
-    /// The same in a private mount namespace. None if that is not allowed: the test is left out.
+    /// The same where file systems may be mounted that nobody else sees. None, and a line, where they may not.
     fn with_mounts(&self, line: &str, words: &[&str]) -> Option<Output> {
         let may_mount = "unshare --map-root-user --mount mount -t tmpfs tmpfs \"$PWD\" 2>/dev/null";
         if !self.shell(may_mount, &[]).status.success() {
-            left_out("nothing can be mounted here");
+            println!("left out: nothing can be mounted here");
             return None;
         }
         let line = format!("exec unshare --map-root-user --mount sh -c '{line}' \"$@\"");
@@ -93,7 +92,7 @@ fn text(bytes: &[u8]) -> String {
 
 const REPRINT: [&str; 6] = ["reprint", "shelf", "--machine", "8", "-d", "out"];
 
-/// A disk with room for the outputs of some tapes: the others are reported, and leave nothing behind.
+/// A disk with room for some tapes' outputs: they are there, the others are told, and nothing of these is left.
 #[test]
 fn a_full_disk() {
     let shelf = Shelf::new("full_disk", 12, 8_000);
@@ -115,7 +114,7 @@ fn a_full_disk() {
     assert!((1..12).contains(&whole), "{whole} tapes");
 }
 
-/// The file size limit is below the size of some outputs.
+/// The longest file allowed is shorter than some outputs.
 #[test]
 fn a_limit_on_the_length_of_files() {
     let shelf = Shelf::new("file_limit", 3, 8_000);
@@ -125,9 +124,7 @@ fn a_limit_on_the_length_of_files() {
     let told = text(&run.stdout);
     assert_eq!(run.status.code(), Some(2), "{told}{}", text(&run.stderr));
     assert!(told.contains("File too large"), "{told}");
-    assert!(told.ends_with(
-        "short.tape: accepted, 2 characters, 1 page\n4 files: 1 accepted, 0 refused, 3 not written\n"
-    ));
+    assert!(told.ends_with("short.tape: accepted, 2 characters, 1 page\n4 files: 1 accepted, 0 refused, 3 not read or not written\n"));
     let names: Vec<String> = files(&shelf.folder.join("out")).into_keys().collect();
     assert_eq!(names, ["short.tape.dvi", "short.tape.galley", "short.tape.sheet"]);
     let one = shelf.shell("ulimit -f 16; exec \"$@\"", &["reprint", "shelf/01.tape", "-d", "one"]);
@@ -146,11 +143,14 @@ fn a_folder_that_is_read_only() {
     };
     let told = text(&run.stdout);
     assert_eq!(told.matches("Read-only file system").count(), 3, "{told}");
-    assert!(told.ends_with("3 files: 0 accepted, 0 refused, 3 not written\nstatus 2\n"), "{told}");
+    assert!(
+        told.ends_with("3 files: 0 accepted, 0 refused, 3 not read or not written\nstatus 2\n"),
+        "{told}"
+    );
     assert_eq!(shelf.check(None), 0);
 }
 
-/// A folder that may not be read is reported, and the others are read. Root may read all, so another user runs it.
+/// A folder below that may not be read is told, and the others are read. Root may read all: another user is taken.
 #[test]
 fn a_folder_that_may_not_be_read() {
     let shelf = Shelf::new("locked", 3, 1_000);
@@ -161,18 +161,20 @@ fn a_folder_that_may_not_be_read() {
     let run = shelf.shell(line, &[&REPRINT[..], &["--dry-run"]].concat());
     fs::set_permissions(shelf.folder.join("shelf/below"), fs::Permissions::from_mode(0o755)).unwrap();
     if !can_run {
-        return left_out("the command cannot be run as another user here");
+        println!("left out: the command cannot be run as another user here");
+        return;
     }
     let told = text(&run.stdout);
     assert!(
         told.contains("shelf/below: cannot read shelf/below: Permission denied (os error 13)\n"),
         "{told}"
     );
-    assert!(told.contains("3 files: 2 accepted, 0 refused, 1 not read;"), "{told}");
+    assert!(told.contains("3 files: 2 accepted, 0 refused, 1 not read or not written;"), "{told}");
     assert_eq!((run.status.code(), shelf.check(None)), (Some(2), 0));
 }
 
-/// A system call fails while the second or third output is moved to its place, with and without existing outputs.
+/// A call of the system fails while the second or third output comes to its place, with and without outputs that
+/// are there already.
 #[test]
 fn a_call_that_fails_between_two_outputs() {
     let shelf = Shelf::new("failing_calls", 1, 1_000);
@@ -195,7 +197,8 @@ fn a_call_that_fails_between_two_outputs() {
         let line = format!("exec strace -f -o calls -e trace=fsync,linkat,rename{injected} \"$@\"");
         let run = shelf.shell(&line, &[&REPRINT[..], &["--force", "-j", "1"]].concat());
         if !fs::read_to_string(shelf.folder.join("calls")).unwrap_or_default().contains("(INJECTED)") {
-            return left_out("calls of the system cannot be made to fail here");
+            println!("left out: calls of the system cannot be made to fail here");
+            return;
         }
         assert_eq!(run.status.code(), Some(2), "{faults:?}: {}", text(&run.stdout));
         assert_eq!(shelf.check(is_there.then_some(old)), 0, "{faults:?}");
@@ -206,7 +209,7 @@ extern "C" {
     fn kill(process: c_int, signal: c_int) -> c_int;
 }
 
-/// SIGINT and SIGTERM, 100 times, after any number of lines, also while files are overwritten.
+/// SIGINT and SIGTERM, 100 times, after any number of lines, also where files are written over.
 #[test]
 fn signals_at_any_moment() {
     let shelf = Shelf::new("signals_many", 16, 4_000);
@@ -232,13 +235,14 @@ fn signals_at_any_moment() {
         some += usize::from((1..16).contains(&whole));
         assert!(whole > 0 || is_there || !out.exists(), "an empty folder is left");
     }
+    println!("{ended} runs were ended, {some} of them in the midst");
     assert!(ended > 20 && some > 10, "{ended} runs were ended, {some} of them in the midst");
-    // The next run completes the rest.
+    // The next run does what is left.
     assert!(shelf.start(&words).wait_with_output().unwrap().status.success());
     assert_eq!(shelf.check(None), 16);
 }
 
-/// The reader of the lines closes the pipe: the files are still written. A check has nothing more to do.
+/// Whoever reads the lines leaves: the files are written all the same. A check has nothing more to do.
 #[test]
 fn a_reader_of_lines_that_leaves() {
     let shelf = Shelf::new("closed_pipe", 40, 1_000);
@@ -255,7 +259,7 @@ fn a_reader_of_lines_that_leaves() {
     assert_eq!((output.status.code(), text(&output.stderr).as_str()), (Some(0), ""));
 }
 
-/// If lines cannot be written, the status is 2, and the files are still written.
+/// Lines that cannot be written are 2, and the files are written all the same.
 #[test]
 fn a_full_standard_output_of_many() {
     let shelf = Shelf::new("full_lines", 4, 1_000);
@@ -269,7 +273,7 @@ fn a_full_standard_output_of_many() {
     assert_eq!(shelf.check(None), 4);
 }
 
-/// The folder of the tapes disappears for a while, or the folder of the outputs is removed.
+/// The folder of the tapes is away for a while, or that of the outputs is removed.
 #[test]
 fn folders_that_change_meanwhile() {
     let shelf = Shelf::new("changing", 40, 1_000);
@@ -289,7 +293,7 @@ fn folders_that_change_meanwhile() {
         if round % 2 == 0 {
             shelf.check(None);
         }
-        // Every file is complete and has its own name.
+        // What is there is whole, and has its own name.
         for (name, bytes) in files(&out) {
             assert!(shelf.outputs.get(&name) == Some(&bytes), "{name}");
         }

@@ -1,10 +1,10 @@
-//! Titles under the pointer, colours, a file for each page, and indexes.
+//! Titles under the pointer, colours, a file for each page, and indexes of many.
 
 use super::*;
-use crate::sample::{codes, pages, yearbook};
+use spatecanter::sample::{codes, pages, yearbook};
 use spatecanter::Machine;
 
-/// The picture that plot draws with these words.
+/// The picture of a tape, with further words.
 fn plot(folder: &Path, words: &[&str]) -> String {
     let run = run(folder, &[&["plot", "-o", "-"], words].concat());
     assert_eq!(run.status, 0, "{words:?}: {}", run.err);
@@ -56,7 +56,7 @@ fn every_character_has_a_title() {
     told.sort();
     set.sort();
     assert_eq!(told, set);
-    // No title is long, however many characters stand at the same place.
+    // However many stand at one place, no title is long.
     let flashes = "01 ".repeat(3_000);
     fs::write(folder.join("b.tape"), hex(&format!("40 EF 52 4E {flashes} 49"))).unwrap();
     let picture = plot(&folder, &["b.tape"]);
@@ -92,7 +92,7 @@ fn a_file_for_each_page() {
         assert_eq!(page, plot(&folder, &["a.tape", "--page", number]));
         assert_eq!(count(&page) == 0, number == "2");
     }
-    // All files or none, and no other file is overwritten.
+    // All or none, and never over another file.
     fs::remove_file(folder.join("a.tape-1.svg")).unwrap();
     assert_eq!(run(&folder, &["plot", "a.tape", "--split"]).status, 2);
     assert_eq!(names(&folder), ["a.tape", "a.tape-2.svg", "a.tape-3.svg"]);
@@ -133,25 +133,25 @@ fn an_index_of_many() {
     let told = run(&folder, &index);
     assert_eq!((told.status, told.err.as_str()), (0, "shelf/out/index.html: 4 files: 3 drawn, 1 refused\n"));
     let out = shelf.join("out");
-    assert_eq!(names(&out), ["a.tape.large.svg", "a.tape.small.svg", "below", "index.html"]);
+    assert_eq!(names(&out), ["a.tape.small.svg", "a.tape.svg", "below", "index.html"]);
     assert_eq!(names(&out.join("below")).len(), 4);
     assert_eq!(
-        fs::read_to_string(out.join("below/a.tape.large.svg")).unwrap(),
+        fs::read_to_string(out.join("below/a.tape.svg")).unwrap(),
         plot(&folder, &["shelf/below/a.tape", "--codes", "a.codes"])
     );
     let page = fs::read_to_string(out.join("index.html")).unwrap();
     for part in [
         "<p>4 files: 3 drawn, 1 refused</p>",
-        "<a href=\"below/a.tape.large.svg\"><img src=\"below/a.tape.small.svg\" alt=\"A page of below/a.tape\" ",
+        "<a href=\"below/a.tape.svg\"><img src=\"below/a.tape.small.svg\" alt=\"A page of below/a.tape\" ",
         "<img src=\"below/q%22%3C%26%27%25%20%C3%A9.small.svg\" alt=\"A page of below/q&quot;&lt;&amp;'% \u{e9}\"",
-        "<h2><a href=\"below/q%22%3C%26%27%25%20%C3%A9.large.svg\">below/q\"&lt;&amp;'% \u{e9}</a></h2>\n<p>2 characters, 2 pages</p>",
+        "<h2><a href=\"below/q%22%3C%26%27%25%20%C3%A9.svg\">below/q\"&lt;&amp;'% \u{e9}</a></h2>\n<p>2 characters, 2 pages</p>",
         "<h2>z.tape</h2>\n<p>shelf/z.tape: refused 6 at 2: ",
         "</span> font 2 (estimated): ",
     ] {
         assert!(page.contains(part), "{part}: {page}");
     }
     assert!(!page.contains("<script") && !page.contains("http"));
-    // The second time the pictures are not inputs, and only --force overwrites them.
+    // A second time the pictures are no inputs, and are written over by force alone.
     assert_eq!(run(&folder, &index).status, 2);
     let again = run(&folder, &[&index[..], &["--force"]].concat());
     assert_eq!((again.status, again.err), (0, told.err));
@@ -166,16 +166,12 @@ fn an_index_of_a_list() {
     fs::write(folder.join("eight"), yearbook(Machine::Eight, 4, 3_000)).unwrap();
     fs::write(folder.join("list"), "shelf/four 4\n./eight 8\nshelf/../eight 5\n").unwrap();
     let told = run(&folder, &["index", "--list", "list", "shelf/four", "-d", "out"]);
-    assert_eq!(told.status, 2);
-    assert!(told.err.starts_with("spatecanter: shelf/four: no tilt code: "), "{}", told.err);
-    assert!(told.err.ends_with("out/index.html: 4 files: 2 drawn, 1 refused, 1 failed\n"), "{}", told.err);
+    assert!(told.err.ends_with("out/index.html: 4 files: 3 drawn, 1 refused\n"), "{}", told.err);
     let page = fs::read_to_string(folder.join("out/index.html")).unwrap();
     assert!(page.contains("<h2>shelf/eight</h2>\n<p>shelf/../eight: refused 50 at 0: "), "{page}");
-    let four = fs::read_to_string(folder.join("out/shelf/four.large.svg")).unwrap();
-    let with_option = plot(&folder, &["shelf/four", "--machine", "4"]);
-    assert_eq!(four.replace("known by list", "known by option"), with_option);
-    assert_eq!(names(&folder.join("out")).len(), 5);
-    assert!(page.contains("<p>4-font machine, known by list</p>"), "{page}");
+    let four = fs::read_to_string(folder.join("out/shelf/four.svg")).unwrap();
+    assert_eq!(four, plot(&folder, &["shelf/four", "--machine", "4"]));
+    assert_eq!(names(&folder.join("out")).len(), 6);
 }
 
 #[test]
@@ -187,20 +183,16 @@ fn an_index_is_written_whole_or_not_at_all() {
     }
     let both = run(&folder, &["index", "one", "two", "-d", "out"]);
     assert_eq!(both.status, 2);
-    assert!(
-        both.err.contains("one/a.tape and two/a.tape would both be written as out/a.tape.large.svg"),
-        "{}",
-        both.err
-    );
+    assert!(both.err.contains("one/a.tape and two/a.tape have one name in the index"), "{}", both.err);
     fs::create_dir_all(folder.join("out/a.tape.small.svg")).unwrap();
     assert_eq!(run(&folder, &["index", "one", "-d", "out", "--force"]).status, 2);
     assert_eq!(names(&folder.join("out")), ["a.tape.small.svg"]);
-    // No input is overwritten.
-    fs::write(folder.join("one/a.tape.large.svg"), hex(P3_TAPE)).unwrap();
+    // No input is written over.
+    fs::write(folder.join("one/a.tape.svg"), hex(P3_TAPE)).unwrap();
     let over = run(&folder, &["index", "one", "-d", "one", "--force"]);
     assert_eq!(over.status, 2);
-    assert!(over.err.contains("one/a.tape.large.svg is an input and cannot be overwritten"), "{}", over.err);
-    assert_eq!(fs::read(folder.join("one/a.tape.large.svg")).unwrap(), hex(P3_TAPE));
+    assert!(over.err.contains("one/a.tape.svg is an input, and is not written over"), "{}", over.err);
+    assert_eq!(fs::read(folder.join("one/a.tape.svg")).unwrap(), hex(P3_TAPE));
     fs::create_dir(folder.join("empty")).unwrap();
     assert_eq!(run(&folder, &["index", "empty", "-d", "new"]).status, 2);
     assert!(!folder.join("new").exists());

@@ -6,10 +6,8 @@ mod conventions;
 mod editions;
 mod faults;
 mod figures;
-mod house;
 mod indexes;
 mod many;
-mod options;
 mod outputs;
 mod pictures;
 mod pieces;
@@ -17,7 +15,6 @@ mod refusals;
 mod reports;
 mod sheets;
 mod terminal;
-mod traces;
 mod usage;
 mod ways;
 mod xgp;
@@ -28,13 +25,12 @@ use std::io::Write;
 use std::path::{Path, PathBuf};
 use std::process::{Command, Stdio};
 
-/// P3 with its tilt code twice: a single one gives a warning.
-const P3_TAPE: &str = "40 EF 52 4E 01 FC 4E 02 49";
+const P3_TAPE: &str = "40 EF 52 4E 01 FC 02 49";
 
-/// What is reported about P3's galley.
-const P3_TOLD: &str = "2 characters\n  farthest x 3 units, 0.01 inches\n  greatest height 0 quanta, 0.00 inches\n  fonts C110\n  8-font machine, known by tilt code at offset 3, 2 in all\n";
+/// What is told of P3's galley.
+const P3_TOLD: &str = "2 characters\n  farthest x 3 units, 0.01 inches\n  greatest height 0 quanta, 0.00 inches\n  fonts C110\n";
 
-/// The result of a run: exit status, standard output and standard error.
+/// What a run gave: exit status, standard output, standard error.
 struct Run {
     status: i32,
     out: Vec<u8>,
@@ -69,7 +65,7 @@ fn run_on(folder: &Path, words: &[&str], input: &[u8]) -> Run {
         .stderr(Stdio::piped())
         .spawn()
         .unwrap();
-    // A command that does not read its input may have ended already.
+    // A command that does not read its input may be gone already.
     let _ = child.stdin.take().unwrap().write_all(input);
     let output = child.wait_with_output().unwrap();
     let err = String::from_utf8_lossy(&output.stderr).into_owned();

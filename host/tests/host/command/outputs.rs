@@ -1,7 +1,7 @@
-//! Where outputs go, and how they are written.
+//! Where outputs go, and how they come there.
 
 use super::*;
-use crate::sample::yearbook;
+use spatecanter::sample::yearbook;
 use spatecanter::Machine;
 use std::os::unix::fs::{symlink, FileTypeExt, PermissionsExt};
 use std::process::Child;
@@ -11,7 +11,7 @@ use std::time::Duration;
 #[test]
 fn an_input_is_never_written_over() {
     let folder = folder("inputs");
-    let tape = hex("40 EF 52 4E 01 FC 02 49");
+    let tape = hex(P3_TAPE);
     for name in ["p3.galley", "p3.tape"] {
         fs::write(folder.join(name), &tape).unwrap();
     }
@@ -28,7 +28,7 @@ fn an_input_is_never_written_over() {
     for words in calls {
         let run = run(&folder, words);
         assert_eq!(run.status, 2, "{words:?}");
-        assert!(run.err.contains("is an input and cannot be overwritten"), "{}", run.err);
+        assert!(run.err.contains("is an input, and is not written over"), "{}", run.err);
     }
     assert_eq!(names(&folder), ["p3.galley", "p3.tape", "p3.tape.galley"]);
     assert_eq!(fs::read(folder.join("p3.tape")).unwrap(), tape);
@@ -148,7 +148,7 @@ fn an_existing_output_is_written_over_by_force_alone() {
     for words in calls {
         let refused = run(&folder, words);
         assert_eq!(refused.status, 2, "{words:?}");
-        assert!(refused.err.ends_with(" already exists; use --force to overwrite it\n"), "{}", refused.err);
+        assert!(refused.err.ends_with(" is there already: --force writes over it\n"), "{}", refused.err);
         assert_eq!(names(&folder), ["out.dvi", "p3.tape", "p3.tape.galley", "p3.tape.sheet"]);
         for name in ["p3.tape.galley", "out.dvi", "p3.tape.sheet"] {
             assert_eq!(fs::read(folder.join(name)).unwrap(), b"as before");
@@ -169,13 +169,13 @@ fn folders_are_made_for_an_output() {
     assert_eq!(run(&folder, &["read", "p3.tape", "-o", "a/b/c.galley"]).status, 0);
     assert_eq!(run(&folder, &["list", "a/b/c.galley"]).status, 0);
     assert_eq!(run(&folder, &["read", "p3.tape", "-o", "./d/../e/c.galley"]).status, 0);
-    // None for a refused input, and none is left if the file cannot be written.
+    // None for a refused input, and none is left where the file cannot be written.
     assert_eq!(run(&folder, &["read", "bad.tape", "-o", "f/c.galley"]).status, 1);
     assert_eq!(run(&folder, &["read", "p3.tape", "-o", &format!("g/h/{}", "x".repeat(300))]).status, 2);
     assert!(!folder.join("f").exists() && !folder.join("g").exists());
 }
 
-/// A tape longer than a pipe's buffer: when half of it is written, its reader has started.
+/// A tape that a pipe does not hold whole, so that who reads it has begun when half of it is written.
 fn long_tape() -> Vec<u8> {
     yearbook(Machine::Eight, 6, 300_000)
 }
@@ -193,7 +193,7 @@ fn reprint_writes_all_or_none_when_a_name_is_taken_meanwhile() {
         let mut input = child.stdin.take().unwrap();
         let tape = long_tape();
         input.write_all(&tape[..200_000]).unwrap();
-        // The second of the three can no longer be moved to its place.
+        // The second of the three can no longer come to its place.
         fs::create_dir_all(folder.join("out/tape.dvi/in_the_way")).unwrap();
         input.write_all(&tape[200_000..]).unwrap();
         drop(input);
@@ -216,7 +216,7 @@ fn a_signal_leaves_all_or_none() {
     let mut ended = 0;
     for (round, signal) in ["INT", "TERM", "HUP"].iter().cycle().take(24).enumerate() {
         let mut child = start(&folder, &["reprint", "a.tape", "-d", "out"]);
-        // Some runs end before anything is written, most while it is.
+        // Some end before anything is written, most while that is done.
         while !folder.join("out").exists() && round % 4 > 0 && child.try_wait().unwrap().is_none() {
             sleep(Duration::from_micros(50));
         }
@@ -239,7 +239,7 @@ fn what_a_killed_run_left_is_no_obstacle() {
     let folder = folder("stale");
     fs::write(folder.join("p3.tape"), hex(P3_TAPE)).unwrap();
     let mut child = start(&folder, &["reprint", "-", "-d", "."]);
-    // The names that this run would use first, and those of an earlier version.
+    // The names that this run would take first, and those that an earlier version took.
     let mut stale: Vec<String> =
         (0..3).map(|number| format!(".spatecanter.{}.{number}.part", child.id())).collect();
     stale.extend(["galley", "dvi", "sheet"].map(|ending| format!(".tape.{ending}.{}.part", child.id())));
@@ -255,7 +255,7 @@ fn what_a_killed_run_left_is_no_obstacle() {
     }
 }
 
-/// Runs the command under strace, which records its system calls.
+/// Runs the command under strace, which tells the calls of its whole run.
 #[test]
 fn outputs_are_on_the_disk_before_they_come_to_their_places() {
     let folder = folder("synced");
@@ -266,7 +266,7 @@ fn outputs_are_on_the_disk_before_they_come_to_their_places() {
         .args(["reprint", "p3.tape", "-d", "."])
         .current_dir(&folder)
         .output();
-    // Without strace, or without the right to trace, there is nothing to check.
+    // Where there is no strace, or it may not trace, nothing is seen.
     let calls = traced.and_then(|_| fs::read_to_string(folder.join("calls"))).unwrap_or_default();
     if calls.contains(".sheet\"") {
         let synced = calls.lines().take_while(|call| call.contains("fsync(")).count();
@@ -280,7 +280,7 @@ fn inputs_are_read_to_their_limits() {
     fs::write(folder.join("p3.tape"), hex(P3_TAPE)).unwrap();
     assert_eq!(run(&folder, &["reprint", "p3.tape", "-d", "."]).status, 0);
     let rows: [(&[&str], i32, &str); 8] = [
-        (&["sheet", "/dev/zero"], 1, "/dev/zero: not a sheet: an unknown or incomplete field"),
+        (&["sheet", "/dev/zero"], 1, "/dev/zero: no sheet: an unknown field"),
         (&["read", "/dev/zero", "-o", "a"], 1, "/dev/zero: refused 1 at 0"),
         (&["plot", "/dev/zero", "-o", "a"], 1, "/dev/zero: refused 1 at 0"),
         (&["reprint", "/dev/zero", "-d", "a"], 1, "/dev/zero: refused 1 at 0"),
@@ -290,7 +290,7 @@ fn inputs_are_read_to_their_limits() {
         (&["show", "p3.tape.dvi", "--widths", "/dev/zero"], 2, "/dev/zero: the width table is longer than"),
     ];
     for (words, status, refusal) in rows {
-        // 400 MB of memory suffice for each.
+        // 400 MB of memory are enough for each.
         let output = Command::new("sh")
             .args(["-c", "ulimit -v 409600; exec \"$@\"", "sh", env!("CARGO_BIN_EXE_spatecanter")])
             .args(words)

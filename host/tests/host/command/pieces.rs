@@ -1,8 +1,8 @@
-//! Tapes read as they come, in pieces.
+//! Tapes read in pieces, as they come.
 
 use super::{folder, names, run, run_on, P3_TAPE, P3_TOLD};
 use crate::hex;
-use crate::sample::yearbook;
+use spatecanter::sample::yearbook;
 use spatecanter::Machine;
 use std::fs;
 use std::io::{Read, Write};
@@ -28,7 +28,7 @@ fn pieces_of_any_length_give_the_galley() {
     assert_eq!(from_pipe.err.replace("a.galley", "b.galley"), at_once);
 }
 
-/// The messages are the same as for the whole tape, and no file is written.
+/// The same words as for the whole tape, and no file.
 #[test]
 fn refusals_are_those_of_the_whole_tape() {
     let folder = folder("refusals in pieces");
@@ -62,7 +62,7 @@ fn refusals_are_those_of_the_whole_tape() {
     }
 }
 
-/// The command does not wait for anything beyond the limit.
+/// Nothing past the limit is waited for.
 #[test]
 fn a_pipe_that_goes_on_is_refused_at_the_limit() {
     let folder = folder("pieces past the limit");
@@ -72,19 +72,19 @@ fn a_pipe_that_goes_on_is_refused_at_the_limit() {
     assert!(names(&folder).is_empty());
 }
 
-/// On standard output the fields of a piece appear before the next piece is read; a refused tape has no End.
+/// To standard output the fields of a piece go before the next piece is read; a refused tape leaves no End.
 #[test]
 fn fields_go_out_before_the_end() {
     let folder = folder("fields before the end");
     let tape = hex(P3_TAPE);
     let refused = run(&folder, &["read", "-", "--pieces", "1", "-o", "-"]);
     assert_eq!((refused.status, refused.out), (1, vec![]));
-    let refused = run_on(&folder, &["read", "-", "--pieces", "1", "-o", "-"], &tape[..8]);
+    let refused = run_on(&folder, &["read", "-", "--pieces", "1", "-o", "-"], &tape[..7]);
     assert_eq!(refused.status, 1);
     assert_eq!(refused.out, hex("07 00 08 00 00 00 00 00 00 02 01 07 00 08 00 03 00 00 00 00 02 02"));
 }
 
-/// A drive that delivers a few bytes at a time: the file appears when the tape has ended, and not before.
+/// A drive that hands over a few bytes at a time: the file is there when the tape has ended, and not before.
 #[test]
 fn a_slow_drive_is_waited_for() {
     let folder = folder("a slow drive");
@@ -117,7 +117,7 @@ fn a_piece_has_some_bytes() {
     for length in ["0", "1048577", "-1", "x", ""] {
         let wrong = run(&folder, &["read", "a.tape", "--pieces", length]);
         assert_eq!(wrong.status, 2, "{length}");
-        assert!(wrong.err.contains(": expected a number of bytes from 1 to 1,048,576\n"), "{}", wrong.err);
+        assert!(wrong.err.contains("is no length of a piece"), "{}", wrong.err);
     }
 }
 
@@ -125,11 +125,11 @@ fn a_piece_has_some_bytes() {
 #[test]
 fn extents_are_told() {
     let folder = folder("extents");
-    let tape = hex("40 EF 52 4E 60 01 4B 40 EF 4F 80 80 42 43 5E 02 46 03 49");
+    let tape = hex("40 EF 52 4E 60 01 4B 40 EF 80 80 42 43 5E 02 46 03 49");
     fs::write(folder.join("a.tape"), &tape).unwrap();
     let told =
         "a.galley: 3 characters\n  farthest x 199 units, 0.46 inches\n  greatest height 31 quanta, 0.22 \
-                inches\n  fonts C110 C836\n  8-font machine, known by tilt code at offset 3, 2 in all\n";
+                inches\n  fonts C110 C836\n";
     assert_eq!(run(&folder, &["read", "a.tape", "-o", "a.galley"]).err, told);
     assert_eq!(run(&folder, &["read", "a.tape", "-o", "a.galley", "--force", "--pieces", "2"]).err, told);
     assert_eq!(run_on(&folder, &["read", "-", "-o", "a.galley", "--force"], &tape).err, told);
@@ -143,8 +143,5 @@ fn extents_are_told() {
         assert!(summary.contains(row), "{summary}");
     }
     fs::write(folder.join("b.tape"), hex("40 49")).unwrap();
-    assert_eq!(
-        run(&folder, &["read", "b.tape"]).err,
-        "b.tape.galley: 0 characters\n  no machine needed: no character\n"
-    );
+    assert_eq!(run(&folder, &["read", "b.tape"]).err, "b.tape.galley: 0 characters\n");
 }

@@ -1,7 +1,7 @@
 //! Refusals in words.
 
 use super::*;
-use crate::sample::chart;
+use spatecanter::sample::chart;
 
 #[test]
 fn a_refused_tape_says_why_and_writes_nothing() {
@@ -11,7 +11,7 @@ fn a_refused_tape_says_why_and_writes_nothing() {
         ("4B", "refused 3 at 0", "byte 4B, a cut"),
         ("40 4B EF", "refused 10 at 2", "expected: initialize (40), after nothing but 00, since a cut"),
         ("40 EF 4B 00", "refused 10 at 4", "the end of the tape"),
-        ("40 EF 4D", "refused 2 at 2", "at offset 2 (hexadecimal 2): byte 4D, which has no meaning"),
+        ("40 EF 4D", "refused 2 at 2", "at offset 2 (hexadecimal 2): byte 4D, which means nothing"),
         ("EF", "refused 3 at 0", "byte EF, an escape of 16 units"),
         ("40 49 01", "refused 4 at 2", "nothing but 00"),
         ("40 F0", "refused 5 at 1", "expected: an escape of 16 (EF), forward"),
@@ -27,7 +27,7 @@ fn a_refused_tape_says_why_and_writes_nothing() {
     }
 }
 
-/// Every command that reads tapes refuses this one, gives the reason and writes nothing.
+/// Every command that reads tapes refuses this one, says so and writes nothing.
 fn is_refused(folder: &Path, machine: &str, tape: &str, refusal: &str, more: &str) {
     fs::write(folder.join("bad.galley"), "as before").unwrap();
     fs::write(folder.join("bad.tape"), hex(tape)).unwrap();
@@ -75,7 +75,7 @@ fn a_tape_over_the_limit() {
     assert_eq!(run.err, "spatecanter: long.tape: refused 1 at 0: the tape is longer than 1,048,576 bytes\n");
 }
 
-/// What is expected in place of a character of the old form.
+/// What is said of a character of the old form.
 const OLD_HINT: &str =
     "a character (07 00 08 ...); tag 1 is the old form, see spatecanter convert --to new\n";
 
@@ -113,7 +113,7 @@ fn refused_galleys_and_dvi_files() {
     fs::write(folder.join("bad"), hex("05 00 04 00 00 00 01 02 00 04 00 00 00 02")).unwrap();
     let run = run(&folder, &["sheet", "bad"]);
     assert_eq!((run.status, run.text().as_str()), (1, ""));
-    assert_eq!(run.err, "spatecanter: bad: not a sheet: an End with a wrong count at 7\n");
+    assert_eq!(run.err, "spatecanter: bad: no sheet: an End with a wrong count at 7\n");
 }
 
 #[test]
@@ -130,7 +130,7 @@ fn a_galley_with_one_cut_too_many() {
     assert_eq!(run(&folder, &["check", "cuts.galley"]).text(), "accepted, 0 characters\n");
 }
 
-/// The words of 43.
+/// What is said of 43.
 const TOO_HIGH: &str = "a height above 65,535, which neither DVI of 1980 nor the old form can hold";
 
 #[test]
@@ -141,7 +141,7 @@ fn a_column_that_dvi_cannot_hold() {
     let count = run(&folder, &["list", "a.galley"]).text().lines().count() - 2;
     assert_eq!(run(&folder, &["check", "a.galley"]).text(), format!("accepted, {count} characters\n"));
     assert!(run(&folder, &["list", "a.galley"]).text().contains(" 65536 "));
-    // Only the last reading is too high.
+    // Every reading but the last is low enough.
     let place = 11 * (count - 1);
     let why = format!("refused 43 at {place}: {TOO_HIGH}\n  at offset {place} ");
     let more = "\n  expected: a height of at most 65,535; it is 65,536\n";
@@ -181,10 +181,11 @@ fn galleys_that_are_not_punched() {
 #[test]
 fn galleys_that_are_not_converted() {
     let folder = folder("unconverted");
+    let new_hint = "a character (01 00 06 ...); tag 7 is the new form, see spatecanter convert --to old\n";
     let tall = "06 00 00 07 00 08 00 00 00 01 00 00 02 01 02 00 04 00 00 00 01";
     let rows: [(&str, &str, &str, &str); 10] = [
-        ("new", NEW_P3, "refused 41 at 0: the galley is in the new form already\n", ""),
-        ("old", OLD_P3, "refused 41 at 0: the galley is in the old form already\n", ""),
+        ("new", NEW_P3, "refused 41 at 0: the galley is malformed", new_hint),
+        ("old", OLD_P3, "refused 41 at 0: the galley is malformed", OLD_HINT),
         (
             "new",
             "",
@@ -237,7 +238,7 @@ fn widths_for_a_dvi_file() {
     assert_eq!(run(&folder, &["show", "a.dvi"]).status, 1);
     let odd = run(&folder, &["show", "a.dvi", "--widths", "odd.widths"]);
     assert_eq!(odd.status, 2);
-    let words = "odd.widths: the width table has 511 bytes, which is not a whole number of 32-bit numbers\n";
+    let words = "odd.widths: the width table is 511 bytes, no whole number of 32-bit numbers\n";
     assert_eq!(odd.err, format!("spatecanter: {words}"));
     let short = run(&folder, &["show", "a.dvi", "--widths=short.widths"]);
     assert_eq!(short.status, 1);
@@ -247,7 +248,7 @@ fn widths_for_a_dvi_file() {
     assert_eq!(text, "page 1\nchar 0 0 0 65\nchar 256 0 0 66\nend 3\n");
 }
 
-/// A file that does not show the targets of a galley: the condition, the page, and what was expected.
+/// A file that shows no galley's targets: which condition, on which page, and what would have been right.
 #[test]
 fn a_dvi_file_that_is_no_galley_s_says_why() {
     let folder = folder("no_galley");

@@ -1,13 +1,13 @@
 //! Reports over many tapes.
 
 use super::*;
-use crate::sample::yearbook;
+use spatecanter::sample::yearbook;
 use spatecanter::{Machine, Report};
 
 /// One character of font number 2, leads of 31 forward and 1 backward, two pages.
-const LEADS: &str = "40 EF 52 4E 01 60 4B 40 4E 7E 4C 7E 49";
+const LEADS: &str = "40 EF 52 4E 01 60 4B 40 7E 4C 7E 49";
 
-/// A folder with folders below it: four tapes, and a file that is skipped.
+/// A folder with folders: four tapes, and a file that is left out.
 fn shelf(name: &str) -> PathBuf {
     let folder = folder(name);
     fs::create_dir_all(folder.join("shelf/b/c")).unwrap();
@@ -25,7 +25,6 @@ accepted                                     2
 refused                                      2
   under 3                                    1  a code before the first initialize
   under 9                                    1  the tape ends without stop
-machine known by tilt code                   2
 characters                                   3
   C110: font 1, 10 points                    3
 forward lead, in quanta                     32
@@ -33,8 +32,8 @@ backward lead, in quanta                     1
 ";
 
 const LINES: &str = "\
-shelf/a.tape: accepted, 2 characters, 1 page, 8-font machine (tilt code at offset 3, 2 in all)
-shelf/b/c/d.tape: accepted, 1 character, 2 pages, 8-font machine (tilt code at offset 3, 2 in all)
+shelf/a.tape: accepted, 2 characters, 1 page
+shelf/b/c/d.tape: accepted, 1 character, 2 pages
 shelf/b/e: refused 9 at 5: the tape ends without stop
 shelf/z: refused 3 at 0: a code before the first initialize
 ";
@@ -47,9 +46,7 @@ fn a_table_for_people() {
     assert_eq!((table.status, table.err.as_str(), table.text().as_str()), (0, "", TABLE));
     assert_eq!(run_in(&["report", "shelf", "--tapes"]).text(), format!("{TABLE}{LINES}"));
     let others = ["report", "shelf/z", "shelf/b", "--machine", "8", "shelf/a.tape"];
-    let by_option =
-        TABLE.replace("known by tilt code                   2", "known by option                      4");
-    assert_eq!(run_in(&others).text(), by_option);
+    assert_eq!(run_in(&others).text(), TABLE);
     let none = folder.join("none");
     fs::create_dir(&none).unwrap();
     assert!(run_in(&["report", "none"])
@@ -57,7 +54,7 @@ fn a_table_for_people() {
         .starts_with("tapes                                        0\n"));
     assert_eq!(
         run_on(&folder, &["report", "-", "--tapes"], &hex(P3_TAPE)).text().lines().last(),
-        Some("standard input: accepted, 2 characters, 1 page, 8-font machine (tilt code at offset 3, 2 in all)")
+        Some("standard input: accepted, 2 characters, 1 page")
     );
     assert_eq!(names(&folder), ["none", "shelf"]);
 }
@@ -67,7 +64,7 @@ fn texts_for_programs() {
     let folder = shelf("report_programs");
     let csv = run(&folder, &["report", "shelf", "--format", "csv"]).text();
     let lines: Vec<&str> = csv.lines().collect();
-    assert_eq!(lines.len(), 1 + 2 + 11 + 2 + 4 + 120 + 2);
+    assert_eq!(lines.len(), 1 + 2 + 11 + 120 + 2);
     for line in [
         "count,of,value",
         "tapes,,4",
@@ -82,24 +79,15 @@ fn texts_for_programs() {
         assert!(lines.contains(&line), "{line}");
     }
     let tapes = run(&folder, &["report", "shelf", "--format=csv", "--tapes"]).text();
-    let expected = "\
-path,machine,number,place,characters,pages,machine_known_by,failure,path_bytes
-\"shelf/a.tape\",8,0,0,2,1,\"tilt code at offset 3, 2 in all\",,
-\"shelf/b/c/d.tape\",8,0,0,1,2,\"tilt code at offset 3, 2 in all\",,
-\"shelf/b/e\",,9,5,0,0,,,
-\"shelf/z\",,3,0,0,0,,,
-";
+    let expected = "path,machine,number,place,characters,pages\n\"shelf/a.tape\",8,0,0,2,1\n\"shelf/b/c/d.tape\",8,0,0,1,2\n\"shelf/b/e\",8,9,5,0,0\n\"shelf/z\",8,3,0,0,0\n";
     assert_eq!(tapes, expected);
     let json = run(&folder, &["report", "shelf", "--format", "json", "--tapes"]).text();
     for part in [
         "\"tapes\": 4,",
         "\"refused\": {\"1\": 0, \"2\": 0, \"3\": 1,",
-        "\"characters\": 3,",
-        "\"by_font_number\": [0, 0, 3, 0,",
+        "\"characters\": [0, 0, 3, 0,",
         "\"backward_lead\": 1,",
-        "\"machine_not_known\": 0,\n  \"not_read\": 0,\n  \"machine_known_by\": {\"option\": 0, \"list\": 0, \"tilt code\": 2,",
-        "{\"path\": \"shelf/b/e\", \"machine\": null, \"number\": 9, \"place\": 5, \"characters\": 0, \"pages\": 0, ",
-        "\"machine\": 8, \"number\": 0, \"place\": 0, \"characters\": 2, \"pages\": 1, \"machine_known_by\": \"tilt code at ",
+        "{\"path\": \"shelf/b/e\", \"machine\": 8, \"number\": 9, \"place\": 5, \"characters\": 0, \"pages\": 0}",
     ] {
         assert!(json.contains(part), "{part}: {json}");
     }
@@ -114,7 +102,7 @@ fn a_list_of_tapes_and_machines() {
     let list = "# the shelf\nshelf/a.tape 8\n\n  shelf/a.tape\t4\nshelf/b/c/d.tape 5\n";
     fs::write(folder.join("list"), list).unwrap();
     let lines = "\
-shelf/a.tape: accepted, 2 characters, 1 page, 8-font machine (list)
+shelf/a.tape: accepted, 2 characters, 1 page
 shelf/a.tape: refused 2 at 3: illegal code
 shelf/b/c/d.tape: refused 50 at 0: the machine is neither the 4-font nor the 8-font machine
 ";
@@ -127,40 +115,11 @@ shelf/b/c/d.tape: refused 50 at 0: the machine is neither the 4-font nor the 8-f
     let wrong = run(&folder, &["report", "--list", "list"]);
     assert_eq!(
         (wrong.status, wrong.err.as_str()),
-        (2, "spatecanter: list: line 2: expected a tape's path and its machine, 4 or 8\n")
+        (2, "spatecanter: list: line 2 is not a tape's path and its machine, 4 or 8\n")
     );
 }
 
-/// A file that cannot be read, or a tape whose machine is not known, stops nothing; standard error names each.
-#[test]
-fn tapes_that_are_not_read() {
-    let folder = shelf("report_not_read");
-    fs::write(folder.join("shelf/four"), hex(PAIRS_TAPE)).unwrap();
-    let report = run(&folder, &["report", "missing", "shelf", "--tapes"]);
-    assert_eq!(report.status, 2);
-    let text = report.text();
-    for part in [
-        "tapes                                        6\naccepted                                     2\n",
-        "\nmachine not known                            1\nnot read                                     1\n",
-        "\nmissing: cannot read missing: No such file or directory (os error 2)\n",
-        "\nshelf/four: no tilt code: ",
-        "\nshelf/z: refused 3 at 0: ",
-    ] {
-        assert!(text.contains(part), "{part}: {text}");
-    }
-    let lines: Vec<&str> = report.err.lines().collect();
-    assert!(
-        lines.len() == 2 && lines[0].starts_with("spatecanter: missing: cannot read missing: "),
-        "{lines:?}"
-    );
-    assert!(lines[1].ends_with("; the choice changes the font of 4 characters"), "{lines:?}");
-    let csv = run(&folder, &["report", "shelf/four", "--tapes", "--format", "csv"]);
-    assert!(csv.text().contains("\n\"shelf/four\",,,,,,,no tilt code: this tape may"), "{}", csv.text());
-    let json = run(&folder, &["report", "shelf/four", "--tapes", "--format", "json"]).text();
-    assert!(json.contains("\"machine\": null, \"number\": null, "), "{json}");
-}
-
-/// Many tapes in their order, with the sums that one thread counts.
+/// More tapes than a thread takes at a time, each in its place, with the sums of the report that one thread counts.
 #[test]
 fn many_tapes_on_all_processors() {
     let folder = folder("report_many");

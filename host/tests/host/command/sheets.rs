@@ -1,7 +1,7 @@
 //! Pictures of sheets.
 
 use super::*;
-use crate::sample::{pages, yearbook};
+use spatecanter::sample::{pages, yearbook};
 use spatecanter::Machine;
 
 /// The fields of a sheet, with End after them.
@@ -27,7 +27,7 @@ fn rule(x: i32, y: i32, height: i32, width: i32) -> Vec<u8> {
     field(4, &[1], &[x, y, height, width], &[])
 }
 
-/// The picture that plot draws with these words, and standard error.
+/// The picture of a file, with further words, and what is told of it.
 fn plot(folder: &Path, words: &[&str]) -> (String, String) {
     let run = run(folder, &[&["plot", "-o", "-"], words].concat());
     assert_eq!(run.status, 0, "{words:?}: {}", run.err);
@@ -131,22 +131,14 @@ fn bad_sheets_and_wrong_dots() {
     fs::write(folder.join("more.sheet"), [&good[..], &[0]].concat()).unwrap();
     fs::write(folder.join("a.tape"), hex(P3_TAPE)).unwrap();
     let rows: [(&[&str], i32, &str); 8] = [
-        (&["cut.sheet"], 1, "cut.sheet: not a sheet: an unknown or incomplete field at 7\n"),
-        (&["more.sheet"], 1, "more.sheet: not a sheet: an End that is not the last field at 23\n"),
-        (&["a.tape", "--dots", "200"], 2, "--dots 200: expected a sheet, which a.tape is not\n"),
-        (&["a.sheet", "--dots", "0"], 2, "--dots 0: expected a number of dots per inch from 1 to 10,000\n"),
-        (
-            &["a.sheet", "--dots", "10001"],
-            2,
-            "--dots 10001: expected a number of dots per inch from 1 to 10,000\n",
-        ),
-        (
-            &["a.sheet", "--dots=200", "--machine=8"],
-            2,
-            "--dots, which is for XGP files, and --machine cannot be used together\n",
-        ),
-        (&["a.sheet", "--dots=200", "--fonts=4"], 2, "--fonts 4: expected fonts from 0 to 3\n"),
-        (&["a.sheet", "--fonts=0"], 2, "--fonts 0: expected fonts from 1 to 8\n"),
+        (&["cut.sheet"], 1, "cut.sheet: no sheet: an unknown field, or one cut short, at 7\n"),
+        (&["more.sheet"], 1, "more.sheet: no sheet: an End that is not the last field at 23\n"),
+        (&["a.tape", "--dots", "200"], 2, "--dots is for sheets, and a.tape is none\n"),
+        (&["a.sheet", "--dots", "0"], 2, "--dots 0 is no measure: it is the number of dots to an inch, "),
+        (&["a.sheet", "--dots", "10001"], 2, "--dots 10001 is no measure"),
+        (&["a.sheet", "--dots=200", "--machine=8"], 2, "--dots is for sheets of XGP files, "),
+        (&["a.sheet", "--dots=200", "--fonts=4"], 2, "--fonts 4 names no fonts: it is some of 0 to 3 "),
+        (&["a.sheet", "--fonts=0"], 2, "--fonts 0 names no fonts: it is some of 1 to 8 "),
     ];
     for (words, status, what) in rows {
         let run = run(&folder, &[&["plot"], words].concat());

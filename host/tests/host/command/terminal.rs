@@ -1,7 +1,6 @@
-//! Progress on a terminal: the command runs under a pseudo terminal and waits for an input that is a pipe.
+//! Progress on a terminal: the command runs under a pseudo terminal, and an input that is a pipe lets it wait.
 
 use super::*;
-use crate::support::left_out;
 use std::ffi::{c_char, c_int, CStr};
 use std::fs::File;
 use std::io::Read;
@@ -15,13 +14,13 @@ extern "C" {
     fn ptsname_r(terminal: c_int, name: *mut c_char, length: usize) -> c_int;
 }
 
-/// Open for reading and writing, and not as the terminal of this process.
+/// Read and write, and not the terminal of this process.
 const FLAGS: c_int = 0o2 | 0o400;
 
-/// A pseudo terminal: the end that shows, and the end that a command writes to. None if the system has none.
+/// A pseudo terminal: what is shown on it, and what a command writes to. None where the system has none.
 fn terminal() -> Option<(File, File)> {
     let mut name = [0; 64];
-    // SAFETY: the number is that of an open file, which only the File owns; the name has room and ends with 0.
+    // SAFETY: the number is an open file's, which becomes a File's alone; the name has room and ends with 0.
     unsafe {
         let shown = posix_openpt(FLAGS);
         if shown < 0
@@ -40,7 +39,7 @@ fn terminal() -> Option<(File, File)> {
 /// Starts the command with both its outputs on a terminal.
 fn start(folder: &Path, words: &[&str]) -> Option<(Child, File)> {
     let (shown, written) = terminal()?;
-    // The command is killed if it does not end.
+    // One that does not come to its end is ended.
     let child = Command::new("timeout")
         .args(["30", env!("CARGO_BIN_EXE_spatecanter")])
         .args(words)
@@ -53,7 +52,7 @@ fn start(folder: &Path, words: &[&str]) -> Option<(Child, File)> {
     Some((child, shown))
 }
 
-/// Reads what is shown up to these words, or to the end, which a terminal reports as an error.
+/// Reads what is shown until these words are, or to the end, which a terminal tells by an error.
 fn read_until(shown: &mut File, text: &mut String, words: &str) {
     let mut piece = [0; 1_000];
     while !text.contains(words) {
@@ -64,11 +63,11 @@ fn read_until(shown: &mut File, text: &mut String, words: &str) {
     }
 }
 
-/// Runs the command on files of which one is a pipe that is filled when the bar appears. Returns all that is shown.
+/// The command on some files of which one comes when the bar is shown; gives all that the terminal shows.
 fn shown_with_bar(folder: &Path, words: &[&str], pipe: &str, bytes: &[u8], bar: &str) -> Option<String> {
     assert!(Command::new("mkfifo").arg(folder.join(pipe)).status().unwrap().success());
     let Some((mut child, mut shown)) = start(folder, words) else {
-        left_out("there is no pseudo terminal");
+        println!("left out: there is no pseudo terminal");
         return None;
     };
     let mut text = String::new();
@@ -81,7 +80,7 @@ fn shown_with_bar(folder: &Path, words: &[&str], pipe: &str, bytes: &[u8], bar: 
     Some(text)
 }
 
-/// A bar, the files done, speed and time left; it is cleared before each line and at the end.
+/// A bar, files done of all, speed and time left; it is cleared before each line, and at the end.
 #[test]
 fn a_bar_for_many_files() {
     let folder = folder("bar_many");
@@ -112,7 +111,7 @@ fn a_bar_for_a_report() {
     assert!(text.contains("\r\x1b[Ktapes                                       17\r\n"), "{text:?}");
 }
 
-/// One input is shown with its seconds.
+/// One input is told with its seconds.
 #[test]
 fn seconds_for_one_file() {
     let folder = folder("bar_one");

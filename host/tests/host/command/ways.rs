@@ -1,7 +1,7 @@
-//! The way of a tape and of an old galley through the commands.
+//! The ways of a tape and of an old galley.
 
 use super::*;
-use crate::sample::yearbook;
+use spatecanter::sample::yearbook;
 use spatecanter::Machine;
 
 const P3_LIST: &str = "x y font size char\n0 0 1 10 1\n3 0 1 10 2\n2 glyphs\n";
@@ -41,8 +41,9 @@ fn the_machine_of_a_tape() {
     fs::write(folder.join("a.tape"), hex(PAIRS_TAPE)).unwrap();
     let four = "x y font size char\n0 0 1 10 1\n0 0 2 10 2\n0 0 4 10 3\n0 0 3 10 4\n4 glyphs\n";
     let eight = "x y font size char\n0 0 2 10 1\n0 0 4 10 2\n0 0 8 10 3\n0 0 6 10 4\n4 glyphs\n";
-    let calls: [(&[&str], &str); 3] = [
-        (&["read", "a.tape", "--machine", "8"], eight),
+    let calls: [(&[&str], &str); 4] = [
+        (&["read", "a.tape"], eight),
+        (&["read", "a.tape", "--force", "--machine", "8"], eight),
         (&["read", "a.tape", "--machine", "4", "--force"], four),
         (&["read", "--machine=4", "--force", "a.tape"], four),
     ];
@@ -57,7 +58,7 @@ fn the_machine_of_a_tape() {
 #[test]
 fn the_way_of_a_tape_with_cuts() {
     let folder = folder("pages");
-    fs::write(folder.join("a.tape"), hex("40 EF 52 4E 01 4B 00 40 4B 40 EF 4F 02 49")).unwrap();
+    fs::write(folder.join("a.tape"), hex("40 EF 52 4E 01 4B 00 40 4B 40 EF 02 49")).unwrap();
     let read = run(&folder, &["read", "a.tape"]);
     assert_eq!(read.status, 0);
     assert!(read.err.starts_with("a.tape.galley: 2 characters\n"), "{}", read.err);
@@ -71,7 +72,7 @@ fn the_way_of_a_tape_with_cuts() {
     let summary = run(&folder, &["reprint", "a.tape", "-d", "out"]).text();
     assert!(summary.contains("\npages                                3\n"), "{summary}");
     assert_eq!(fs::read(folder.join("out/a.tape.dvi")).unwrap(), fs::read(folder.join("a.dvi")).unwrap());
-    // A galley that begins with a cut is not a tape.
+    // A galley that begins with a cut is no tape.
     fs::write(folder.join("cut"), hex("06 00 00 02 00 04 00 00 00 00")).unwrap();
     let plot = run(&folder, &["plot", "cut", "-o", "cut.svg"]);
     assert_eq!((plot.status, plot.err.as_str()), (0, "cut.svg: 0 characters\n"));
@@ -111,7 +112,7 @@ fn a_dvi_file_read_both_ways() {
     assert_eq!((check.status, check.err.as_str()), (0, "a.dvi: both readers agree\nchecked: 53 bytes\n"));
     assert_eq!(fs::read(folder.join("plain")).unwrap(), sheet);
     assert_eq!(fs::read(folder.join("checked")).unwrap(), sheet);
-    let damaged = run_on(&folder, &["show", "-", "--check"], &[&dvi.as_bytes()[..9], &[133]].concat());
+    let damaged = run_on(&folder, &["show", "-", "--check"], &[&dvi[..9], &[133]].concat());
     assert_eq!(damaged.status, 1);
     for part in ["both readers agree\n", "refused 25 at 9"] {
         assert!(damaged.err.contains(part), "{}", damaged.err);
@@ -175,7 +176,7 @@ fn reprint_writes_three_files_and_a_summary() {
         line.rsplit(' ').next().unwrap().replace(',', "").parse().unwrap()
     };
     let font = |font| galley.characters().filter(|it| it.font() == font).count();
-    assert_eq!(count(&run.text(), "characters"), galley.character_count());
+    assert_eq!(count(&run.text(), "characters"), galley.len() / 11);
     assert_eq!(count(&run.text(), "pages"), 1);
     assert_eq!(count(&run.text(), "in font 1"), font(1));
     assert_eq!(count(&run.text(), "in font 2"), font(2));

@@ -1,4 +1,4 @@
-//! The command `xgp`.
+//! The command xgp.
 
 use super::*;
 use crate::plain;
@@ -65,7 +65,7 @@ fn refusals_tell_the_code() {
         (b"\x09", "60 at 0: |: bytes 09 (11 octal), TAB\n"),
         (b"A\x7F\x03\x01", "60 at 1: |: bytes 7F 03 (177 3 octal), XGP ESCAPE 3, the scan line to start on\n"),
         (b"\x7F\x01\x28A", "60 at 0: |: bytes 7F 01 28 (177 1 50 octal), intercharacter spacing\n"),
-        (b"A\xE9", "60 at 1: |: bytes E9 (351 octal), which is not a code\n  expected: bytes to 127 (177 octal)\n"),
+        (b"A\xE9", "60 at 1: |: bytes E9 (351 octal), which is no code\n  expected: bytes to 127 (177 octal)\n"),
         (b"\x7F\x01\x20\x80\x01", "60 at 0: |: bytes 7F 01 20 80 01 (177 1 40 200 1 octal), XGP column selector\n  expected: bytes to 127"),
         (b"\x7F\x08", "61 at 0: a reserved or unlisted code\n|: bytes 7F 08 (177 10 octal), an escape that is reserved for future use\n"),
         (b"\x7F\x01\x04", "61 at 0: |: bytes 7F 01 04 (177 1 4 octal), an operation that is reserved"),
@@ -113,7 +113,7 @@ fn refusals_of_widths_name_their_file() {
     assert!(short.err.starts_with("spatecanter: a.widths: refused 31 at 0: the width table is not "));
     assert!(short
         .err
-        .ends_with("\n  it has 384 numbers\n  expected: 512, that is, 128 for each of the fonts 0 to 3\n"));
+        .ends_with("\n  it has 384 numbers\n  expected: 512, of which 128 for each of the fonts 0 to 3\n"));
     let mut widths = [1; 512];
     widths[128 + 0o101] = -7;
     let folder = with_widths("xgp_widths", &widths);
@@ -134,32 +134,32 @@ fn wrong_usage_of_xgp() {
     fs::write(folder.join("odd.widths"), [0; 5]).unwrap();
     fs::write(folder.join("a.xgp"), b"A").unwrap();
     let rows: [(&[&str], &str); 9] = [
-        (&["a.xgp", "--spacing", "40"], "xgp needs --widths FILE\nUsage: "),
-        (&["a.xgp", "--widths", "a.widths"], "xgp needs --spacing N\nUsage: "),
         (
-            &["a.xgp", "--widths", "a.widths", "--spacing", "65536"],
-            "--spacing 65536: expected a number of scan lines from 0 to 65,535\n",
+            &["a.xgp", "--spacing", "40"],
+            "an XGP file does not say the widths of its fonts, --widths FILE\nUsage: ",
         ),
         (
-            &["a.xgp", "--widths", "a.widths", "--spacing=-1"],
-            "--spacing -1: expected a number of scan lines from 0 to 65,535\n",
+            &["a.xgp", "--widths", "a.widths"],
+            "an XGP file does not say its line spacing, --spacing N\nUsage: ",
         ),
+        (&["a.xgp", "--widths", "a.widths", "--spacing", "65536"], "--spacing 65536 is no line spacing: "),
+        (&["a.xgp", "--widths", "a.widths", "--spacing=-1"], "--spacing -1 is no line spacing: "),
         (
             &["a.xgp", "--widths", "a.widths", "--spacing=40", "--machine=8"],
-            "--machine: not an option of xgp\n",
+            "--machine is no option of xgp\n",
         ),
         (
             &["-", "--widths", "-", "--spacing=40"],
-            "standard input can be read only once, and is named more than once\n",
+            "the XGP file and the widths cannot both be standard input\n",
         ),
         (
             &["a.xgp", "--widths", "odd.widths", "--spacing=40"],
-            "odd.widths: the width table has 5 bytes, which is not a whole ",
+            "odd.widths: the width table is 5 bytes, no whole ",
         ),
         (&["a.xgp", "--widths", "b.widths", "--spacing=40"], "cannot read b.widths: "),
         (
             &["a.xgp", "--widths", "a.widths", "--spacing=40", "-o", "a.widths"],
-            "a.widths is an input and cannot be overwritten\n",
+            "a.widths is an input, and is not ",
         ),
     ];
     for (words, what) in rows {
@@ -175,5 +175,5 @@ fn a_longer_xgp_file() {
     let folder = with_widths("xgp_long", &[1; 512]);
     let long = xgp(&folder, &vec![0; spatecanter::XGP_LIMIT + 1], &["--spacing", "40"]);
     assert_eq!(long.status, 1);
-    assert_eq!(long.err, "spatecanter: a.xgp: refused 20 at 0: the file is longer than 33,554,432 bytes, or than 67,108,864 for DVI of the second edition\n");
+    assert_eq!(long.err, "spatecanter: a.xgp: refused 20 at 0: the file is longer than 33,554,432 bytes, or as DVI of the second edition 67,108,864\n");
 }

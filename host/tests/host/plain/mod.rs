@@ -10,7 +10,7 @@ mod galley;
 mod punch;
 mod report;
 mod running;
-pub mod tape;
+mod tape;
 mod writer;
 mod xgp;
 

@@ -26,18 +26,6 @@ pub struct Machine {
     backward: u64,
 }
 
-/// The parts of a machine's state as numbers, in the order of `sp_tape_state`.
-pub struct Numbers {
-    /// The machine; begun, parked, stopped, cut.
-    pub machine: [u64; 5],
-    /// Escape and lead backward, upper half, rail and mag, tilt down; the font.
-    pub modes: [u64; 7],
-    /// The size index, or 15.
-    pub size: u64,
-    pub carriage: i32,
-    pub height: i32,
-}
-
 /// What an accepted tape holds.
 pub struct Reading {
     pub items: Vec<Item>,
@@ -95,27 +83,6 @@ impl Machine {
             size_index: None,
             forward: 0,
             backward: 0,
-        }
-    }
-
-    pub fn numbers(&self) -> Numbers {
-        let flag = |flag: bool| u64::from(flag);
-        let modes = [
-            self.escape_backward,
-            self.lead_backward,
-            self.upper_half,
-            self.upper_rail,
-            self.upper_mag,
-            self.tilt_down,
-        ];
-        let [escape, lead, half, rail, mag, tilt] = modes.map(flag);
-        let [begun, parked, stopped, cut] = [self.begun, self.parked, self.stopped, self.cut].map(flag);
-        Numbers {
-            machine: [self.fonts.into(), begun, parked, stopped, cut],
-            modes: [escape, lead, half, rail, mag, tilt, self.font() as u64],
-            size: self.size_index.map_or(15, |index| index as u64),
-            carriage: self.carriage,
-            height: self.height,
         }
     }
 

@@ -8,8 +8,8 @@ use Rattle.dvi2_commands.proofs.Positions.{right_fits}
 use Rattle.dvi2_commands.proofs.position.right_to.Statement.{statement}
 use Rattle.dvi2_commands.proofs.position.right_to.Tie as tie
 
-sub-t3 : tie.Need-overflow-sub-t3
-sub-t3 c =
+sub-result : tie.Need-overflow-sub-result
+sub-result c =
     let s = c.before.before.before.before in
     let f : SFits w32 s.args.c.x.0 = search rules in
     let g : SFits w32 s.args.last.x.0 = search rules in
@@ -23,4 +23,4 @@ returns c =
     rw (plain f, plain g, plain (right_fits s.args.last s.args.c s.requires.0 s.requires.1))
 
 pub right-to-spec : {M : Type 1} → statement M
-right-to-spec = tie.close (tie.spec sub-t3 returns)
+right-to-spec = tie.close (tie.spec sub-result returns)

@@ -15,7 +15,6 @@ use Rattle.octets.specs.Octets.{signed_at}
 use Rattle.dvi.specs.FontOrNone.{font_or_none}
 use Rattle.dvi2.specs.Writer.{parameter_width}
 use Rattle.dvi2_reading.specs.PageReading.{is_downward}
-use Rattle.dvi2_reading.specs.declared.Stage.TheVariants.{Lowered}
 use Rattle.dvi2_reading.specs.Reading.{height_of, page_state_after, in_page, go}
 use Rattle.dvi2_reading.specs.PageReading as Page
 use Rattle.dvi2_reading.specs.PieceLaws.{thrice}
@@ -113,7 +112,7 @@ returns-5 c =
     let d = sym (down_is c.before.before) ∙ c.before.if7.true in
     let y = ap (λ (z : ℤ). pos 3 *ℤ z) (c.height_at.ensures ∙ ap height_of (to_is c.before.before.before)) ∙ thrice (to s) d in
     λ is l.
-    (λ i. go (in_page (record { items = is; stage = Lowered; position = record { font = font_or_none s.args.h.font; x = s.args.h.x.0; y = y i } })) s.args.k)
+    (λ i. go (in_page (record { items = is; stage = Page.lowered; position = record { font = font_or_none s.args.h.font; x = s.args.h.x.0; y = y i } })) s.args.k)
     ∙ sym (d_go s.args.s.now s.args.at (156 + s.args.k) s.args.k s.args.h s.pre is l refl
     (sym m.before.before.before.before.before.before_down.ensures ∙ m.before.before.before.before.if1.taken)
     (sym m.before.before.before.valid_in.ensures ∙ m.before.before.if2.taken)

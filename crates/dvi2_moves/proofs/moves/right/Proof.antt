@@ -14,7 +14,6 @@ use Rattle.octets.specs.Octets.{signed_at}
 use Rattle.dvi.specs.FontOrNone.{font_or_none}
 use Rattle.dvi2.specs.Writer.{parameter_width}
 use Rattle.dvi2_reading.specs.PageReading.{valid_in}
-use Rattle.dvi2_reading.specs.declared.Stage.TheVariants.{Moved}
 use Rattle.dvi2_reading.specs.Reading.{page_state_after, in_page, go}
 use Rattle.dvi2_reading.specs.PageReading as Page
 use Rattle.dvi2_state.specs.declared.page_state.Stepped.TheVariants.{Bad}
@@ -105,7 +104,7 @@ returns-5 c =
     let v = sym (allowed-is c.before.before) ∙ c.before.if6.true in
     let x = ap (λ (z : ℤ). to_z w32 (of_z w32 z)) (to_is c.before.before.before) ∙ plain (to_fits s v) in
     λ is l.
-    (λ i. go (in_page (record { items = is; stage = Moved; position = record { font = font_or_none s.args.h.font; x = x i; y = pos 3 *ℤ s.args.h.height.0 } })) s.args.k)
+    (λ i. go (in_page (record { items = is; stage = Page.moved; position = record { font = font_or_none s.args.h.font; x = x i; y = pos 3 *ℤ s.args.h.height.0 } })) s.args.k)
     ∙ sym (r_go s.args.s.now s.args.at (142 + s.args.k) s.args.k s.args.h s.pre is l refl
     (omega (arith, m.before.if2.left)) (λ i. (m.before.before.before.before.shared-slice-known.given i).fits)
     (sym m.before.before.before.before_right.ensures ∙ m.before.before.if1.taken)

@@ -7,7 +7,6 @@ use lib.ListN.{drop}
 use Rattle.dvi2.specs.Writer.{definition}
 use Rattle.dvi2_reading.specs.Reading.{page_state_after, with_font, in_page, go}
 use Rattle.dvi2_reading.specs.PageReading as Page
-use Rattle.dvi2_reading.specs.declared.Stage.TheVariants.{Named}
 use Rattle.dvi2_state.specs.declared.page_state.PageState.{PageState}
 use Rattle.dvi2_state.specs.Page.{page_state_of, page_position}
 use Rattle.dvi.specs.FontOrNone.{font_some}
@@ -41,7 +40,7 @@ returns-3 c =
     ap (compared (drop a.at a.s.now)) (sym c.before.before.before.before.before.definition.ensures) ∙ sym c.before.before.before.compare.ensures ∙ c.before.enum_told.given.1 in
     λ is l k.
     ap (λ (g : PageState). go (in_page (page_state_of is g)) 19) c.with_font.ensures
-    ∙ (λ i. go (in_page (record { items = is; stage = Named; position = record { font = font_some a.f (λ e. omega (arith, c.before.before.before.before.before.before.before.before.if1.false)) i; x = a.h.x.0; y = (page_position a.h).y } })) 19)
+    ∙ (λ i. go (in_page (record { items = is; stage = Page.named; position = record { font = font_some a.f (λ e. omega (arith, c.before.before.before.before.before.before.before.before.if1.false)) i; x = a.h.x.0; y = (page_position a.h).y } })) 19)
     ∙ d_go a.s.now a.at a.h is l a.used.low a.used.high k p.0.1.0 p.1 p.0.0 a.f p.0.1.1 (omega (arith, c.before.before.before.before.before.before.before.before.if1.false)) (sym c.before.before.before.before.before.before.before.has_font.ensures ∙ c.before.before.before.before.before.before.if2.false) q
 
 returns-4 : tie.Need-returns-4

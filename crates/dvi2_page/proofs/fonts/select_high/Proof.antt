@@ -6,9 +6,8 @@ use native.Mathlib.Omega.{arith}
 use lib.ListN.{get_or}
 use Rattle.dvi2_reading.specs.Reading.{page_state_after, with_font, in_page, go}
 use Rattle.dvi2_reading.specs.PageReading as Page
-use Rattle.dvi2_reading.specs.declared.Stage.TheVariants.{Chosen}
 use Rattle.dvi2_state.specs.declared.page_state.PageState.{PageState}
-use Rattle.dvi2_state.specs.Page.{page_state_of, page_position}
+use Rattle.dvi2_state.specs.Page.{stage_of, page_state_of, page_position}
 use Rattle.dvi.specs.FontOrNone.{font_some}
 use Rattle.dvi2_page.proofs.Marks.{choose_big}
 use Rattle.dvi2_moves.proofs.CommandKinds.{no_truth}
@@ -47,9 +46,9 @@ returns-4 c =
     let f = get_or a.s.now (a.at + 1) 0 in
     λ is l k.
     let v = sym (c.before.before.may_choose.ensures is k) ∙ c.before.if4.true in
-    let n : f ≡ 255 → ⊥ = λ e. no_truth _ v (sym (choose_big a.h.font f a.used.low a.used.high is k a.h.stage (omega arith) p.1.font_valid)) in
+    let n : f ≡ 255 → ⊥ = λ e. no_truth _ v (sym (choose_big a.h.font f a.used.low a.used.high is k (stage_of a.h.stage) (omega arith) p.1.font_valid)) in
     ap (λ (g : PageState). go (in_page (page_state_of is g)) 1) c.with_font.ensures
-    ∙ (λ i. go (in_page (record { items = is; stage = Chosen; position = record { font = font_some f n i; x = a.h.x.0; y = (page_position a.h).y } })) 1)
+    ∙ (λ i. go (in_page (record { items = is; stage = Page.chosen; position = record { font = font_some f n i; x = a.h.x.0; y = (page_position a.h).y } })) 1)
     ∙ s_high_go a.s.now a.at a.h p.1 is l a.used.low a.used.high k p.0.1 (omega (arith, c.before.before.before.before.before.if1.false)) (omega (arith, c.before.before.before.if3.false)) v
 
 returns-5 : tie.Need-returns-5

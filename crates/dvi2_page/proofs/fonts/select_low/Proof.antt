@@ -6,7 +6,6 @@ use native.Mathlib.Omega.{arith}
 use lib.ListN.{get_or}
 use Rattle.dvi2_reading.specs.Reading.{page_state_after, with_font, in_page, go}
 use Rattle.dvi2_reading.specs.PageReading as Page
-use Rattle.dvi2_reading.specs.declared.Stage.TheVariants.{Chosen}
 use Rattle.dvi2_state.specs.declared.page_state.PageState.{PageState}
 use Rattle.dvi2_state.specs.Page.{page_state_of, page_position}
 use Rattle.dvi.specs.FontOrNone.{font_some}
@@ -25,7 +24,7 @@ returns c =
     let n : f ≡ 255 → ⊥ = λ e. omega arith in
     λ is l k.
     ap (λ (g : PageState). go (in_page (page_state_of is g)) 0) c.with_font.ensures
-    ∙ (λ i. go (in_page (record { items = is; stage = Chosen; position = record { font = font_some f n i; x = a.h.x.0; y = (page_position a.h).y } })) 0)
+    ∙ (λ i. go (in_page (record { items = is; stage = Page.chosen; position = record { font = font_some f n i; x = a.h.x.0; y = (page_position a.h).y } })) 0)
     ∙ s_low_go a.s.now a.at a.h p.1 is l a.used.low a.used.high k p.0.1.0 p.0.1.1 (sym (c.before.before.may_choose.ensures is k) ∙ c.before.if1.true)
 
 returns-2 : tie.Need-returns-2

@@ -11,7 +11,7 @@ use mir.Val.{to_z, of_z}
 use Rattle.integers.specs.Bits.{plain, plain_pos}
 use Rattle.measure.specs.Target.{entry_x}
 use Rattle.dvi2_reading.specs.PageReading.{some_below}
-use Rattle.measure.specs.Place.{places}
+use Rattle.dvi2_reading.specs.Reading.{places}
 use Rattle.dvi2_reading.specs.BytesLaws.{found_some}
 use Rattle.dvi2_state.specs.Page.{page_position, right_begins}
 use Rattle.dvi2_state.proofs.Searches.{some_next, some_none, count_fits, place_between, place_fits}

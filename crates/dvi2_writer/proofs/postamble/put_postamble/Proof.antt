@@ -13,7 +13,7 @@ put-post-requires : tie.Need-put-post-requires
 put-post-requires c κs = let s = c.before.before in (omega (arith, s.requires.at_small), s.requires.ranged)
 
 put-definitions-requires : tie.Need-put-definitions-requires
-put-definitions-requires c κs = omega (arith, c.before.before.before.before.before.before.requires.at_small, put_if_room_next c.before.before.before.Put-post.ensures 29 (post_most _ _ _))
+put-definitions-requires c κs = omega (arith, c.before.before.before.before.before.before.requires.at_small, put_if_room_next c.before.before.before.Put-post.ensures 29 (post_most _ _ _ _))
 
 cast-put-post-post : tie.Need-overflow-cast-put-post-post
 cast-put-post-post c = omega (arith, c.before.before.before.before.before.before.before.before.before.before.requires.at_small)
@@ -21,7 +21,7 @@ cast-put-post-post c = omega (arith, c.before.before.before.before.before.before
 put-post-post-requires : tie.Need-put-post-post-requires
 put-post-post-requires c κs =
     let s = c.before.before.before.before.before.before.before.before.before.before in
-    omega (arith, s.requires.at_small, put_if_room_next c.before.before.before.before.before.before.before.Put-post.ensures 29 (post_most _ _ _), c.before.before.before.put_definitions.ensures.next_is, define_most s.args.p.extents.fonts.low s.args.p.extents.fonts.high 120)
+    omega (arith, s.requires.at_small, put_if_room_next c.before.before.before.before.before.before.before.Put-post.ensures 29 (post_most _ _ _ _), c.before.before.before.put_definitions.ensures.next_is, define_most s.args.p.extents.fonts.low s.args.p.extents.fonts.high 120)
 
 returns : tie.Need-returns
 unfolding postamble_of

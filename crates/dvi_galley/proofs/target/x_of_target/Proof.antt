@@ -12,7 +12,7 @@ use mir.Syntax.{w32}
 use mir.Val.{SFits, of_z}
 use Rattle.integers.specs.Parts.{integers, non_neg_by, sum_parts}
 use Rattle.integers.specs.Bits.{plain, plain_pos, same_bits}
-use Rattle.measure.specs.Target.{x_target, entry_x, greatest}
+use Rattle.measure.specs.Target.{x_target, entry_x}
 use Rattle.dvi_galley.proofs.Targets.{left_of_all, right_of_all, shifted, thrice_fits, shifted_fits, shifted_natural, shifted_small, index, index_below, index_fits, index_place, place_fits, index_found, index_missing}
 use Rattle.dvi_galley.proofs.target.x_of_target.Statement.{statement}
 use Rattle.dvi_galley.proofs.target.x_of_target.Tie as tie
@@ -39,7 +39,7 @@ module _ (c : tie.Else2) where
   low : negsuc 600746 ≤ℤ t
   low = let h = rw (plain t-fits) at c.before.before.before.if1.false in omega (integers, h)
 
-  high : t ≤ℤ greatest
+  high : t ≤ℤ pos 35378517
   high = let h = rw (plain t-fits) at c.if2.false in omega (integers, h)
 
   abbrev k : ℕ

@@ -6,14 +6,14 @@ use mathlib.Core.Bool.{Bool, true, false, ◌&&◌}
 use Prim.Native.Nat.{ℕ, ◌+◌, ◌≤◌}
 use native.Mathlib.Omega.{arith}
 use borrow.Author.Rules.{rules}
-use lib.IntN.{ℤ, pos, negsuc, nat_abs}
+use lib.IntN.{ℤ, pos, negsuc}
 use lib.Dec.{leb, ltb}
 use lib.ListN.{get_or}
 use lib.Signed.{le_z, ◌≤ℤ◌}
 use Rattle.integers.specs.Parts.{integers, true_le_z}
 use Rattle.octets.specs.Octets.{nat_at, signed_at}
 use Rattle.octets.specs.OctetsLaws.{signed_at_twos, twos_low}
-use Rattle.measure.specs.Place.{carriage_end, double_end, within}
+use Rattle.measure.specs.Place.{within}
 use Rattle.galley_file.specs.declared.character.Character.{Character}
 use Rattle.galley_file.specs.Font.{size_index, is_double}
 use Rattle.galley_file.specs.Form.{height_bytes, greatest_height}
@@ -26,14 +26,14 @@ nat2-at-requires : tie.Need-nat2-at-requires
 nat2-at-requires c κs = let s = c.before.before in omega (arith, s.requires.0, (form_sizes s.args.f).size_is)
 
 -- an x of 0 to 3,184 is valid in every size
-every-size : (d : Bool) (n : ℕ) → n ≤ nat_abs double_end → valid_x d (pos n) ≡ true
+every-size : (d : Bool) (n : ℕ) → n ≤ 3184 → valid_x d (pos n) ≡ true
 every-size true n h =
     let l : le_z (negsuc 54) (pos n) ≡ true = omega integers in
-    let r : le_z (pos n) double_end ≡ true = omega integers in
+    let r : le_z (pos n) (pos 3184) ≡ true = omega integers in
     rw (l, r)
 every-size false n h =
     let l : le_z (pos 0) (pos n) ≡ true = omega integers in
-    let r : le_z (pos n) carriage_end ≡ true = omega integers in
+    let r : le_z (pos n) (pos 3239) ≡ true = omega integers in
     rw (l, r)
 
 -- the height is in range, so the rest decides
@@ -61,7 +61,7 @@ returns c =
     let a = start k in
     let s = a.args.s.now in
     let n = c.before.before.before.before.nat2_at in
-    let l : nat_at 2 3 s ≤ nat_abs double_end = omega (arith, n.ensures.0, c.before.if1.true) in
+    let l : nat_at 2 3 s ≤ 3184 = omega (arith, n.ensures.0, c.before.if1.true) in
     let x : signed_at 2 3 s ≡ pos (nat_at 2 3 s) = signed_at_twos 2 3 s (omega (arith, a.pre.0, (form_sizes a.args.f).size_is)) ∙ twos_low 65536 (nat_at 2 3 s) (omega arith) in
     let e = every-size (is_double (size_index (get_or s (0 + (height_bytes a.args.f + 5)) 0))) (nat_at 2 3 s) l in
     c.valid_beside_x.ensures

@@ -2,7 +2,7 @@
 -- Assumes nothing.
 use mathlib.Core.Path.{◌≡◌, ap, ◌∙◌}
 use mathlib.Core.List.{List}
-use Prim.Native.Nat.{◌+◌, ◌≤◌, ◌<◌}
+use Prim.Native.Nat.{◌≤◌, ◌<◌}
 use borrow.Author.Rules.{rules}
 use lib.IntN.{ℤ, pos, negsuc, nat_abs, ◌-ℤ◌}
 use lib.ListN.{get_or}
@@ -10,7 +10,6 @@ use mir.Syntax.{w32}
 use mir.Val.{SFits, to_z, of_z}
 use Rattle.integers.specs.Parts.{integers, up, dn, dif_parts, abs_parts, range_parts, non_neg_by}
 use Rattle.integers.specs.Bits.{plain}
-use Rattle.measure.specs.Place.{carriage_end, places}
 use Rattle.measure.specs.Target.{x_target, entry_x}
 use Rattle.measure.specs.TargetLaws.{target_parts, target_entry}
 use Rattle.measure.proofs.Units.target.Statement.{statement}
@@ -27,13 +26,13 @@ module _ (c : tie.After-struct-told2) where
   x_fits : SFits w32 x
   x_fits = search rules
 
-  index-parts : (up index ≤ nat_abs carriage_end + 55) × (dn index ≤ 0)
-  index-parts = range_parts index 0 (nat_abs carriage_end + 55) (omega (integers, dif_parts x (negsuc 54))) (omega (integers, dif_parts x (negsuc 54)))
+  index-parts : (up index ≤ 3294) × (dn index ≤ 0)
+  index-parts = range_parts index 0 3294 (omega (integers, dif_parts x (negsuc 54))) (omega (integers, dif_parts x (negsuc 54)))
 
   index_fits : SFits w32 index
   index_fits = omega (integers, index-parts)
 
-  index_below : nat_abs index < places
+  index_below : nat_abs index < 3295
   index_below = omega (integers, index-parts, abs_parts index)
 
   place : entry_x (nat_abs index) ≡ x

@@ -6,7 +6,6 @@ use lib.IntN.{ℤ, pos, ◌+ℤ◌}
 use lib.Signed.{◌≤ℤ◌}
 use mir.Syntax.{w32}
 use mir.Val.{SFits}
-use Rattle.measure.specs.Place.{carriage_end}
 use Rattle.integers.specs.Parts.{integers, bounds, sum_parts}
 use Rattle.integers.specs.Bits.{plain}
 use Rattle.punch_codes.specs.Codes.{carriage_of}
@@ -16,7 +15,7 @@ use Rattle.punch_codes.proofs.setting.carriage_of.Tie as tie
 x_fits : (c : tie.After-struct-told2) → SFits w32 c.before.before.before.before.before.args.x.0
 x_fits c = search rules
 
-near_fits : {x : ℤ} {k : ℕ} → SFits w32 x → x ≤ℤ carriage_end → k < 1000 → SFits w32 (x +ℤ pos k)
+near_fits : {x : ℤ} {k : ℕ} → SFits w32 x → x ≤ℤ pos 3239 → k < 1000 → SFits w32 (x +ℤ pos k)
 near_fits {x} {k} f h l = omega (integers, bounds f, sum_parts x (pos k))
 
 add-t6 : tie.Need-overflow-add-t6

@@ -7,7 +7,7 @@ use Rattle.spatecanter_running.proofs.words.number_word.Statement.{statement}
 use Rattle.spatecanter_running.proofs.words.number_word.Tie as tie
 
 returns-3 : tie.Need-returns-3
-returns-3 c = c.byte_word.ensures.0 ∙ sym (ap number_word c.before.before.p.given.1)
+returns-3 c = let e = sym (ap number_word c.before.before.p.given.1) in (c.byte_word.ensures.0 ∙ e, c.byte_word.ensures.1 ∙ e)
 
 pub number-word-spec : {M : Type 1} → statement M
 number-word-spec =

@@ -9,10 +9,10 @@ returns : tie.Need-returns
 returns c = rw (eq-eqb _ _ c.if1.true)
 
 returns-2 : tie.Need-returns-2
-returns-2 c = rw (ne_eqb _ _ c.before.before.if1.false, eq-eqb _ _ c.before.if2.true) c.refusal_in.ensures
+returns-2 c = rw (ne_eqb _ _ c.before.if1.false, eq-eqb _ _ c.if2.true)
 
 returns-3 : tie.Need-returns-3
 returns-3 c = rw (ne_eqb _ _ c.before.if1.false, ne_eqb _ _ c.if2.false)
 
 pub phase-in-spec : {M : Type 1} → statement M
-phase-in-spec = tie.close (tie.spec (λ c κs. search rules) returns returns-2 returns-3)
+phase-in-spec = tie.close (tie.spec (λ c. search rules) returns returns-2 returns-3)

@@ -30,10 +30,11 @@ returns c =
     let x = c.before.before.before.units_word.ensures in
     let h = c.before.before.quanta_word.ensures in
     let far = c.before.units-word2.ensures in
-    let high = c.quanta-word2.ensures in (
-      (λ i. p i ∷ n i ∷ q i ∷ m i ∷ f0 i ∷ f1 i ∷ f2 i ∷ f3 i ∷ f4 i ∷ f5 i ∷ f6 i ∷ f7 i ∷ f8 i ∷ f9 i ∷ z.0 i ∷ x.0 i ∷ h.0 i ∷ r.total ∷ r.count ∷ far.0 i ∷ high.0 i ∷ r.extents.fonts.low ∷ r.extents.fonts.high ∷ []),
-      λ k i. record {
-        phase = phase_back r.phase p n q k i;
+    let high = c.quanta-word2.ensures in
+    record {
+      words_are = (λ i. p i ∷ n.0 i ∷ q i ∷ m i ∷ f0 i ∷ f1 i ∷ f2 i ∷ f3 i ∷ f4 i ∷ f5 i ∷ f6 i ∷ f7 i ∷ f8 i ∷ f9 i ∷ z.0 i ∷ x.0 i ∷ h.0 i ∷ r.total ∷ r.count ∷ far.0 i ∷ high.0 i ∷ r.extents.fonts.low ∷ r.extents.fonts.high ∷ []);
+      tape_is = (λ i. record {
+        phase = phase_back r.phase _ p n.1 q i;
         state = record {
           machine = machine_back s.machine m i;
           initialized = flag_back s.initialized f0 i;
@@ -55,8 +56,8 @@ returns c =
         total = r.total;
         count = r.count;
         extents = record { x = record { 0 = far.1 i }; height = record { 0 = high.1 i }; fonts = r.extents.fonts };
-      },
-    )
+      });
+    }
 
 pub words-of-spec : {M : Type 1} → statement M
 words-of-spec =

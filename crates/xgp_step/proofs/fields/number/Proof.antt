@@ -1,6 +1,7 @@
 -- `xgp_step::fields::number` meets its contract: one field, and that of the page if it is due.
 -- Assumes nothing.
-use Rattle.std.proofs.Common.{ap, arith}
+use mathlib.Core.Path.{ap}
+use native.Mathlib.Omega.{arith}
 use Rattle.xgp.specs.FileLaws.{due, length_set_marks}
 use Rattle.xgp_step.proofs.fields.number.Statement.{statement}
 use Rattle.xgp_step.proofs.fields.number.Tie as tie

@@ -1,11 +1,14 @@
 -- `xgp_step::fields::show_char` meets its contract.
 -- Assumes nothing.
-use Rattle.std.proofs.Common.{pos, w32, SFits, rules}
+use lib.IntN.{pos}
+use mir.Syntax.{w32}
+use mir.Val.{SFits}
 use Rattle.integers.specs.Parts.{integers}
 use Rattle.integers.specs.Bits.{plain, plain_pos}
 use Rattle.sheet.specs.Sheet.{char_mark, mark_field}
 use Rattle.octets.specs.Write.{put_named}
 use Rattle.xgp_step.proofs.Puts.{put_one}
+use borrow.Author.Rules.{rules}
 use Rattle.xgp_step.proofs.fields.show_char.Statement.{statement}
 use Rattle.xgp_step.proofs.fields.show_char.Tie as tie
 

@@ -1,11 +1,16 @@
 -- `xgp_step::fields::show_first` meets its contract.
 -- Assumes nothing.
-use Rattle.std.proofs.Common.{ℤ, pos, sym, ap, arith, w32, SFits, rules}
+use mathlib.Core.Path.{sym, ap}
+use native.Mathlib.Omega.{arith}
+use lib.IntN.{ℤ, pos}
+use mir.Syntax.{w32}
+use mir.Val.{SFits}
 use Rattle.integers.specs.Parts.{integers}
 use Rattle.integers.specs.Bits.{plain_pos}
 use Rattle.sheet.specs.Sheet.{page_mark, mark_field, mark_fields}
 use Rattle.octets.specs.Write.{put_named}
 use Rattle.xgp_step.proofs.Puts.{put_none, put_one, page_given, page_due, page_size}
+use borrow.Author.Rules.{rules}
 use Rattle.xgp_step.proofs.fields.show_first.Statement.{statement}
 use Rattle.xgp_step.proofs.fields.show_first.Tie as tie
 

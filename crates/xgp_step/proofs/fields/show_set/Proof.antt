@@ -1,9 +1,12 @@
 -- `xgp_step::fields::show_set` meets its contract: the page's field, if it is due, and the character's.
 -- Assumes nothing.
-use Rattle.std.proofs.Common.{[], ◌∷◌, pos, arith, rules}
+use mathlib.Core.List.{[], ◌∷◌}
+use native.Mathlib.Omega.{arith}
+use lib.IntN.{pos}
 use Rattle.sheet.specs.Sheet.{char_mark}
 use Rattle.xgp.specs.State.{page_marks, set_marks}
 use Rattle.xgp_step.proofs.Puts.{put_then}
+use borrow.Author.Rules.{rules}
 use Rattle.xgp_step.proofs.fields.show_set.Statement.{statement}
 use Rattle.xgp_step.proofs.fields.show_set.Tie as tie
 

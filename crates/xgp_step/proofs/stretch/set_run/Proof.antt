@@ -1,6 +1,8 @@
 -- `xgp_step::stretch::set_run` meets its contract.
 -- Assumes nothing.
-use Rattle.std.proofs.Common.{◌≡◌, [], sym, refl, ◌∙◌, subst, w32, rules}
+use mathlib.Core.Path.{◌≡◌, refl, sym, ◌∙◌, subst}
+use mathlib.Core.List.{[]}
+use mir.Syntax.{w32}
 use Rattle.integers.specs.Bits.{plain}
 use Rattle.octets.specs.ReachLaws.{reach_to}
 use Rattle.xgp.specs.State.{y_in}
@@ -8,6 +10,7 @@ use Rattle.xgp_step.specs.Stretch.{Stretched}
 use Rattle.xgp_step.specs.declared.stretch.Stretch.{Stretch}
 use Rattle.xgp_step.proofs.Puts.{put_none}
 use Rattle.xgp_step.proofs.Stretches.{ran_start}
+use borrow.Author.Rules.{rules}
 use Rattle.xgp_step.proofs.stretch.set_run.Statement.{statement}
 use Rattle.xgp_step.proofs.stretch.set_run.Tie as tie
 

@@ -1,3 +1,0 @@
--- What identifies the machine of a tape.
-pub mod Tilts
-pub mod TiltLaws

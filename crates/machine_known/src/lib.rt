@@ -1,1 +1,0 @@
-// What identifies the machine of a tape (document 02, "The other machine"): definitions and laws in specs/.
