@@ -1,4 +1,6 @@
 // Old galleys made new, and new ones old (document 02, "Old galleys and new").
+#![tactic(auto)]
+
 ghost use Rattle.std.specs.Prelude.{◌≡◌, ◌≤◌, length};
 ghost use Rattle.octets.specs.Answer.{accepted, outcome_of, Gives};
 ghost use Rattle.octets.specs.Write.{Wrote};

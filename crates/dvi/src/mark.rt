@@ -9,7 +9,7 @@ ghost use Rattle.dvi.specs.Mark.{mark_of};
 use measure::Rsu;
 
 // The start of a page, a character, a rule.
-#[derive(Drop)]
+#[derive(Clone, Copy)]
 pub enum Mark {
     Start(i32),
     Char {

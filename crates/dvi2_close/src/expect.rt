@@ -7,7 +7,7 @@ use dvi2_page::matching;
 use dvi2_page::matching::Match;
 
 // How far a file is read: to a place, or to a fault.
-#[derive(Drop)]
+#[derive(Clone, Copy)]
 pub enum Reading {
     To(usize),
     Fault(usize),

@@ -10,7 +10,7 @@ use dvi::font_byte;
 use galley_file::character::Character;
 use measure::{Quanta, Units};
 
-#[derive(Drop)]
+#[derive(Clone, Copy)]
 pub struct Position {
     // The font number, or NO_FONT.
     pub font: u8,

@@ -1,4 +1,6 @@
 // The commands around the pages of a file of the second edition (document 02, "The second edition of DVI"): the preamble, bop, post and post_post.
+#![tactic(auto)]
+
 ghost use Rattle.std.specs.Prelude.{◌≡◌, ◌++◌, ◌+◌, ◌%◌, ◌≤◌, ◌<◌, length};
 ghost use Rattle.octets.specs.Octets.{bytes, signed_bytes};
 ghost use Rattle.octets.specs.Write.{Wrote};

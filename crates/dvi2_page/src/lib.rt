@@ -1,4 +1,6 @@
 // One command of a page of the second edition (document 02, "The second edition of DVI"): whether it may come, and what it leads to.
+#![tactic(auto)]
+
 pub mod fonts;
 pub mod matching;
 

@@ -2,7 +2,7 @@
 ghost use Rattle.std.specs.Prelude.{◌≡◌, ◌≤◌, length, drop};
 ghost use Rattle.dvi2_page.specs.Match.{compared};
 
-#[derive(Drop)]
+#[derive(Clone, Copy)]
 pub enum Match {
     // The command stands there.
     Whole,

@@ -1,4 +1,6 @@
 // The files of the second edition, read back into galleys (document 02, "The second edition of DVI").
+#![tactic(auto)]
+
 ghost use Rattle.std.specs.Prelude.{[], ◌≤◌, ◌<◌, length};
 ghost use Rattle.octets.specs.Answer.{outcome_of, Gives};
 ghost use Rattle.octets.specs.Field.{end_field};

@@ -9,7 +9,7 @@ use galley_file::{character, font};
 use measure::{Quanta, Units};
 
 // What is there of the next character.
-#[derive(Drop)]
+#[derive(Clone, Copy)]
 pub enum Stage {
     Ready,
     Named,
@@ -20,7 +20,7 @@ pub enum Stage {
 
 // The font and the place to which the commands so far lead, and what is there of the next character, side by side: a value inside a
 // value is packed and unpacked at each command.
-#[derive(Drop)]
+#[derive(Clone, Copy)]
 pub struct PageState {
     // The font number, or NO_FONT.
     pub font: u8,
@@ -29,7 +29,7 @@ pub struct PageState {
     pub x: Units,
 }
 
-#[derive(Drop)]
+#[derive(Clone, Copy)]
 pub enum Stepped {
     // No file goes on so.
     Bad,

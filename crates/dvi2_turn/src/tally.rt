@@ -10,7 +10,7 @@ use extents;
 use extents::Extents;
 use galley_file::item::Item;
 
-#[derive(Drop)]
+#[derive(Clone, Copy)]
 pub struct Tally {
     pub characters: usize,
     pub cuts: usize,

@@ -25,7 +25,7 @@ use galley_file::item;
 use galley_file::item::Item;
 use measure::{Quanta, Units};
 
-#[derive(Drop)]
+#[derive(Clone, Copy)]
 pub enum Turn {
     // No file goes on so.
     Bad(usize),

@@ -1,5 +1,7 @@
 // The writer of DVI files of identification 2 (document 02, "The second edition of DVI"). One function writes the file and counts it: what has no room in the buffer is
 // only counted, so that a first pass, over a buffer of none of it, gives the length.
+#![tactic(auto)]
+
 mod page;
 mod postamble;
 mod writing;

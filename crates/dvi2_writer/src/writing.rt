@@ -15,7 +15,7 @@ const FIRST_BOP: u32 = dvi2_frame::PRE_LENGTH as u32;
 
 const FIRST_COMMAND: usize = dvi2_frame::PRE_LENGTH + dvi2_frame::BOP_LENGTH;
 
-#[derive(Drop)]
+#[derive(Clone, Copy)]
 pub struct Writing {
     pub position: Position,
     // Those of the characters so far, whose fonts are defined.

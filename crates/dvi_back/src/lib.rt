@@ -1,4 +1,6 @@
 // DVI files of 1980 made into galleys again (document 02, "DVI back to a galley").
+#![tactic(auto)]
+
 mod tally;
 
 ghost use Rattle.std.specs.Prelude.{◌≡◌, true, ◌≤◌, length};

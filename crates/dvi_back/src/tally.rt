@@ -16,7 +16,7 @@ use octets::{answer, field};
 const MAX_ITEMS: u64 = item::MAX_ITEMS as u64;
 
 // No page yet; the cuts and the characters so far; or the place of the first command that breaks a condition.
-#[derive(Drop)]
+#[derive(Clone, Copy)]
 pub enum Tally {
     Nothing,
     Items(u32, u32),

@@ -1,5 +1,7 @@
 // PUSH and POP inside a page of a DVI file of 1980 (002), read as brackets: a run is made of items, and an item is a command or a group.
 // The readers of a run and of an item call each other.
+#![tactic(auto)]
+
 ghost use Rattle.std.specs.Prelude.{◌≡◌, true, [], ◌+◌, ◌≤◌, ◌<◌, length, get_or, drop};
 ghost use Rattle.dvi.specs.Command.{PUSH as Push, POP as Pop, decode as decodeOf};
 ghost use Rattle.sheet.specs.Readable.{max_file};
@@ -14,7 +16,7 @@ use dvi_page::page::{Effect, Page};
 use octets::answer;
 
 // A refusal at a place; the page after the item, the number of its bytes after the first, the place in the sheet and the marks so far; or EOP.
-#[derive(Drop)]
+#[derive(Clone, Copy)]
 pub enum Item {
     Fault(u8, usize),
     Past(Page, usize, usize, u32),
@@ -23,7 +25,7 @@ pub enum Item {
 
 // A refusal at a place; or a POP or an EOP that ends the run: the page before the POP, the number of bytes before it, the place in the sheet
 // and the marks so far.
-#[derive(Drop)]
+#[derive(Clone, Copy)]
 pub enum Run {
     Fault(u8, usize),
     Pop(Page, usize, usize, u32),

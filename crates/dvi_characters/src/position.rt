@@ -13,7 +13,7 @@ use galley_file::item::Item;
 use measure::Rsu;
 use measure::target_table::TargetTable;
 
-#[derive(Drop)]
+#[derive(Clone, Copy)]
 pub struct Position {
     // The font number, or NO_FONT.
     pub font: u8,

@@ -1,4 +1,6 @@
 // The commands inside a page of a DVI file of 1980 (002), read from bytes.
+#![tactic(auto)]
+
 ghost use Rattle.std.specs.Prelude.{◌≡◌, List, ℕ, ◌+◌, ◌≤◌, ◌<◌, length, drop};
 ghost use Rattle.dvi.specs.Command.{decode as decodeOf, with_parameters, takes};
 ghost use Rattle.dvi_command.specs.Command.{command_of, decoded_of, parameter_of, still_of, moving_of};
@@ -16,7 +18,7 @@ const Y: u8 = 2;
 
 const Z: u8 = 3;
 
-#[derive(Drop)]
+#[derive(Clone, Copy)]
 pub enum Command {
     SetChar(u8),
     Nop,
@@ -38,14 +40,14 @@ pub enum Command {
 }
 
 // A command with the number of its parameters' bytes, or why there is none.
-#[derive(Drop)]
+#[derive(Clone, Copy)]
 pub enum Decoded {
     NoCommand,
     CutShort,
     Whole(Command, usize),
 }
 
-#[derive(Drop)]
+#[derive(Clone, Copy)]
 pub enum Parameter {
     Value(i32),
     Short,

@@ -1,4 +1,6 @@
 // What each command does to a page.
+#![tactic(auto)]
+
 ghost use Rattle.std.specs.Prelude.{◌≡◌, List, ◌≤◌, ℤ, length};
 ghost use Rattle.dvi.specs.Command.{NoBracket};
 ghost use Rattle.dvi.specs.Mark.{mark_of};
@@ -17,7 +19,7 @@ use octets::answer;
 
 const LAST_CHAR: u32 = 127;
 
-#[derive(Drop)]
+#[derive(Clone, Copy)]
 pub enum Width {
     Of(Rsu),
     Missing,

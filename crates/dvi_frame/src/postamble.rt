@@ -23,7 +23,7 @@ pub const DEFINITION: usize = 14;
 const FOUR_223: u32 = 0x0101_0101 * opcode::FILLER as u32;
 
 // The width and the height of a file.
-#[derive(Drop)]
+#[derive(Clone, Copy)]
 pub struct Sizes {
     pub x: Rsu,
     pub y: Rsu,

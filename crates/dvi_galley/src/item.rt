@@ -22,7 +22,7 @@ use measure::{Quanta, Rsu, Units};
 const FONTS: i32 = font::FONTS as i32;
 
 // The item that a mark shows, or none.
-#[derive(Drop)]
+#[derive(Clone, Copy)]
 pub enum Taken {
     Is(Item),
     Not,

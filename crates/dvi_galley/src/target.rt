@@ -22,14 +22,14 @@ const SHIFT: i32 = measure::RSU_PER_QUANTUM * measure::DOUBLE_SHIFT.0
     + measure::RSU_PER_QUANTUM / 2;
 
 // The x whose target this is.
-#[derive(Drop)]
+#[derive(Clone, Copy)]
 pub enum Across {
     At(Units),
     Nowhere,
 }
 
 // The height whose target this is.
-#[derive(Drop)]
+#[derive(Clone, Copy)]
 pub enum Down {
     At(Quanta),
     Nowhere,

@@ -14,7 +14,7 @@ use octets::{answer, reach};
 
 // The stack's entries lie in an array beside the page. The font counts where has_font says so; the two stand apart, as side by side
 // the compiler would keep them in one word and take it apart at every command.
-#[derive(Drop)]
+#[derive(Clone, Copy)]
 pub struct Page {
     pub has_font: bool,
     pub numbers: Numbers,
@@ -23,7 +23,7 @@ pub struct Page {
 }
 
 // What a command does.
-#[derive(Drop)]
+#[derive(Clone, Copy)]
 pub enum Effect {
     Fault(u8),
     Moved(Page),

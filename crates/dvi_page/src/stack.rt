@@ -11,7 +11,7 @@ pub const MAX_STACK: usize = 200;
 pub const STACK_SIZE: usize = 6 * MAX_STACK;
 
 // The coordinates, and the amounts W, X, Y and Z.
-#[derive(Drop)]
+#[derive(Clone, Copy)]
 pub struct Numbers {
     pub x: Rsu,
     pub y: Rsu,

@@ -1,5 +1,7 @@
 // A second reader of DVI files of 1980, which takes PUSH and POP as brackets and keeps no stack: a run is made of items, and an item is a
 // command or a group.
+#![tactic(auto)]
+
 ghost use Rattle.std.specs.Prelude.{◌≡◌, true, ◌+◌, ◌≤◌, length};
 ghost use Rattle.octets.specs.Answer.{outcome_of, Gives};
 ghost use Rattle.octets.specs.Pass.{Roomy, Passed};
@@ -22,7 +24,7 @@ use octets::pass::Reading;
 use octets::{answer, field, pass};
 
 // How a page ends: refused at a place; or with its EOP: the place after it, the place in the sheet and the marks so far.
-#[derive(Drop)]
+#[derive(Clone, Copy)]
 enum PageEnd {
     Fault(u8, usize),
     Eop(usize, usize, u32),

@@ -1,4 +1,6 @@
 // DVI files of 1980 (002), read into sheets with a lent table of widths.
+#![tactic(auto)]
+
 ghost use Rattle.std.specs.Prelude.{◌≡◌, true, ◌≤◌, length};
 ghost use Rattle.octets.specs.Answer.{outcome_of, Gives};
 ghost use Rattle.octets.specs.Pass.{Roomy, Passed};

@@ -1,4 +1,6 @@
 // One command of a DVI file of 1980 (002): inside a page, or between pages.
+#![tactic(auto)]
+
 mod postamble;
 
 ghost use Rattle.std.specs.Prelude.{◌≡◌, List, ◌+◌, ◌≤◌, ◌<◌, ℤ, length, get_or, drop};
@@ -17,14 +19,14 @@ use dvi_page::page::{Effect, Page};
 use octets::{answer, number};
 
 // Between pages or inside one, with the offset of the last BOP, -1 before the first.
-#[derive(Drop)]
+#[derive(Clone, Copy)]
 pub enum State {
     Between(i32),
     Inside(i32, Page),
 }
 
 // A refusal; the state after the command, with its mark if it has one, and the number of its parameters' bytes; or the file's end.
-#[derive(Drop)]
+#[derive(Clone, Copy)]
 pub enum Stepped {
     Refuse(u8),
     Go(State, usize),

@@ -6,7 +6,7 @@ ghost use Rattle.dvi_step.specs.Postamble.{Past};
 use dvi::opcode;
 use octets::number;
 
-#[derive(Drop)]
+#[derive(Clone, Copy)]
 pub enum Found {
     At(usize),
     Nothing,

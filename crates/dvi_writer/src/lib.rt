@@ -1,4 +1,6 @@
 // The writer of DVI files (document 01, "DVI (002)"): a galley's characters become pages, one more than there are cuts, and a postamble.
+#![tactic(auto)]
+
 mod page;
 mod plan;
 mod writing;

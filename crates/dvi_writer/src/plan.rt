@@ -20,7 +20,7 @@ use galley_file::item::Item;
 use measure::target_table;
 use octets::field;
 
-#[derive(Drop)]
+#[derive(Clone, Copy)]
 pub struct Plan {
     // The bytes of the items.
     pub length: usize,

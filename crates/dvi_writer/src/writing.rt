@@ -6,7 +6,7 @@ use dvi::opcode;
 use dvi_characters::position;
 use dvi_characters::position::Position;
 
-#[derive(Drop)]
+#[derive(Clone, Copy)]
 pub struct Writing {
     pub position: Position,
     // The page's number.

@@ -1,4 +1,6 @@
 // Extents: farthest x, greatest height and the fonts met (document 02, "Extents at a glance").
+#![tactic(auto)]
+
 pub mod fonts;
 
 ghost use Rattle.std.specs.Prelude.{◌≡◌, true, ◌<◌};
@@ -14,7 +16,7 @@ use galley_file::item;
 use galley_file::item::Item;
 use measure::{Quanta, Units};
 
-#[derive(Drop)]
+#[derive(Clone, Copy)]
 pub struct Extents {
     // The farthest x and the greatest height, and at least 0.
     pub x: Units,

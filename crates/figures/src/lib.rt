@@ -1,4 +1,6 @@
 // A tape counted: its number, its characters by font number and its lead, by the machine's own rules. No galley is written.
+#![tactic(auto)]
+
 ghost use Rattle.std.specs.Prelude.{◌≡◌, ◌<◌, ◌≤◌, length, replicate, slice_index, slice_set};
 ghost use Rattle.typesetter.specs.Code.{code_of};
 ghost use Rattle.typesetter.specs.Sound.{Sound};
@@ -15,7 +17,7 @@ use typesetter::machine::{Effect, State};
 use typesetter::{code, machine};
 
 // What counting a tape finds beside its characters: the number of its answer, and its lead if it is accepted.
-#[derive(Drop)]
+#[derive(Clone, Copy)]
 pub struct Tally {
     pub number: u8,
     pub forward: u64,
@@ -23,7 +25,7 @@ pub struct Tally {
 }
 
 // Where a run of the quick ways ends: the place on the tape, the state, and the lead so far.
-#[derive(Drop)]
+#[derive(Clone, Copy)]
 pub struct RunEnd {
     pub next: usize,
     pub state: State,

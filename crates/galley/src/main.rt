@@ -1,4 +1,6 @@
 // Reads a tape on standard input and lists its galley (document 01, "Proof sheet").
+#![tactic(auto)]
+
 ghost use Rattle.galley_file.specs.declared.form.Form.TheVariants.{New};
 ghost use Rattle.std.specs.Prelude.{◌≡◌, nat_abs};
 ghost use Rattle.octets.specs.Answer.{accepted};

@@ -1,4 +1,6 @@
 // Galleys (document 01, "Galley"): the check, with or without a limit of heights, and reading a character back.
+#![tactic(auto)]
+
 ghost use Rattle.std.specs.Prelude.{◌≡◌, ◌+◌, ◌*◌, ◌≤◌, length};
 ghost use Rattle.octets.specs.Answer.{accepted, outcome_of};
 ghost use Rattle.galley_file.specs.declared.form.Form.TheVariants.{New};
@@ -17,7 +19,7 @@ use octets::answer::Answer;
 use octets::{answer, field};
 
 // What reading back answers: the character, or a refusal's number and place.
-#[derive(Drop)]
+#[derive(Clone, Copy)]
 pub enum Found {
     Placed(Character),
     Refused(u8, usize),
@@ -32,7 +34,7 @@ const RUNS: usize = 1_024;
 const CUT: usize = 2_048;
 
 // The characters and the cuts of some fields.
-#[derive(Drop)]
+#[derive(Clone, Copy)]
 pub struct Span {
     pub characters: usize,
     pub cuts: usize,

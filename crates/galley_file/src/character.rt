@@ -11,7 +11,7 @@ use crate::form::Form;
 use measure::{Quanta, Units};
 use octets::{field, number};
 
-#[derive(Drop)]
+#[derive(Clone, Copy)]
 pub struct Character {
     pub x: Units,
     pub height: Quanta,

@@ -8,7 +8,7 @@ use crate::form::Form;
 use crate::{character, form};
 use octets::field;
 
-#[derive(Drop)]
+#[derive(Clone, Copy)]
 pub enum Item {
     Placed(Character),
     Cut,

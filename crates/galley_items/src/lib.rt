@@ -1,4 +1,6 @@
 // The item at a place of a galley (document 01, "Galley"), for a caller who goes from field to field.
+#![tactic(auto)]
+
 ghost use Rattle.std.specs.Prelude.{◌≡◌};
 ghost use Rattle.galley_items.specs.Here.{here_of, here_outcome};
 
@@ -8,7 +10,7 @@ use galley_file::{character, item};
 use octets::answer;
 
 // What stands at a place: an item, or a refusal's number and place.
-#[derive(Drop)]
+#[derive(Clone, Copy)]
 pub enum Here {
     Is(Item),
     Refused(u8, usize),

@@ -1,4 +1,6 @@
 // A piece fed to a running tape that the caller keeps (document 02, "From the tape drive"): a thin function over the one that takes it by value.
+#![tactic(auto)]
+
 ghost use Rattle.octets.specs.Answer.{outcome_of};
 ghost use Rattle.running.specs.Running.{feed_of, Leaves};
 

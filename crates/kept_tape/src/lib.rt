@@ -1,4 +1,6 @@
 // The start and the close of a running tape that the caller keeps (document 02, "From the tape drive"): thin functions over those that take it by value.
+#![tactic(auto)]
+
 ghost use Rattle.std.specs.Prelude.{◌≡◌};
 ghost use Rattle.octets.specs.Answer.{outcome_of, outcome};
 ghost use Rattle.running.specs.Running.{start_of, close_of, Leaves};

@@ -6,7 +6,7 @@ ghost use Rattle.octets.specs.Pass.{decided};
 use crate::answer::Answer;
 
 // The bytes that the result needs, or a refusal at a place.
-#[derive(Drop)]
+#[derive(Clone, Copy)]
 pub enum Reading {
     Needs(usize),
     Fault(u8, usize),

@@ -2,7 +2,7 @@
 ghost use Rattle.std.specs.Prelude.{◌≡◌, ◌+ℤ◌, ◌-ℤ◌};
 ghost use Rattle.octets.specs.Reach.{reach};
 
-#[derive(Drop)]
+#[derive(Clone, Copy)]
 pub enum Reach {
     To(i32),
     Off,

@@ -1,1 +1,3 @@
 // The proof sheet of document 01: its cases in specs/Cases.antt, as one table and one statement.
+#![tactic(auto)]
+

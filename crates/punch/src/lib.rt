@@ -1,4 +1,6 @@
 // Punching a tape from a galley, for the 8-font machine (document 02, "Punching a tape").
+#![tactic(auto)]
+
 ghost use Rattle.std.specs.Prelude.{◌≡◌, true, ◌+◌, ◌≤◌, ◌<◌, length};
 ghost use Rattle.octets.specs.Answer.{accepted, outcome_of, Gives};
 ghost use Rattle.octets.specs.Write.{Put};

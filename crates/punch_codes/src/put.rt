@@ -6,7 +6,7 @@ ghost use Rattle.octets.specs.Write.{Put};
 ghost use Rattle.octets.specs.Space.{Space};
 
 // The codes of motions one way or the other: its two directions, and the longest motion.
-#[derive(Drop)]
+#[derive(Clone, Copy)]
 pub struct Axis {
     pub forward: u8,
     pub backward: u8,

@@ -1,4 +1,6 @@
 // Document 02, "The cabinet in numbers": a report over at most 65,536 tapes, kept by the caller.
+#![tactic(auto)]
+
 ghost use Rattle.std.specs.Prelude.{◌≡◌, length};
 ghost use Rattle.octets.specs.Answer.{outcome_of};
 ghost use Rattle.figures.specs.Figures.{Figures};

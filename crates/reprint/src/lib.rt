@@ -1,4 +1,6 @@
 // A galley made into a DVI file, and the file into a sheet, in one call (document 01, demand 3).
+#![tactic(auto)]
+
 ghost use Rattle.galley_file.specs.declared.form.Form.TheVariants.{New};
 ghost use Rattle.std.specs.Prelude.{◌≡◌, ◌%◌, length};
 ghost use Rattle.octets.specs.Answer.{accepted};
@@ -16,7 +18,7 @@ use octets::{answer, field};
 const OTHER_FIELDS: usize = sheet::PAGE_FIELD + field::END_FIELD;
 
 // The lengths of the sheet and of the file, or the number and the place of a refusal.
-#[derive(Drop)]
+#[derive(Clone, Copy)]
 pub enum Lengths {
     Both(usize, usize),
     Refused(u8, usize),

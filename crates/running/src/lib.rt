@@ -1,5 +1,7 @@
 // The running tape: a C/A/T tape that comes in pieces (document 02, "From the tape drive"). Each call takes the running tape by value and
 // gives it back with its answer.
+#![tactic(auto)]
+
 mod close;
 
 ghost use Rattle.std.specs.Prelude.{◌≡◌};
@@ -15,14 +17,14 @@ use typesetter::machine;
 use typesetter::machine::State;
 
 // At rest before any start and after an accepted closing; open; or refused for good, with the refusal that is repeated.
-#[derive(Drop)]
+#[derive(Clone, Copy)]
 pub enum Phase {
     AtRest,
     Open,
     Failed(u8, usize),
 }
 
-#[derive(Drop)]
+#[derive(Clone, Copy)]
 pub struct Running {
     pub phase: Phase,
     pub state: State,
@@ -34,7 +36,7 @@ pub struct Running {
 }
 
 // What a call leaves of the running tape, and answers.
-#[derive(Drop)]
+#[derive(Clone, Copy)]
 pub struct Reply {
     pub tape: Running,
     pub answer: Answer,

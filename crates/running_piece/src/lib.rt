@@ -1,4 +1,6 @@
 // A piece of an open running tape: two passes over it, the first for what it comes to, the second to write its fields.
+#![tactic(auto)]
+
 ghost use Rattle.std.specs.Prelude.{◌≡◌, true, ◌+◌, ◌≤◌, length};
 ghost use Rattle.std.proofs.lemmas.List.Edits.{sets};
 ghost use Rattle.octets.specs.Answer.{outcome_of};

@@ -1,4 +1,6 @@
 // The sheet's fields; the limits of what a reader is lent.
+#![tactic(auto)]
+
 ghost use Rattle.std.specs.Prelude.{◌≡◌, true, ◌++◌, ◌+◌, ◌≤◌, length};
 ghost use Rattle.octets.specs.Octets.{signed_bytes};
 ghost use Rattle.octets.specs.Write.{Wrote, Put};

@@ -1,4 +1,6 @@
 // The operations for C and Rust callers: each answer goes into an array that the caller lends.
+#![tactic(auto)]
+
 ghost use Rattle.galley_file.specs.declared.form.Form.TheVariants.{New};
 ghost use Rattle.std.specs.Prelude.{◌≡◌};
 ghost use Rattle.octets.specs.Answer.{numbers_of, GivesNumbers};

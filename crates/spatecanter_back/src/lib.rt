@@ -1,5 +1,7 @@
 // A DVI file made into its galley, for C callers. What it shares with the reader of DVI files would no longer be melted into that
 // reader's loop if both were exported by one crate, so it is exported by a crate of its own.
+#![tactic(auto)]
+
 ghost use Rattle.octets.specs.Answer.{GivesNumbers};
 ghost use Rattle.dvi_galley.specs.Back.{back_result};
 

@@ -1,4 +1,6 @@
 // The second edition of DVI for C and Rust callers.
+#![tactic(auto)]
+
 ghost use Rattle.octets.specs.Answer.{GivesNumbers};
 ghost use Rattle.dvi2.specs.Result.{dvi2_result};
 ghost use Rattle.dvi2_reading.specs.Reading.{read2_result};

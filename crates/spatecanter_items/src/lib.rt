@@ -1,4 +1,6 @@
 // The items of a galley one by one, for C and Rust callers.
+#![tactic(auto)]
+
 ghost use Rattle.std.specs.Prelude.{◌≡◌};
 ghost use Rattle.octets.specs.Answer.{numbers_of};
 ghost use Rattle.galley_items.specs.Here.{here_of, here_outcome, outcome_of_here, here_numbers};

@@ -1,5 +1,7 @@
 // The plain reader of DVI files, for C callers. What it shares with the quick one would no longer be melted into that reader's loop if
 // both were exported by one crate, so it is exported by a crate of its own.
+#![tactic(auto)]
+
 ghost use Rattle.octets.specs.Answer.{GivesNumbers};
 ghost use Rattle.dvi.specs.Sheet.{sheet_result};
 

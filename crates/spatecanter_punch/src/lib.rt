@@ -1,4 +1,6 @@
 // Punching a tape, for C and Rust callers: the answer goes into an array that the caller lends.
+#![tactic(auto)]
+
 ghost use Rattle.punch.specs.Punch.{PunchesNumbers};
 
 use octets::answer;

@@ -1,5 +1,7 @@
 // The report for C and Rust callers: the answer goes into an array that the caller lends. A crate of its own, so that the
 // functions that `sp_read_tape` shares with it stay part of its loops.
+#![tactic(auto)]
+
 ghost use Rattle.std.specs.Prelude.{◌≡◌};
 ghost use Rattle.octets.specs.Answer.{numbers_of};
 ghost use Rattle.report.specs.Report.{report_outcome, counted_in};

@@ -1,4 +1,6 @@
 // The running tape for C and Rust callers: it lies in an array of words that the caller keeps, and lends to each call.
+#![tactic(auto)]
+
 pub mod words;
 
 ghost use Rattle.std.specs.Prelude.{◌≡◌};

@@ -1,4 +1,6 @@
 // The version of the library, for C and Rust callers. A crate of its own, since it stands on nothing.
+#![tactic(auto)]
+
 ghost use Rattle.std.specs.Prelude.{◌≡◌};
 ghost use Rattle.spatecanter_version.specs.Version.{version};
 

@@ -1,4 +1,6 @@
 // A file of XGP character mode read into a sheet, for C callers.
+#![tactic(auto)]
+
 ghost use Rattle.octets.specs.Answer.{GivesNumbers};
 ghost use Rattle.xgp.specs.Sheet.{xgp_result};
 

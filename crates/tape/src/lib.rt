@@ -1,4 +1,6 @@
 // C/A/T phototypesetter tapes (source 000, document 01), read into galleys.
+#![tactic(auto)]
+
 ghost use Rattle.std.specs.Prelude.{◌≡◌, true, ◌+◌, ◌*◌, ◌≤◌, length};
 ghost use Rattle.octets.specs.Answer.{outcome_of, Gives};
 ghost use Rattle.galley_file.specs.declared.form.Form.TheVariants.{New};
@@ -21,14 +23,14 @@ use typesetter::machine::{Effect, State};
 pub const MAX_TAPE: usize = 1_048_576;
 
 // How a run over some bytes ends: in a state, or with a refusal at a place.
-#[derive(Drop)]
+#[derive(Clone, Copy)]
 pub enum Ending {
     Reached(State),
     Fault(u8, usize),
 }
 
 // What a pass finds: the number of characters, the bytes of the cuts' fields, and how it ends.
-#[derive(Drop)]
+#[derive(Clone, Copy)]
 pub struct Reading {
     pub count: usize,
     pub cuts: usize,

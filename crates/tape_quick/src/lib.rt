@@ -1,4 +1,6 @@
 // The commonest codes of a C/A/T tape without the whole step: stretches, leads, and the codes that turn a mode or set a size, one after another.
+#![tactic(auto)]
+
 pub mod turn;
 
 ghost use Rattle.std.specs.Prelude.{◌≡◌, ◌≤◌};
@@ -12,7 +14,7 @@ use typesetter::code;
 use typesetter::machine::State;
 
 // Where a run of the quick ways ends: the place on the tape, the state, and the number of characters.
-#[derive(Drop)]
+#[derive(Clone, Copy)]
 pub struct RunEnd {
     pub next: usize,
     pub state: State,

@@ -1,4 +1,6 @@
 // One code of a C/A/T tape (document 01, "Tape codes"): what it does to the machine.
+#![tactic(auto)]
+
 ghost use Rattle.std.specs.Prelude.{◌≡◌};
 ghost use Rattle.typesetter.specs.Machine.{flash_of, escape_of, lead_of, with_size, with_stop, with_cut, instruction_effect, byte_effect};
 ghost use Rattle.typesetter.specs.Sound.{Sound};

@@ -6,7 +6,7 @@ use typesetter::machine;
 use typesetter::machine::State;
 
 // It outlives flashes and escapes: the last escape and the last flash that are taken, or 0, and the font number.
-#[derive(Drop)]
+#[derive(Clone, Copy)]
 pub struct Derived {
     pub last_escape: u8,
     pub last_flash: u8,

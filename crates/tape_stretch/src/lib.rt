@@ -1,4 +1,6 @@
 // Stretches of 00 and of the flashes and escapes that a C/A/T takes, without the whole step: counted, or written.
+#![tactic(auto)]
+
 pub mod derived;
 
 ghost use Rattle.std.specs.Prelude.{◌≡◌, true, ◌≤◌};
@@ -16,7 +18,7 @@ use typesetter::machine::State;
 use typesetter::{code, machine};
 
 // Where a stretch of codes ends: the place on the tape, the carriage, and the number of characters.
-#[derive(Drop)]
+#[derive(Clone, Copy)]
 pub struct Stretch {
     pub next: usize,
     pub carriage: Units,
@@ -24,7 +26,7 @@ pub struct Stretch {
 }
 
 // A character set, or the carriage at a place; Slow is every other code and every refusal.
-#[derive(Drop)]
+#[derive(Clone, Copy)]
 pub enum Quick {
     Set(Character),
     At(Units),

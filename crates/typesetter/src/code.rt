@@ -3,14 +3,14 @@ ghost use Rattle.std.specs.Prelude.{◌≡◌, ◌-◌, ◌%◌, get_or};
 ghost use Rattle.typesetter.specs.Code.{tilt_of, code_of, controls};
 
 // The two kinds of machine, by their number of fonts.
-#[derive(Drop)]
+#[derive(Clone, Copy)]
 pub enum Machine {
     Four,
     Eight,
 }
 
 // What a code asks of an initialized machine. A bool is true for upper, backward and down.
-#[derive(Drop)]
+#[derive(Clone, Copy)]
 pub enum Instruction {
     Flash(u8),
     Rail(bool),
@@ -27,7 +27,7 @@ pub enum Instruction {
 }
 
 // The class of a code.
-#[derive(Drop)]
+#[derive(Clone, Copy)]
 pub enum Code {
     Ignored,
     Illegal,

@@ -9,7 +9,7 @@ use galley_file::font;
 use measure::{Quanta, Units};
 
 // What initialize resets.
-#[derive(Drop)]
+#[derive(Clone, Copy)]
 pub struct Modes {
     pub escape_back: bool,
     pub lead_back: bool,
@@ -19,7 +19,7 @@ pub struct Modes {
     pub tilt_down: bool,
 }
 
-#[derive(Drop)]
+#[derive(Clone, Copy)]
 pub struct State {
     pub machine: Machine,
     pub initialized: bool,
@@ -35,7 +35,7 @@ pub struct State {
 }
 
 // What one code does: it leaves another state, sets a character, ends the page, or is refused.
-#[derive(Drop)]
+#[derive(Clone, Copy)]
 pub enum Effect {
     Moved(State),
     Flashed(Character),

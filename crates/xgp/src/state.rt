@@ -11,7 +11,7 @@ use xgp_code::Code;
 use xgp_code::measure::{Dots, Lines};
 
 // The place to print at next, the baseline and its adjustment; the page's number, and whether its field was given; the font.
-#[derive(Drop)]
+#[derive(Clone, Copy)]
 pub struct State {
     pub x: Dots,
     pub baseline: Lines,
@@ -22,7 +22,7 @@ pub struct State {
 }
 
 // A number leaves 32 bits; the state after the code; or the state after a character, with its y.
-#[derive(Drop)]
+#[derive(Clone, Copy)]
 pub enum Effect {
     Fault,
     Moved(State),

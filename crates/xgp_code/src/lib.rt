@@ -1,4 +1,6 @@
 // The codes of XGP character mode (003) that are read, and how they stand in bytes. 003's numbers are octal.
+#![tactic(auto)]
+
 pub mod measure;
 
 ghost use Rattle.std.specs.Prelude.{◌≡◌, List, ℕ, ◌<◌, drop};
@@ -11,7 +13,7 @@ use octets::answer;
 // The largest byte of seven bits, which is ESCAPE.
 pub const ESCAPE: u8 = 127;
 
-#[derive(Drop)]
+#[derive(Clone, Copy)]
 pub enum Code {
     Null,
     Char(u8),
@@ -25,7 +27,7 @@ pub enum Code {
 }
 
 // A code with the number of its bytes after the first, or the number of its refusal.
-#[derive(Drop)]
+#[derive(Clone, Copy)]
 pub enum Decoded {
     Fault(u8),
     Whole(Code, usize),

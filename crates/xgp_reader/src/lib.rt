@@ -1,4 +1,6 @@
 // XGP character mode (003), read into sheets with a lent table of widths (document 02, "The XGP drawer").
+#![tactic(auto)]
+
 ghost use Rattle.std.specs.Prelude.{◌≡◌, true, ◌≤◌, length};
 ghost use Rattle.octets.specs.Answer.{outcome_of, Gives};
 ghost use Rattle.octets.specs.Pass.{Roomy, Passed};

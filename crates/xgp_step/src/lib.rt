@@ -1,4 +1,6 @@
 // One code of a file of XGP character mode (003), a stretch of ordinary characters, and the fields of a character.
+#![tactic(auto)]
+
 pub mod fields;
 pub mod stretch;
 
@@ -14,7 +16,7 @@ use xgp_code::Decoded;
 use xgp_code::measure::Lines;
 
 // A refusal; or the state after the code, with y and the character if it sets one, and the number of its bytes after the first.
-#[derive(Drop)]
+#[derive(Clone, Copy)]
 pub enum Stepped {
     Refuse(u8),
     Go(State, usize),

@@ -15,7 +15,7 @@ use xgp_code::measure::{Dots, Lines};
 const FIRST_ORDINARY: u8 = 0x0E;
 
 // Where a stretch ends: the places in the file and in the sheet, and x.
-#[derive(Drop)]
+#[derive(Clone, Copy)]
 pub struct Stretch {
     pub next: usize,
     pub to: usize,
