@@ -1,0 +1,12 @@
+use Prim.Native.Nat.{◌-◌, ◌≤◌}
+use native.Mathlib.Omega.{arith}
+use borrow.Author.Rules.{rules}
+use lib.ListN.{length}
+use Rattle.dvi2_close.proofs.Closes.{Defined, defined_start, defined_next, defined_fault, defined_inside, defined_end}
+use Rattle.dvi2_close.proofs.close.definitions.Given as goal
+
+abbrev pub invariant-loop-f : goal.invariant-loop-f
+invariant-loop-f l = (l.to ≤ length l.dvi) × ((l.f ≤ 120) × Defined l.dvi l.at l.used.low l.used.high l.f l.to)
+
+abbrev pub decreases-loop-f : goal.decreases-loop-f
+decreases-loop-f l = 120 - l.f

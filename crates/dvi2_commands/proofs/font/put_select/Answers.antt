@@ -1,0 +1,14 @@
+-- `dvi2_commands::font::put_select` meets its contract: its test is that of the definition.
+-- Assumes nothing.
+use borrow.Author.Rules.{rules}
+use borrow.Author.Tests.{lt-ltb, le-ltb}
+use Rattle.dvi2.specs.Writer.{selects}
+use Rattle.dvi2_commands.proofs.font.put_select.Goals as goal
+
+pub returns-then-f-lt-FNTNUMS : goal.returns-then-f-lt-FNTNUMS
+unfolding selects
+returns-then-f-lt-FNTNUMS c = rw (lt-ltb _ _ c.if-f-lt-FNTNUMS.true) c.put_byte.ensures
+
+pub returns : goal.returns
+unfolding selects
+returns c = rw (le-ltb _ _ c.if-f-lt-FNTNUMS.false) c.put_two.ensures

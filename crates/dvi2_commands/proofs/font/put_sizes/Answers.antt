@@ -1,0 +1,19 @@
+-- `dvi2_commands::font::put_sizes` meets its contract: one write after the other.
+-- Assumes nothing.
+use mathlib.Core.Path.{refl}
+use native.Mathlib.Omega.{arith}
+use borrow.Author.Rules.{rules}
+use Rattle.octets.specs.Octets.{bytes}
+use Rattle.octets.specs.Write.{then, room_after}
+use Rattle.dvi2_commands.proofs.font.put_sizes.Goals as goal
+
+pub put_nat4-to-requires-2 : goal.put_nat4-to-requires-2
+unfolding bytes
+put_nat4-to-requires-2 c = omega (arith, room_after c.put_nat4-to.ensures 4 8 refl c.requires)
+
+pub put_nat4-requires : goal.put_nat4-requires
+unfolding bytes
+put_nat4-requires c = room_after (then c.put_nat4-to.ensures c.put_nat4-to-2.ensures) 8 4 refl c.requires
+
+pub returns : goal.returns
+returns c = then c.put_nat4-to.ensures (then c.put_nat4-to-2.ensures c.put_nat4.ensures)

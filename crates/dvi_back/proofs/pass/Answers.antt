@@ -1,0 +1,161 @@
+-- `dvi_back::pass` meets its contract. The invariant: what the file shows so far (`Standing`), and the counts and the buffer of what that
+-- makes (`Passes`, `Tallied`). The measure is what is left of the file.
+-- Assumes nothing.
+use mathlib.Core.Path.{◌≡◌, refl, sym, ap, subst, ◌∙◌}
+use mathlib.Core.Bool.{true}
+use mathlib.Core.List.{List, [], ◌∷◌, ◌++◌}
+use Prim.Native.Nat.{ℕ, ◌+◌, ◌-◌}
+use native.Mathlib.Omega.{arith}
+use borrow.Author.Rules.{rules}
+use lib.IntN.{ℤ}
+use lib.ListN.{length}
+use mir.Syntax.{w64}
+use Rattle.integers.specs.Bits.{plain}
+use Rattle.sheet.specs.Sheet.{Mark}
+use Rattle.dvi.specs.File.{go_on, PlacedMark, placed_at}
+use Rattle.dvi.specs.FileLaws.{step_here}
+use Rattle.dvi.specs.Mark.{mark_of}
+use Rattle.dvi_step.specs.Step.{state_of, step_of}
+use Rattle.dvi_step.specs.Standing.{Standing, standing_start, standing_next, standing_refused, standing_finished, standing_ended}
+use Rattle.dvi_step.specs.declared.State.{State}
+use Rattle.dvi_step.specs.declared.Stepped.{Stepped}
+use Rattle.octets.specs.PassLaws.{passed_refused}
+use Rattle.dvi_galley.specs.Back.{Made, nothing, with_one_item, makes, shown_galley}
+use Rattle.dvi_galley.specs.Taken.{taken_of}
+use Rattle.dvi_back.specs.Tally.{pages_in}
+use Rattle.dvi_back.specs.declared.tally.Tally.{Tally}
+use Rattle.dvi_back.proofs.Passes.{Fits, standing_fits, Tallied, tallied_start, tallied_still, tallied_more, tallied_named, tallied_unwritten, marked, more_room, end_room, passed_finished}
+use Rattle.dvi_back.proofs.pass.Goals as goal
+use Rattle.dvi_back.proofs.pass.Goals.{After-step-r, In-Go, In-Show, After-item_of-i, After-with_item-g}
+
+-- what one step says of the file
+module _ (c : After-step-r) where
+  abbrev place : ℕ
+  place = c.loop-at.at
+
+  abbrev marks : List PlacedMark
+  marks = c.loop-at.invariant.0
+
+  abbrev counts : Tally
+  counts = c.loop-at.g
+
+  abbrev standing : Standing placed_at c.args.widths.now c.args.dvi.now c.loop-at.stack c.loop-at.q place marks
+  standing = c.loop-at.invariant.1.0
+
+  abbrev tallied : Tallied c.args.writing c.args.out.now c.loop-at.out (makes nothing marks) counts
+  tallied = c.loop-at.invariant.1.1
+
+  abbrev entries : List ℤ
+  entries = c.step-r.new.entries
+
+  stepped : {r : Stepped} → c.step-r.result ≡ r → step_here c.args.widths.now c.args.dvi.now place (state_of c.loop-at.q c.loop-at.stack) ≡ step_of r entries
+  stepped e = sym c.step-r.ensures ∙ ap (λ (r : Stepped). step_of r entries) e
+
+  -- where a command leads that goes on
+  abbrev Further : State → List Mark → ℕ → Type 0
+  Further t ms n = Standing placed_at c.args.widths.now c.args.dvi.now entries t (place + 1 + n) (marks ++ placed_at place ms)
+
+  further : (t : State) (ms : List Mark) (n : ℕ) {r : Stepped} → c.step-r.result ≡ r → step_of r entries ≡ go_on (state_of t entries) ms n → Further t ms n
+  further t ms n e f = standing_next standing c.loop-at-test.true entries t ms n (c.step-r.auto.entries ∙ standing.whole) (stepped e ∙ f)
+
+goes : (c : In-Go) → let g = c.r-in-Go-1.given.0 in Further c.before.before.before.before g.0 [] g.1.0
+goes c = further (record { before = c.before.before.before.before.before; type_inv = record { dvi = c.type_inv.dvi } }) c.in-Go.t [] c.in-Go.n c.in-Go.is refl
+
+showing : (c : In-Show)
+    → let g = c.r-in-Show-1.given.0 in Further c.before.before.before.before g.0 (mark_of g.1.0 ∷ []) g.1.1.0
+showing c =
+    further (record { before = c.before.before.before.before.before; type_inv = record { dvi = c.type_inv.dvi } }) c.in-Show.t (mark_of c.in-Show.m ∷ []) c.in-Show.n c.in-Show.is refl
+
+-- the item that the mark shows
+module _ (c : After-item_of-i) where
+  abbrev made-next : Made
+  made-next = with_one_item (makes nothing (marks here)) (place here) (taken_of c.item_of-i.result)
+
+  made-is : makes nothing (marks here ++ placed_at (place here) (mark_of c.in-Show.m ∷ [])) ≡ made-next
+  made-is =
+      marked (marks here) (place here) (mark_of c.in-Show.m) (counts here) c.item_of-i.result (tallied here).counted
+      (c.item_of-i.ensures (pages_in (counts here)) (plain {w = w64} (record { sfits = c.next_page.type_inv }) ∙ c.next_page.ensures))
+
+  -- with its field there is room, if writing
+  next_fits : c.args.writing ≡ true → Fits (length c.args.out.now) made-next
+  next_fits w = subst (Fits (length c.args.out.now)) made-is (standing_fits (showing told) (length c.args.out.now) (c.requires.roomy w))
+
+pub loop-at-init : goal.loop-at-init
+unfolding makes
+loop-at-init c =
+    let a = c.args in
+    ([], (standing_start placed_at a.widths.now a.dvi.now _ refl, tallied_start a.writing a.out.now))
+
+pub step-r-requires : goal.step-r-requires
+step-r-requires c =
+    let i = c.loop-at.invariant.1.0 in
+    (c.loop-at-test.true, (omega (arith, i.within, c.requires.dvi_len_bound), (i.whole, i.low)))
+
+pub shape_of-out-in-Refuse : goal.shape_of-out-in-Refuse
+shape_of-out-in-Refuse c = (tallied (goal.at.shape_of-out-in-Refuse c).After-step-r).same
+
+pub returns-in-Refuse : goal.returns-in-Refuse
+unfolding shown_galley
+returns-in-Refuse c =
+    let e = standing_refused (standing (goal.at.returns-in-Refuse c).After-step-r) c.loop-at-test.true _ (stepped (goal.at.returns-in-Refuse c).After-step-r c.in-Refuse.is) in
+    passed_refused (ap shown_galley e) c.requires.roomy (tallied_unwritten (tallied (goal.at.returns-in-Refuse c).After-step-r))
+
+pub overflow_add-at : goal.overflow_add-at
+overflow_add-at c = record { fits = omega (arith, (goes c).within, c.requires.dvi_len_bound) }
+
+pub overflow_add-at-in-Go : goal.overflow_add-at-in-Go
+overflow_add-at-in-Go c = record { fits = omega (arith, (goes c).within, c.requires.dvi_len_bound) }
+
+pub loop-at-smaller-in-Go : goal.loop-at-smaller-in-Go
+loop-at-smaller-in-Go c = omega (arith, (goes c).within, c.loop-at-test.true)
+
+pub loop-at-preserved-in-Go : goal.loop-at-preserved-in-Go
+loop-at-preserved-in-Go c = (_, (goes c, tallied_still (marks (goal.at.loop-at-preserved-in-Go c).After-step-r) (place (goal.at.loop-at-preserved-in-Go c).After-step-r) (tallied (goal.at.loop-at-preserved-in-Go c).After-step-r)))
+
+pub show_item-requires : goal.show_item-requires
+show_item-requires c κs w =
+    omega (arith, more_room (length c.args.out.now) (makes nothing (marks (goal.at.show_item-requires c).After-step-r)) (counts (goal.at.show_item-requires c).After-step-r) (place (goal.at.show_item-requires c).After-step-r) c.item_of-i.result (tallied (goal.at.show_item-requires c).After-step-r).counted (next_fits (goal.at.show_item-requires c).After-item_of-i w), (tallied (goal.at.show_item-requires c).After-step-r).same)
+
+abbrev item : After-with_item-g → After-item_of-i
+item c = c.before.before.before.before.before
+
+pub overflow_add-at-in-Show : goal.overflow_add-at-in-Show
+overflow_add-at-in-Show c = record { fits = omega (arith, (showing (told (item c))).within, (start (here (item c))).pre.0) }
+
+pub overflow_add-at-in-Show-2 : goal.overflow_add-at-in-Show-2
+overflow_add-at-in-Show-2 c = record { fits = omega (arith, (showing (told (item c))).within, (start (here (item c))).pre.0) }
+
+pub loop-at-smaller : goal.loop-at-smaller
+loop-at-smaller c = omega (arith, (showing (told (item c))).within, (here (item c)).before.before.loop-test.taken)
+
+pub loop-at-preserved : goal.loop-at-preserved
+loop-at-preserved c =
+    let i = item c in
+    let s = c.show_item in
+    let counted = c.with_item-g.ensures (makes nothing (marks i)) (tallied i).counted in
+    let t = tallied_more (tallied i) (length i.args.out.now) (place i) i.item_of-i.result s.ensures s.auto.out (next_fits i) counted in
+    (_, (showing (told i), tallied_named (sym (made-is i)) t))
+
+pub finish-requires : goal.finish-requires
+finish-requires c κs w =
+    let room = length c.args.out.now in
+    omega (arith, end_room room (makes nothing (marks (goal.at.finish-requires c).After-step-r)) (counts (goal.at.finish-requires c).After-step-r) (tallied (goal.at.finish-requires c).After-step-r).counted (standing_fits (standing (goal.at.finish-requires c).After-step-r) room (c.requires.roomy w)), (tallied (goal.at.finish-requires c).After-step-r).same)
+
+pub shape_of-out-in-Finish : goal.shape_of-out-in-Finish
+shape_of-out-in-Finish c = c.finish.auto.out ∙ (tallied (goal.at.shape_of-out-in-Finish c).After-step-r).same
+
+pub returns-in-Finish : goal.returns-in-Finish
+unfolding shown_galley
+returns-in-Finish c =
+    let e = standing_finished (standing (goal.at.returns-in-Finish c).After-step-r) c.loop-at-test.true (stepped (goal.at.returns-in-Finish c).After-step-r c.in-Finish.is) in
+    let f = c.finish.ensures in
+    passed_finished (tallied (goal.at.returns-in-Finish c).After-step-r) (ap shown_galley e) f.0 f.1
+
+pub shape_of-out : goal.shape_of-out
+shape_of-out c = c.loop-at.invariant.1.1.same
+
+pub returns : goal.returns
+unfolding shown_galley
+returns c =
+    let i = c.loop-at.invariant in
+    passed_refused (ap shown_galley (standing_ended i.1.0 c.loop-at-test.false)) c.requires.roomy (tallied_unwritten i.1.1)

@@ -1,0 +1,18 @@
+-- `dvi_characters::position::position_after` meets its contract, by the kinds of item.
+-- Assumes nothing.
+use mathlib.Core.Path.{sym, ap, ◌∙◌}
+use borrow.Author.Rules.{rules}
+use Rattle.measure.specs.Place.{low_end}
+use Rattle.galley_file.specs.Item.{valid_item}
+use Rattle.dvi_characters.specs.PositionLaws.{position_set, position_kind}
+use Rattle.dvi_characters.proofs.position.position_after.Goals as goal
+
+pub position_at-requires : goal.position_at-requires
+position_at-requires c =
+    record { c_value = sym (ap (valid_item low_end) c.in-Placed.is) ∙ c.requires.i_value; targets_value = c.requires.targets_value }
+
+pub returns-in-Placed : goal.returns-in-Placed
+returns-in-Placed c = position_kind _ (sym c.in-Placed.is) (position_set _ _ c.position_at.ensures)
+
+pub returns-in-Cut : goal.returns-in-Cut
+returns-in-Cut c = position_kind _ (sym c.in-Cut.is) c.start_position.ensures

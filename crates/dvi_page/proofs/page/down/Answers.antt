@@ -1,0 +1,44 @@
+-- `dvi_page::page::down` meets its contract: y moves, and x stays in 32 bits by itself.
+-- Assumes nothing.
+use mathlib.Core.Path.{◌∙◌}
+use borrow.Author.Rules.{rules}
+use mir.Syntax.{w32}
+use mir.Val.{SFits}
+use Rattle.integers.specs.Bits.{plain}
+use Rattle.dvi.specs.Page.{moved, down_by, go_to}
+use Rattle.dvi_page.specs.Stack.{six_numbers}
+use Rattle.dvi_page.specs.Page.{page_of}
+use Rattle.dvi_page.proofs.Moves.{down_inside, goes, stops}
+use Rattle.dvi_page.proofs.page.down.Goals as goal
+use Rattle.dvi_page.proofs.page.down.Goals.{After-struct_told-2-1}
+
+-- x, y and the move, in 32 bits
+module _ (c : After-struct_told-2-1) where
+  x_fits : SFits w32 c.args.n.x.0
+  x_fits = search rules
+
+  y_fits : SFits w32 c.args.n.y.0
+  y_fits = search rules
+
+  m-fits : SFits w32 c.args.m.0
+  m-fits = search rules
+
+pub returns-in-To : goal.returns-in-To
+unfolding go_to down_by
+returns-in-To c l =
+    let a = c.args in
+    let m = a.m.0 in
+    let n = six_numbers a.n in
+    goes moved (page_of a.p l) (down_by m n) c.sum-to.ensures
+    (y_fits (goal.at.returns-in-To c).After-struct_told-2-1) (m-fits (goal.at.returns-in-To c).After-struct_told-2-1) (down_inside m n (x_fits (goal.at.returns-in-To c).After-struct_told-2-1))
+    c.in-To.is (λ e. c.with_numbers.ensures l ∙ rw (plain {w = w32} {z = c.in-To.v} (search rules), e))
+
+pub returns-in-Off : goal.returns-in-Off
+unfolding go_to
+returns-in-Off c l =
+    let a = c.args in
+    let m = a.m.0 in
+    let n = six_numbers a.n in
+    stops moved (page_of a.p l) (down_by m n) c.sum-to.ensures
+    (y_fits (goal.at.returns-in-Off c).After-struct_told-2-1) (m-fits (goal.at.returns-in-Off c).After-struct_told-2-1) (down_inside m n (x_fits (goal.at.returns-in-Off c).After-struct_told-2-1))
+    c.in-Off.is

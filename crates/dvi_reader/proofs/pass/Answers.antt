@@ -1,0 +1,152 @@
+-- `dvi_reader::pass` meets its contract. The invariant: what the file shows so far (`Standing`), and the buffer that
+-- holds it (`Filled`). The measure is what is left of the file.
+-- Assumes nothing.
+use mathlib.Core.Path.{◌≡◌, refl, sym, ap, ◌∙◌}
+use mathlib.Core.Bool.{true}
+use mathlib.Core.List.{List, [], ◌∷◌, ◌++◌}
+use Prim.Native.Nat.{ℕ, ◌+◌, ◌-◌, ◌≤◌}
+use native.Mathlib.Omega.{arith}
+use borrow.Author.Rules.{rules}
+use lib.IntN.{ℤ}
+use lib.ListN.{length, length-append}
+use Rattle.sheet.specs.Sheet.{Mark, mark_fields}
+use Rattle.dvi.specs.File.{go_on, marks_alone}
+use Rattle.dvi.specs.FileLaws.{step_here}
+use Rattle.sheet.specs.SheetLaws.{field_size, length_mark_field, one_field, mark_fields_append}
+use Rattle.sheet.specs.ShownLaws.{shown_room}
+use Rattle.dvi.specs.Mark.{mark_of}
+use Rattle.sheet.specs.Filled.{Filled, filled_start, filled_still, filled_mark, filled_refused, filled_finished}
+use Rattle.dvi_step.specs.Step.{state_of, step_of}
+use Rattle.dvi_step.specs.Standing.{Standing, standing_start, standing_next, standing_refused, standing_finished, standing_ended}
+use Rattle.dvi_step.specs.declared.State.{State}
+use Rattle.dvi_step.specs.declared.Stepped.{Stepped}
+use Rattle.dvi_reader.proofs.pass.Goals as goal
+use Rattle.dvi_reader.proofs.pass.Goals.{After-step-r, In-Go, In-Show}
+
+-- what one step says of the file
+module _ (c : After-step-r) where
+  abbrev place : ℕ
+  place = c.loop-at.at
+
+  abbrev marks : List Mark
+  marks = c.loop-at.invariant.0
+
+  abbrev standing : Standing marks_alone c.args.widths.now c.args.dvi.now c.loop-at.stack c.loop-at.q place marks
+  standing = c.loop-at.invariant.1.0
+
+  abbrev filled : Filled c.args.writing c.args.out.now c.loop-at.out marks place c.loop-at.to c.loop-at.count
+  filled = c.loop-at.invariant.1.1
+
+  abbrev entries : List ℤ
+  entries = c.step-r.new.entries
+
+  stepped : {r : Stepped} → c.step-r.result ≡ r → step_here c.args.widths.now c.args.dvi.now place (state_of c.loop-at.q c.loop-at.stack) ≡ step_of r entries
+  stepped e = sym c.step-r.ensures ∙ ap (λ (r : Stepped). step_of r entries) e
+
+  -- where a command leads that goes on
+  abbrev Further : State → List Mark → ℕ → Type 0
+  Further t ms n = Standing marks_alone c.args.widths.now c.args.dvi.now entries t (place + 1 + n) (marks ++ ms)
+
+  further : (t : State) (ms : List Mark) (n : ℕ) {r : Stepped} → c.step-r.result ≡ r → step_of r entries ≡ go_on (state_of t entries) ms n → Further t ms n
+  further t ms n e f = standing_next standing c.loop-at-test.true entries t ms n (c.step-r.auto.entries ∙ standing.whole) (stepped e ∙ f)
+
+goes : (c : In-Go) → let g = c.r-in-Go-1.given.0 in Further c.before.before.before.before g.0 [] g.1.0
+goes c = further (record { before = c.before.before.before.before.before; type_inv = record { dvi = c.type_inv.dvi } }) c.in-Go.t [] c.in-Go.n c.in-Go.is refl
+
+showing : (c : In-Show)
+    → let g = c.r-in-Show-1.given.0 in Further c.before.before.before.before g.0 (mark_of g.1.0 ∷ []) g.1.1.0
+showing c =
+    further (record { before = c.before.before.before.before.before; type_inv = record { dvi = c.type_inv.dvi } }) c.in-Show.t (mark_of c.in-Show.m ∷ []) c.in-Show.n c.in-Show.is refl
+
+-- the field of the mark that is shown has room, if writing
+room : (c : In-Show) → c.args.writing ≡ true
+    → length (mark_fields (marks c.before.before.before.before)) + field_size (mark_of c.in-Show.m) + 7 ≤ length c.args.out.now
+room c w =
+    let m = mark_of c.in-Show.m in
+    omega (
+      arith,
+      shown_room (marks (record { before = c.before.before.before.before.before; type_inv = record { dvi = c.type_inv.dvi } }) ++ (m ∷ [])) _ (showing c).so_far (c.requires.roomy w),
+      ap length (mark_fields_append (marks (record { before = c.before.before.before.before.before; type_inv = record { dvi = c.type_inv.dvi } })) (m ∷ [])),
+      length-append (mark_fields (marks (record { before = c.before.before.before.before.before; type_inv = record { dvi = c.type_inv.dvi } }))) (mark_fields (m ∷ [])),
+      ap length (one_field m),
+      length_mark_field m,
+    )
+
+pub loop-at-init : goal.loop-at-init
+loop-at-init c =
+    let a = c.args in
+    ([], (standing_start marks_alone a.widths.now a.dvi.now _ refl, filled_start a.writing a.out.now))
+
+pub step-r-requires : goal.step-r-requires
+step-r-requires c =
+    let i = c.loop-at.invariant.1.0 in
+    (c.loop-at-test.true, (omega (arith, i.within, c.requires.dvi_len_bound), (i.whole, i.low)))
+
+pub shape_of-out-in-Refuse : goal.shape_of-out-in-Refuse
+shape_of-out-in-Refuse c = (filled (goal.at.shape_of-out-in-Refuse c).After-step-r).same
+
+pub returns-in-Refuse : goal.returns-in-Refuse
+returns-in-Refuse c =
+    filled_refused (filled (goal.at.returns-in-Refuse c).After-step-r) (standing_refused (standing (goal.at.returns-in-Refuse c).After-step-r) c.loop-at-test.true c.in-Refuse.k (stepped (goal.at.returns-in-Refuse c).After-step-r c.in-Refuse.is)) c.requires.roomy
+
+pub overflow_add-at : goal.overflow_add-at
+overflow_add-at c = record { fits = omega (arith, (goes c).within, c.requires.dvi_len_bound) }
+
+pub overflow_add-at-in-Go : goal.overflow_add-at-in-Go
+overflow_add-at-in-Go c = record { fits = omega (arith, (goes c).within, c.requires.dvi_len_bound) }
+
+pub loop-at-smaller-in-Go : goal.loop-at-smaller-in-Go
+loop-at-smaller-in-Go c = omega (arith, (goes c).within, c.loop-at-test.true)
+
+pub loop-at-preserved-in-Go : goal.loop-at-preserved-in-Go
+loop-at-preserved-in-Go c = (_, (goes c, filled_still (filled (goal.at.loop-at-preserved-in-Go c).After-step-r) _ (omega arith)))
+
+pub show_mark-next-requires : goal.show_mark-next-requires
+show_mark-next-requires c =
+    let p = filled (goal.at.show_mark-next-requires c).After-step-r in
+    (omega (arith, p.near, (standing (goal.at.show_mark-next-requires c).After-step-r).within, c.requires.dvi_len_bound), λ w. omega (arith, room (goal.at.show_mark-next-requires c).In-Show w, p.put.place, p.same))
+
+pub overflow_add-count : goal.overflow_add-count
+overflow_add-count c =
+    record { fits = omega (arith, (filled (goal.at.overflow_add-count c).After-step-r).few, (standing (goal.at.overflow_add-count c).After-step-r).within, c.requires.dvi_len_bound) }
+
+pub overflow_add-at-in-Show : goal.overflow_add-at-in-Show
+overflow_add-at-in-Show c =
+    record { fits = omega (arith, (showing (goal.at.overflow_add-at-in-Show c).In-Show).within, c.requires.dvi_len_bound) }
+
+pub overflow_add-at-in-Show-2 : goal.overflow_add-at-in-Show-2
+overflow_add-at-in-Show-2 c =
+    record { fits = omega (arith, (showing (goal.at.overflow_add-at-in-Show-2 c).In-Show).within, c.requires.dvi_len_bound) }
+
+pub loop-at-smaller : goal.loop-at-smaller
+loop-at-smaller c =
+    omega (arith, (showing (goal.at.loop-at-smaller c).In-Show).within, c.loop-at-test.true)
+
+pub loop-at-preserved : goal.loop-at-preserved
+loop-at-preserved c =
+    let p = c.show_mark-next in
+    (_, (showing (goal.at.loop-at-preserved c).In-Show, filled_mark (filled (goal.at.loop-at-preserved c).After-step-r) _ (mark_of c.in-Show.m) (omega arith) p.ensures p.auto.out))
+
+pub show_end-requires : goal.show_end-requires
+show_end-requires c κs w =
+    omega (arith, shown_room (marks (goal.at.show_end-requires c).After-step-r) _ (standing (goal.at.show_end-requires c).After-step-r).so_far (c.requires.roomy w), (filled (goal.at.show_end-requires c).After-step-r).put.place, (filled (goal.at.show_end-requires c).After-step-r).same)
+
+pub overflow_add-result : goal.overflow_add-result
+overflow_add-result c =
+    record { fits = omega (arith, (filled (goal.at.overflow_add-result c).After-step-r).near, (standing (goal.at.overflow_add-result c).After-step-r).within, c.requires.dvi_len_bound) }
+
+pub shape_of-out-in-Finish : goal.shape_of-out-in-Finish
+shape_of-out-in-Finish c = c.show_end.auto.out ∙ (filled (goal.at.shape_of-out-in-Finish c).After-step-r).same
+
+pub returns-in-Finish : goal.returns-in-Finish
+returns-in-Finish c =
+    let e = standing_finished (standing (goal.at.returns-in-Finish c).After-step-r) c.loop-at-test.true (stepped (goal.at.returns-in-Finish c).After-step-r c.in-Finish.is) in
+    filled_finished (filled (goal.at.returns-in-Finish c).After-step-r) e c.show_end.ensures
+
+pub shape_of-out : goal.shape_of-out
+shape_of-out c = c.loop-at.invariant.1.1.same
+
+pub returns : goal.returns
+returns c =
+    let i = c.loop-at.invariant in
+    filled_refused i.1.1 (standing_ended i.1.0 c.loop-at-test.false) c.requires.roomy

@@ -1,0 +1,36 @@
+-- `dvi_step::postamble::is_postamble` meets its contract: the tests are those of `postamble`.
+-- Assumes nothing.
+use mathlib.Core.Path.{sym, ap, ◌∙◌}
+use Prim.Native.Nat.{◌+◌}
+use native.Mathlib.Omega.{arith}
+use borrow.Author.Rules.{rules}
+use lib.ListN.{drop, length-drop}
+use mir.Syntax.{w32}
+use mir.Val.{of_z}
+use Rattle.integers.specs.Bits.{same_bits}
+use Rattle.dvi.specs.Postamble.{at_id, definitions}
+use Rattle.dvi_step.proofs.Postambles.{drop_to, postamble_short, postamble_off, postamble_on}
+use Rattle.dvi_step.proofs.postamble.is_postamble.Goals as goal
+
+pub returns-then-s-pst-lt13 : goal.returns-then-s-pst-lt13
+returns-then-s-pst-lt13 c =
+    let a = c.args in
+    let n = length-drop (a.pst + 1) a.s.now in
+    postamble_short a.last a.pst (drop (a.pst + 1) a.s.now) (omega arith)
+
+pub returns-then-offset-last : goal.returns-then-offset-last
+returns-then-offset-last c =
+    let a = c.args in
+    let n = length-drop (a.pst + 1) a.s.now in
+    postamble_off a.last a.pst (drop (a.pst + 1) a.s.now) (omega arith) (λ e. c.if-offset-last.true (ap (of_z w32) (c.signed4_at-offset.ensures ∙ e)))
+
+pub returns : goal.returns
+returns c =
+    let a = c.args in
+    let s = a.s.now in
+    let n = length-drop (a.pst + 1) s in
+    let o = c.signed4_at-offset in
+    let e = sym o.ensures ∙ same_bits {w = w32} (record { sfits = o.type_inv }) c.ranges.last c.if-offset-last.false in
+    c.are_definitions.ensures
+    ∙ ap (definitions a.pst at_id) (sym (drop_to s 12 (a.pst + 1) (a.pst + 13) (omega arith)))
+    ∙ postamble_on a.last a.pst (drop (a.pst + 1) s) (omega arith) e

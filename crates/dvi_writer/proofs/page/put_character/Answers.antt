@@ -1,0 +1,14 @@
+-- `dvi_writer::page::put_character` meets its contract: the commands are written; the writing goes on from the position and the place after them.
+-- Assumes nothing.
+use borrow.Author.Rules.{rules}
+use Rattle.dvi.specs.Writer as W
+use Rattle.dvi_writer.specs.Writing.{writing_of}
+use Rattle.dvi_characters.specs.PositionLaws.{position_set}
+use Rattle.dvi_writer.proofs.page.put_character.Goals as goal
+
+pub returns : goal.returns
+unfolding writing_of W.item_bytes W.writing_after
+returns c =
+    let n = position_set _ _ c.requires.1.1 in
+    let w = c.put_commands-to.ensures in
+    (w, record { on_page = n.on_page; writing_is = (λ i. record { position = n.position_is i; page = c.args.p.page; bop = c.args.p.bop; at = w.next_is i }) })

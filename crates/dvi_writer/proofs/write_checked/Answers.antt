@@ -1,0 +1,44 @@
+-- `dvi_writer::write_checked` meets its contract: the plan gives the length of the file, and the room decides.
+-- Assumes nothing.
+use mathlib.Core.Path.{◌≡◌, refl}
+use Prim.Native.Nat.{◌+◌, ◌*◌, ◌≤◌}
+use native.Mathlib.Omega.{arith}
+use borrow.Author.Rules.{rules}
+use lib.ListN.{length}
+use Rattle.octets.specs.AnswerLaws.{gives}
+use Rattle.dvi.specs.Writer.{first_writing, dvi_file}
+use Rattle.dvi.specs.WriterLaws.{items_bytes_most}
+use Rattle.galley_file.specs.declared.form.Form.TheVariants.{New}
+use Rattle.galley_file.specs.Galley.{items_of}
+use Rattle.dvi_writer.proofs.Galleys.{few, all_low}
+use Rattle.dvi_writer.proofs.Results.{file_length, no_room, with_room}
+use Rattle.dvi_writer.proofs.write_checked.Goals as goal
+use Rattle.dvi_writer.proofs.write_checked.Goals.{After-plan_of-p, After-count}
+
+small : (c : After-plan_of-p) → c.plan_of-p.result.length ≤ 17825792
+small c =
+    omega (arith, c.plan_of-p.ensures.length_is, items_bytes_most first_writing (items_of New c.args.g.now), few _ _ c.requires)
+
+needed_is : (c : After-count) → 36 + c.plan_of-p.result.length + 14 * c.count.result ≡ length (dvi_file (items_of New c.args.g.now))
+needed_is c =
+    omega (arith, c.count.ensures.0, file_length _ _ c.plan_of-p.ensures (all_low _ _ c.requires))
+
+pub overflow_add-needed : goal.overflow_add-needed
+overflow_add-needed c = omega (arith, small (goal.at.overflow_add-needed c).After-plan_of-p)
+
+pub overflow_add-needed-2 : goal.overflow_add-needed-2
+overflow_add-needed-2 c = omega (arith, small (goal.at.overflow_add-needed-2 c).After-plan_of-p, c.count.ensures.1)
+
+pub returns-then-out-needed : goal.returns-then-out-needed
+returns-then-out-needed c =
+    let a = c.args in
+    let q = no_room a.g.now a.out.now _ c.requires _ (needed_is (goal.at.returns-then-out-needed c).After-count) c.if-out-needed.true in
+    gives q refl refl
+
+pub put_file-requires : goal.put_file-requires
+put_file-requires c =
+    (c.requires, (c.plan_of-p.ensures.extents_are, omega (arith, needed_is (goal.at.put_file-requires c).After-count, c.if-out-needed.false)))
+
+pub returns : goal.returns
+returns c =
+    with_room _ _ _ c.requires _ (needed_is (goal.at.returns-then-out-needed c).After-count) c.if-out-needed.false _ c.put_file.ensures

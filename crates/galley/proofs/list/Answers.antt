@@ -1,0 +1,26 @@
+-- `galley::list` meets its contract: what is accepted has room, so it is a part of the buffer.
+-- Assumes nothing.
+use mathlib.Core.Path.{sym, ap, ◌∙◌}
+use Prim.Native.Nat.{◌≤◌}
+use native.Mathlib.Omega.{arith}
+use borrow.Author.Rules.{rules}
+use lib.ListN.{length}
+use lib.Seq.{length-take-le}
+use Rattle.octets.specs.Answer.{outcome_of}
+use Rattle.tape.specs.TapeLaws.{tape_room}
+use Rattle.galley.proofs.list.Goals as goal
+use Rattle.galley.proofs.list.Goals.{In-Accepted}
+
+-- the length accepted is at most the buffer's
+fits : (c : In-Accepted) → c.in-Accepted.length ≤ length c.read_tape-answer.new.galley
+fits c =
+    let r = c.read_tape-answer in
+    let a = c.args in
+    let h = tape_room a.tape.now 8 (length a.galley.now) c.in-Accepted.length (sym (ap outcome_of c.in-Accepted.is) ∙ r.ensures.outcome_is) in
+    omega (arith, h, r.auto.galley)
+
+pub slice_bounds-write_galley-end : goal.slice_bounds-write_galley-end
+slice_bounds-write_galley-end c = fits c
+
+pub slice_bounds-write_galley-end-in-Accepted : goal.slice_bounds-write_galley-end-in-Accepted
+slice_bounds-write_galley-end-in-Accepted c = sym (length-take-le _ _ (fits c))

@@ -1,0 +1,14 @@
+-- `galley_check::check_end` meets its contract.
+use mathlib.Core.Path.{sym, ◌∙◌}
+use borrow.Author.Rules.{rules}
+use Rattle.galley_check.proofs.Reading.{ended, trailing, faulty}
+use Rattle.galley_check.proofs.check_end.Goals as goal
+
+pub returns-then-s-eq-END_FIELD : goal.returns-then-s-eq-END_FIELD
+returns-then-s-eq-END_FIELD c = ended _ _ _ (sym c.starts_end.ensures ∙ c.if-starts_end.true) c.if-s-eq-END_FIELD.true
+
+pub returns-then-starts_end : goal.returns-then-starts_end
+returns-then-starts_end c = trailing _ _ _ (sym c.starts_end.ensures ∙ c.if-starts_end.true) c.if-s-eq-END_FIELD.false
+
+pub returns : goal.returns
+returns c = faulty _ _ _ (sym c.starts_end.ensures ∙ c.if-starts_end.false)

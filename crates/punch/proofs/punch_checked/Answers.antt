@@ -1,0 +1,25 @@
+-- `punch::punch_checked` meets its contract: the first pass writes nothing and gives the length, which decides.
+-- Assumes nothing.
+use native.Mathlib.Nat.{suc-ne-zero}
+use native.Mathlib.Omega.{arith}
+use borrow.Author.Rules.{rules}
+use Rattle.octets.specs.Write.{put_length}
+use Rattle.punch.proofs.Passes.{punch_long, punch_no_room, punch_room}
+use Rattle.punch.proofs.punch_checked.Goals as goal
+
+pub pass-needed-requires : goal.pass-needed-requires
+pass-needed-requires c = record { count_value = c.requires; g_in_bounds = λ e. absurd (suc-ne-zero 0 cc) }
+
+pub returns-then-needed-gt-MAX_TAPE : goal.returns-then-needed-gt-MAX_TAPE
+returns-then-needed-gt-MAX_TAPE c = punch_long _ _ c.requires _ _ _ c.pass-needed.ensures (omega (arith, c.if-needed-gt-MAX_TAPE.true))
+
+pub returns-then-out-needed : goal.returns-then-out-needed
+returns-then-out-needed c = let p = c.pass-needed.ensures in punch_no_room _ _ c.requires _ _ _ p (omega (arith, c.if-needed-gt-MAX_TAPE.false)) (omega (arith, c.if-out-needed.true, put_length p))
+
+pub pass-requires : goal.pass-requires
+pass-requires c = let p = c.pass-needed.ensures in record { count_value = c.requires; g_in_bounds = λ e. omega (arith, c.if-out-needed.false, p.place) }
+
+pub returns : goal.returns
+returns c =
+    let p = c.pass-needed.ensures in
+    punch_room _ _ c.requires _ _ _ p (omega (arith, c.if-needed-gt-MAX_TAPE.false)) (omega (arith, c.if-out-needed.false, put_length p)) _ _ c.pass.ensures

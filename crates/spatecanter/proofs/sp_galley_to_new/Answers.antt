@@ -1,0 +1,8 @@
+-- `spatecanter::sp_galley_to_new` meets its contract: it hands over the numbers of the answer.
+-- Assumes nothing.
+use borrow.Author.Rules.{rules}
+use Rattle.octets.specs.AnswerLaws.{gives_numbers}
+use Rattle.spatecanter.proofs.sp_galley_to_new.Goals as goal
+
+pub returns : goal.returns
+returns c = gives_numbers c.numbers.ensures c.galley_to_new-a.ensures

@@ -1,0 +1,8 @@
+-- `spatecanter::sp_write_dvi` meets its contract: it hands over the numbers of the answer.
+-- Assumes nothing.
+use borrow.Author.Rules.{rules}
+use Rattle.octets.specs.AnswerLaws.{gives_numbers}
+use Rattle.spatecanter.proofs.sp_write_dvi.Goals as goal
+
+pub returns : goal.returns
+returns c = gives_numbers c.numbers.ensures c.write_dvi-a.ensures

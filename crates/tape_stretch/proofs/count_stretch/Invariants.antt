@@ -1,0 +1,15 @@
+use mathlib.Core.Path.{sym, subst}
+use Prim.Native.Nat.{ℕ, ◌+◌, ◌-◌, ◌≤◌}
+use native.Mathlib.Omega.{arith}
+use borrow.Author.Rules.{rules}
+use lib.ListN.{length, get_or}
+use Rattle.tape_stretch.specs.declared.Stretch.{Stretch}
+use Rattle.tape_stretch.specs.Stretch.{stretch_at, Strides, stands}
+use Rattle.tape_stretch.proofs.Stretches.{one_at_most, strides_more}
+use Rattle.tape_stretch.proofs.count_stretch.Given as goal
+
+abbrev pub invariant-loop-r : goal.invariant-loop-r
+invariant-loop-r l = Strides l.tape l.s l.d.font (stretch_at l.s l.from l.before) l.r × (l.r.count ≤ l.r.next)
+
+abbrev pub decreases-loop-r : goal.decreases-loop-r
+decreases-loop-r l = length l.tape - l.r.next
