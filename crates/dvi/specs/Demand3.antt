@@ -5,7 +5,7 @@
 --     character_mark             the mark that shows a character
 --     marks_of            the marks that show a list of items, from a page on
 --     dvi1980            the edition, with a table of widths
-use Rattle.std.specs.Prelude.{ℕ, suc, ◌*◌, List, [], ◌∷◌, map, ℤ, pos, ◌*ℤ◌}
+use Rattle.std.specs.Prelude.{ℕ, suc, List, [], ◌∷◌, map, ℤ, pos, ◌*ℤ◌}
 use Rattle.std.proofs.Math.Option.{Option, none, some}
 use Rattle.octets.specs.Answer.{no_sheet_room}
 use Rattle.measure.specs.Place.{low_end}

@@ -3,7 +3,6 @@
 use mathlib.Core.Path.{ap}
 use mathlib.Core.List.{[], ◌∷◌}
 use Prim.Native.Nat.{ℕ, ◌+◌, ◌/◌, ◌%◌}
-use borrow.Author.Rules.{rules}
 use Rattle.octets.specs.Write.{then, named}
 use Rattle.dvi.specs.Writer.{name_of}
 use Rattle.dvi.proofs.name.put_name.Goals as goal
