@@ -1,11 +1,11 @@
 -- The pages that a file shows.
 --     Paged, paged     page fields ascend, each stands directly before a character, and each character has one before it
 -- Assumes nothing.
-use Rattle.std.specs.Prelude.{◌≡◌, Bool, true, false, cond, ◌&&◌, List, [], ◌∷◌, ◌++◌, ℕ, ◌+◌, ◌≤◌, ℤ, pos, ◌+ℤ◌}
+use Rattle.std.specs.Prelude.{◌≡◌, Bool, true, false, cond, ◌&&◌, List, [], ◌∷◌, ◌++◌, ℕ, ◌+◌, ◌≤◌, ℤ, pos, negsuc, ◌+ℤ◌}
 use Rattle.std.proofs.Common.{arith}
 use Rattle.octets.specs.Octets.{fits32}
 use Rattle.octets.specs.OctetsLaws.{by_cond}
-use Rattle.sheet.specs.Sheet.{Mark, page_mark, char_mark}
+use Rattle.sheet.specs.Sheet.{Mark, page_mark, char_mark, rule_mark}
 use Rattle.sheet.specs.Shown.{shows}
 use Rattle.xgp_code.specs.CodeLaws.{InPart}
 use Rattle.xgp.specs.State.{start, with_x, with_baseline, with_adjust, with_font, next_page, after_char, page_marks, set_marks, y_in, width_in, to_x, to_baseline, set_char, effect}
@@ -33,6 +33,12 @@ paged_later : (n m : ℕ) (given : Bool) (ms : List Mark) → n + due given ≤ 
 paged_later n m given [] h paged_none = paged_none
 paged_later n m given (page_mark (pos k) ∷ char_mark x y f c ∷ ms) h (paged_page g p) =
     let l : n + due given ≤ k = omega arith in paged_page l p
+paged_later n m given (page_mark (pos k) ∷ []) h p = elim p [ ]
+paged_later n m given (page_mark (pos k) ∷ (page_mark _ ∷ ms)) h p = elim p [ ]
+paged_later n m given (page_mark (pos k) ∷ (rule_mark _ _ _ _ _ ∷ ms)) h p = elim p [ ]
+paged_later n m given (page_mark (negsuc _) ∷ _) h p = elim p [ ]
+paged_later n m given (char_mark _ _ _ _ ∷ _) h p = elim p [ ]
+paged_later n m given (rule_mark _ _ _ _ _ ∷ _) h p = elim p [ ]
 
 paged_set : (s : State) (y : ℤ) (c : ℕ) (ks : List Mark) → Paged s.page true ks → Paged s.page s.started (set_marks s y c ++ ks)
 unfolding set_marks page_marks

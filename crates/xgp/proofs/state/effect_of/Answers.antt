@@ -7,7 +7,6 @@ use mir.Val.{SFits}
 use Rattle.integers.specs.Parts.{integers}
 use Rattle.integers.specs.Bits.{plain_pos}
 use Rattle.xgp.specs.State.{with_x, with_adjust, with_font, to_baseline, effect}
-use borrow.Author.Rules.{rules}
 use Rattle.xgp.proofs.state.effect_of.Goals as goal
 
 pub returns-in-Null : goal.returns-in-Null

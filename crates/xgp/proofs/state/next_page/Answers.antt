@@ -6,7 +6,6 @@ use lib.IntN.{pos}
 use Rattle.integers.specs.Parts.{integers}
 use Rattle.integers.specs.Bits.{plain_pos}
 use Rattle.xgp.specs.State.{next_page}
-use borrow.Author.Rules.{rules}
 use Rattle.xgp.proofs.state.next_page.Goals as goal
 
 pub returns : goal.returns

@@ -6,7 +6,6 @@ use lib.IntN.{pos}
 use Rattle.integers.specs.Parts.{integers}
 use Rattle.integers.specs.Bits.{plain_pos}
 use Rattle.xgp.specs.State.{start}
-use borrow.Author.Rules.{rules}
 use Rattle.xgp.proofs.state.start.Goals as goal
 
 pub returns : goal.returns
