@@ -1,6 +1,5 @@
 -- `typesetter::code::classify` meets its contract: the tests that led to each `return` sort the code, and the sorting is the table at all 256 codes.
 -- Assumes nothing.
-use borrow.Author.Rules.{rules}
 use borrow.Author.Tests.{eq-eqb, ne_eqb}
 use mathlib.Core.Path.{◌≡◌, ap, ◌∙◌}
 use Prim.Native.Nat.{ℕ, ◌<◌}

@@ -1,7 +1,5 @@
 -- `typesetter::code::control` meets its contract: each key of the match picks its entry of the table; the rest is illegal.
 -- Assumes nothing.
-use borrow.Author.Rules.{rules}
-use Rattle.typesetter.proofs.Codes.{rest_illegal}
 use Rattle.typesetter.proofs.code.control.Goals as goal
 
 pub returns-in-1 : goal.returns-in-1
@@ -45,6 +43,3 @@ returns-in-14 c = rw c.in-14.is c.tilt.ensures
 
 pub returns-in-15 : goal.returns-in-15
 returns-in-15 c = rw c.in-15.is c.tilt-in-15.ensures
-
-pub returns-in_default : goal.returns-in_default
-returns-in_default c = rest_illegal c.args.machine c.args.low c.in-0.rest

@@ -1,6 +1,5 @@
 -- `typesetter::code::tilt` meets its contract: each arm is given which machine it is.
 -- Assumes nothing.
-use borrow.Author.Rules.{rules}
 use Rattle.typesetter.proofs.code.tilt.Goals as goal
 
 pub returns-in-Eight : goal.returns-in-Eight

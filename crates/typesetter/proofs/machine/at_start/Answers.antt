@@ -1,6 +1,5 @@
 -- `typesetter::machine::at_start` meets its contract: the fields are those of the definition.
 -- Assumes nothing.
-use borrow.Author.Rules.{rules}
 use Rattle.typesetter.proofs.machine.at_start.Goals as goal
 
 pub returns : goal.returns
