@@ -1,6 +1,5 @@
 -- `galley_check::check_end` meets its contract.
 use mathlib.Core.Path.{sym, ◌∙◌}
-use borrow.Author.Rules.{rules}
 use Rattle.galley_check.proofs.Reading.{ended, trailing, faulty}
 use Rattle.galley_check.proofs.check_end.Goals as goal
 

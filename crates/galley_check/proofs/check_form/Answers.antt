@@ -2,7 +2,6 @@
 -- Assumes nothing.
 use native.Mathlib.Omega.{arith}
 use borrow.Author.Tests.{le-ltb, lt-ltb}
-use borrow.Author.Rules.{rules}
 use lib.ListN.{length}
 use Rattle.galley_file.specs.Form.{max_galley}
 use Rattle.galley_file.specs.FormLaws.{form_sizes}

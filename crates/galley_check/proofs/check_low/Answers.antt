@@ -1,7 +1,6 @@
 -- `galley_check::check_low` meets its contract: the check decides first, and then the heights.
 -- Assumes nothing.
 use mathlib.Core.Path.{sym, ap, ◌∙◌}
-use borrow.Author.Rules.{rules}
 use Rattle.octets.specs.Answer.{outcome_of}
 use Rattle.galley_check.specs.LowLaws.{check_refused}
 use Rattle.galley_check.proofs.check_low.Goals as goal
