@@ -2,7 +2,6 @@
 -- Assumes nothing.
 use mathlib.Core.Path.{sym, ◌∙◌}
 use borrow.Author.Tests.{eq-eqb, ne_eqb}
-use borrow.Author.Rules.{rules}
 use Rattle.typesetter.specs.Machine.{escape_of}
 use Rattle.typesetter.specs.StepLaws.{escape_to, escape_at}
 use Rattle.tape_step.proofs.escape.Goals as goal

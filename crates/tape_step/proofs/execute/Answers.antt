@@ -1,6 +1,5 @@
 -- `tape_step::execute` meets its contract: each arm is given which instruction it is.
 -- Assumes nothing.
-use borrow.Author.Rules.{rules}
 use mathlib.Core.Path.{sym, ap, ◌∙◌}
 use Rattle.typesetter.specs.declared.machine.Effect.TheVariants.{Moved, PageEnded}
 use Rattle.typesetter.specs.Machine.{instruction_effect}

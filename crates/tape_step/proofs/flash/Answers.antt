@@ -2,7 +2,6 @@
 -- Assumes nothing.
 use mathlib.Core.Path.{sym, ap, ◌∙◌}
 use borrow.Author.Tests.{le-leb, lt-leb}
-use borrow.Author.Rules.{rules}
 use Rattle.measure.specs.Target.{x_of}
 use Rattle.typesetter.specs.Machine.{flash_of}
 use Rattle.typesetter.specs.StepLaws.{flash_set}

@@ -1,7 +1,6 @@
 -- `tape_step::lead` meets its contract: where the motion ends decides.
 -- Assumes nothing.
 use mathlib.Core.Path.{sym, ◌∙◌}
-use borrow.Author.Rules.{rules}
 use Rattle.typesetter.specs.StepLaws.{lead_to}
 use Rattle.tape_step.proofs.lead.Goals as goal
 

@@ -1,6 +1,5 @@
 -- `tape_step::step` meets its contract: each arm is given the class of the code.
 -- Assumes nothing.
-use borrow.Author.Rules.{rules}
 use mathlib.Core.Path.{sym, ap, ◌∙◌}
 use Rattle.typesetter.specs.declared.machine.Effect.TheVariants.{Moved}
 use Rattle.typesetter.specs.StepLaws.{step_ignored, step_illegal, initialize_stopped, initialize_taken, instruction_early, instruction_after_cut, instruction_after_stop, instruction_taken}
