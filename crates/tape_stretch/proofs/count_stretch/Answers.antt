@@ -1,10 +1,9 @@
 -- `tape_stretch::count_stretch` meets its contract. Each turn is one code more.
 -- Assumes nothing.
 use mathlib.Core.Path.{sym, subst}
-use Prim.Native.Nat.{ℕ, ◌+◌, ◌-◌, ◌≤◌}
+use Prim.Native.Nat.{ℕ, ◌+◌, ◌≤◌}
 use native.Mathlib.Omega.{arith}
-use borrow.Author.Rules.{rules}
-use lib.ListN.{length, get_or}
+use lib.ListN.{get_or}
 use Rattle.tape_stretch.specs.declared.Stretch.{Stretch}
 use Rattle.tape_stretch.specs.Stretch.{stretch_at, Strides, stands}
 use Rattle.tape_stretch.proofs.Stretches.{one_at_most, strides_more}

@@ -1,11 +1,6 @@
-use mathlib.Core.Path.{sym, subst}
-use Prim.Native.Nat.{ℕ, ◌+◌, ◌-◌, ◌≤◌}
-use native.Mathlib.Omega.{arith}
-use borrow.Author.Rules.{rules}
-use lib.ListN.{length, get_or}
-use Rattle.tape_stretch.specs.declared.Stretch.{Stretch}
-use Rattle.tape_stretch.specs.Stretch.{stretch_at, Strides, stands}
-use Rattle.tape_stretch.proofs.Stretches.{one_at_most, strides_more}
+use Prim.Native.Nat.{◌-◌, ◌≤◌}
+use lib.ListN.{length}
+use Rattle.tape_stretch.specs.Stretch.{stretch_at, Strides}
 use Rattle.tape_stretch.proofs.count_stretch.Given as goal
 
 abbrev pub invariant-loop-r : goal.invariant-loop-r

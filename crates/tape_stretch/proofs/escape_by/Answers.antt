@@ -3,7 +3,6 @@
 use mathlib.Core.Path.{ap}
 use Prim.Native.Nat.{ℕ, ◌*◌, ◌/◌}
 use native.Mathlib.Omega.{arith}
-use borrow.Author.Rules.{rules}
 use Rattle.tape_stretch.proofs.Stretches.{small_product}
 use Rattle.tape_stretch.proofs.escape_by.Goals as goal
 

@@ -3,7 +3,6 @@
 use mathlib.Core.Path.{ap, ◌∙◌}
 use Prim.Native.Nat.{◌≤◌}
 use native.Mathlib.Omega.{arith}
-use borrow.Author.Rules.{rules}
 use Rattle.measure.specs.Target.{x_of}
 use Rattle.tape_stretch.specs.Stretch.{Flashing}
 use Rattle.tape_stretch.proofs.Stretches.{half_taken, quick_ignored, quick_set, quick_at}

@@ -2,7 +2,6 @@
 -- Assumes nothing.
 use mathlib.Core.Path.{sym, subst}
 use mathlib.Core.Bool.{Bool}
-use borrow.Author.Rules.{rules}
 use Rattle.tape_stretch.specs.Further.{Stretched}
 use Rattle.tape_stretch.specs.FurtherLaws.{further_strides}
 use Rattle.tape_stretch.proofs.quick_stretch.Goals as goal

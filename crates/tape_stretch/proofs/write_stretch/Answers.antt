@@ -2,10 +2,8 @@
 -- Assumes nothing.
 use mathlib.Core.Path.{sym, subst}
 use mathlib.Core.Bool.{true}
-use Prim.Native.Nat.{◌-◌}
 use native.Mathlib.Omega.{arith}
-use borrow.Author.Rules.{rules}
-use lib.ListN.{length, get_or}
+use lib.ListN.{get_or}
 use Rattle.typesetter.specs.declared.machine.State.{State}
 use Rattle.tape_stretch.specs.declared.Stretch.{Stretch}
 use Rattle.typesetter.specs.Sound.{Sound}

@@ -1,6 +1,5 @@
 -- `tape_stretch::derived::derived_of` meets its contract: the tests that led to each `return` say what the state takes.
 -- Assumes nothing.
-use borrow.Author.Rules.{rules}
 use native.Mathlib.Omega.{arith}
 use lib.Dec.{lit≤}
 use Rattle.tape_stretch.proofs.Stretches.{number_range}
