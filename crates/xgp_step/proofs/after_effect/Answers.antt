@@ -4,7 +4,6 @@ use mathlib.Core.Path.{sym, ap}
 use Rattle.xgp.specs.Effect.{effect_of}
 use Rattle.xgp.specs.File.{after_effect}
 use Rattle.xgp.specs.declared.state.Effect.{Effect}
-use borrow.Author.Rules.{rules}
 use Rattle.xgp_step.proofs.after_effect.Goals as goal
 
 pub returns-in-Fault : goal.returns-in-Fault

@@ -2,7 +2,6 @@
 -- Assumes nothing.
 use mathlib.Core.Path.{sym, ap, ◌∙◌}
 use Rattle.xgp.specs.File.{after_effect, after_code, step}
-use borrow.Author.Rules.{rules}
 use Rattle.xgp_step.proofs.step.Goals as goal
 
 pub returns-in-Fault : goal.returns-in-Fault

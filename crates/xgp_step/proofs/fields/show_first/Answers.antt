@@ -10,7 +10,6 @@ use Rattle.integers.specs.Bits.{plain_pos}
 use Rattle.sheet.specs.Sheet.{page_mark, mark_field, mark_fields}
 use Rattle.octets.specs.Write.{put_named}
 use Rattle.xgp_step.proofs.Puts.{put_none, put_one, page_given, page_due, page_size}
-use borrow.Author.Rules.{rules}
 use Rattle.xgp_step.proofs.fields.show_first.Goals as goal
 
 pub returns-then-s : goal.returns-then-s

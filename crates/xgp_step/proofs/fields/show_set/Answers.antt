@@ -6,7 +6,6 @@ use lib.IntN.{pos}
 use Rattle.sheet.specs.Sheet.{char_mark}
 use Rattle.xgp.specs.State.{page_marks, set_marks}
 use Rattle.xgp_step.proofs.Puts.{put_then}
-use borrow.Author.Rules.{rules}
 use Rattle.xgp_step.proofs.fields.show_set.Goals as goal
 
 pub show_first-next-requires : goal.show_first-next-requires

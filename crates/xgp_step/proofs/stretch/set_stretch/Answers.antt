@@ -3,8 +3,8 @@
 -- Assumes nothing.
 use mathlib.Core.Path.{◌≡◌, refl, sym, ap, ◌∙◌, subst}
 use mathlib.Core.Bool.{true}
-use mathlib.Core.List.{List, [], ◌∷◌, ◌++◌}
-use Prim.Native.Nat.{ℕ, ◌+◌, ◌-◌, ◌*◌, ◌≤◌}
+use mathlib.Core.List.{[], ◌∷◌, ◌++◌}
+use Prim.Native.Nat.{ℕ, ◌+◌, ◌*◌, ◌≤◌}
 use native.Mathlib.Omega.{arith}
 use borrow.Author.Rules.{rules}
 use lib.IntN.{ℤ, pos, ◌+ℤ◌}
@@ -17,7 +17,7 @@ use Rattle.octets.specs.Octets.{fits32}
 use Rattle.octets.specs.WordLaws.{true_fits32}
 use Rattle.sheet.specs.Sheet.{Mark, char_mark, mark_field, mark_fields}
 use Rattle.sheet.specs.SheetLaws.{length_mark_field, one_field, fields_most, mark_fields_append}
-use Rattle.octets.specs.Write.{Put, put_named}
+use Rattle.octets.specs.Write.{put_named}
 use Rattle.octets.specs.ReachLaws.{reach_to}
 use Rattle.xgp_code.specs.Measure.{in_dots}
 use Rattle.xgp.specs.State.{width_in}
@@ -29,7 +29,7 @@ use Rattle.xgp_step.proofs.stretch.set_stretch.Goals as goal
 use Rattle.xgp_step.proofs.stretch.set_stretch.Goals.{At-loop-at, Start, In-To}
 
 -- where the stretch ends
-ends : (c : At-loop-at) {r : Stretch} → r ≡ record { next = c.loop-at.at; to = c.loop-at.to; x = in_dots (to_z w32 c.loop-at.x) }
+ends : (c : At-loop-at) {r : Stretch} → r ≡ record { next = c.loop-at.at; to = c.loop-at.to; x = in_dots (to_z w32 c.loop-at.x-bits) }
     → Stretched c.args.widths.now c.args.spacing c.args.file.now c.args.s c.args.from c.args.first c.args.writing c.args.out.now c.loop-at.out r
 ends c e =
     let a = c.args in
@@ -52,19 +52,19 @@ module _ (c : In-To) where
   after = to_z w32 (of_z w32 c.in-To.v)
 
   abbrev mark : Mark
-  mark = char_mark (to_z w32 c.loop-at.x) c.args.y.0 (pos c.args.s.font) byte
+  mark = char_mark (to_z w32 c.loop-at.x-bits) c.args.y.0 (pos c.args.s.font) byte
 
   further : Ran c.args.widths.now c.args.spacing c.args.file.now c.args.s c.args.from (c.loop-at.at + 1) after (c.loop-at.invariant.0 ++ (mark ∷ []))
   unfolding width_in
   further =
       let a = c.args in
       let i = c.loop-at.invariant in
-      let z = to_z w32 c.loop-at.x +ℤ width_in a.widths.now a.s byte in
+      let z = to_z w32 c.loop-at.x-bits +ℤ width_in a.widths.now a.s byte in
       let v = returned w32 c.width_of-w.type_inv c.width_of-w.ensures in
-      let k = reach_to z c.sum-sum.ensures (λ i. to_z w32 c.loop-at.x +ℤ v i) c.in-To.is in
+      let k = reach_to z c.sum-sum.ensures (λ i. to_z w32 c.loop-at.x-bits +ℤ v i) c.in-To.is in
       let h = c.requires.from_in_bounds.1.1.1 in
       ran_next a.widths.now a.spacing a.file.now a.s a.from a.y.0 after i.1.0.0 c.loop-at-test.true c.if-b-lt-FIRST_ORDINARY.false c.if-b-ge-ESCAPE.false c.requires.from_in_bounds.1.1.0
-      (sym (ap fits32 h) ∙ true_fits32 a.y.0 (y_fits start)) h k.0 (plain {w = w32} {z = c.in-To.v} (search rules) ∙ k.1)
+      (sym (ap fits32 h) ∙ true_fits32 a.y.0 (search rules)) h k.0 (plain {w = w32} {z = c.in-To.v} (search rules) ∙ k.1)
 
   room : c.args.writing ≡ true → length (mark_fields c.loop-at.invariant.0) + 16 + c.args.first + 7 ≤ length c.args.out.now
   room w =
@@ -103,7 +103,7 @@ pub returns-then-b-ge-ESCAPE : goal.returns-then-b-ge-ESCAPE
 returns-then-b-ge-ESCAPE c = ends (goal.at.returns-then-b-ge-ESCAPE c).At-loop-at c.stretch_to-then-b-ge-ESCAPE.ensures
 
 pub overflow_cast-font : goal.overflow_cast-font
-overflow_cast-font c = low_font (start c.before)
+overflow_cast-font c = low_font (goal.at.overflow_cast-font c).Start
 
 pub show_char-next-requires : goal.show_char-next-requires
 show_char-next-requires c =
@@ -123,7 +123,7 @@ loop-at-preserved c =
     let p = c.show_char-next in
     let y = plain (y_fits (goal.at.loop-at-preserved c).Start) in
     let e = plain_pos (low_font (goal.at.loop-at-preserved c).Start) in
-    let q = put_one (mark (goal.at.loop-at-preserved c).In-To) (put_named (λ i. mark_field (char_mark (to_z w32 c.loop-at.x) (y i) (e i) (byte (goal.at.loop-at-preserved c).In-To))) p.ensures) in
+    let q = put_one (mark (goal.at.loop-at-preserved c).In-To) (put_named (λ i. mark_field (char_mark (to_z w32 c.loop-at.x-bits) (y i) (e i) (byte (goal.at.loop-at-preserved c).In-To))) p.ensures) in
     (_, ((further (goal.at.loop-at-preserved c).In-To, put_then i.0 (mark (goal.at.loop-at-preserved c).In-To ∷ []) i.1.0.1 q), p.auto.out ∙ i.1.1))
 
 pub shape_of-out-in-Off : goal.shape_of-out-in-Off
@@ -136,4 +136,4 @@ pub shape_of-out : goal.shape_of-out
 shape_of-out c = c.loop-at.invariant.1.1
 
 pub returns : goal.returns
-returns c = ends (goal.at.returns-then-b-lt-FIRST_ORDINARY c).At-loop-at c.stretch_to-2.ensures
+returns c = ends (goal.at.returns c).At-loop-at c.stretch_to-2.ensures
