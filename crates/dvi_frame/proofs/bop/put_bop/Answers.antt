@@ -1,7 +1,6 @@
 -- `dvi_frame::bop::put_bop` meets its contract: one write after the other.
 -- Assumes nothing.
 use mathlib.Core.Path.{refl, sym, ap}
-use borrow.Author.Rules.{rules}
 use Rattle.integers.specs.Bits.{plain}
 use Rattle.octets.specs.Octets.{bytes, signed_bytes}
 use Rattle.octets.specs.OctetsLaws.{signed_bytes_pos}

@@ -3,13 +3,11 @@
 -- Assumes nothing.
 use mathlib.Core.Path.{◌≡◌, refl, sym}
 use mathlib.Core.List.{flatten}
-use Prim.Native.Nat.{◌-◌, ◌≤◌, ◌<◌}
+use Prim.Native.Nat.{◌<◌}
 use native.Mathlib.Omega.{arith}
 use borrow.Author.Rules.{rules}
-use lib.ListN.{length}
-use Rattle.octets.specs.Write.{Wrote, wrote_none, then, named}
+use Rattle.octets.specs.Write.{wrote_none, then, named}
 use Rattle.extents.specs.FontMarks.{marked_fonts}
-use Rattle.dvi.specs.Writer.{definition_bytes}
 use Rattle.dvi_frame.proofs.Definitions.{define_more, define_room}
 use Rattle.dvi_frame.proofs.postamble.put_definitions.Goals as goal
 

@@ -1,13 +1,9 @@
-use mathlib.Core.Path.{◌≡◌, refl, sym}
-use mathlib.Core.List.{flatten}
-use Prim.Native.Nat.{◌-◌, ◌≤◌, ◌<◌}
-use native.Mathlib.Omega.{arith}
-use borrow.Author.Rules.{rules}
+use mathlib.Core.Path.{◌≡◌}
+use Prim.Native.Nat.{◌-◌, ◌≤◌}
 use lib.ListN.{length}
-use Rattle.octets.specs.Write.{Wrote, wrote_none, then, named}
+use Rattle.octets.specs.Write.{Wrote}
 use Rattle.extents.specs.FontMarks.{marked_fonts}
 use Rattle.dvi.specs.Writer.{definition_bytes}
-use Rattle.dvi_frame.proofs.Definitions.{define_more, define_room}
 use Rattle.dvi_frame.proofs.postamble.put_definitions.Given as goal
 
 abbrev pub invariant-loop-f : goal.invariant-loop-f

@@ -3,7 +3,6 @@
 use mathlib.Core.Path.{sym, ◌∙◌}
 use mathlib.Core.List.{[], ◌∷◌, flatten, append-nil}
 use native.Mathlib.Omega.{arith}
-use borrow.Author.Rules.{rules}
 use Rattle.octets.specs.Write.{named, wrote_none}
 use Rattle.dvi.specs.Writer.{definition}
 use Rattle.dvi.specs.WriterLaws.{length_definitions}

@@ -2,7 +2,6 @@
 -- Assumes nothing.
 use mathlib.Core.Path.{refl, sym}
 use native.Mathlib.Omega.{arith}
-use borrow.Author.Rules.{rules}
 use Rattle.octets.specs.Octets.{bytes, signed_bytes}
 use Rattle.octets.specs.OctetsLaws.{signed_bytes_pos}
 use Rattle.octets.specs.Write.{then, named, room_after}

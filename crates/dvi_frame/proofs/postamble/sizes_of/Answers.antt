@@ -1,6 +1,5 @@
 -- `dvi_frame::postamble::sizes_of` meets its contract: the extents are in the table's range.
 -- Assumes nothing.
-use borrow.Author.Rules.{rules}
 use Rattle.integers.specs.Parts.{integers}
 use Rattle.dvi_frame.proofs.postamble.sizes_of.Goals as goal
 
