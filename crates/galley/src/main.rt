@@ -2,7 +2,7 @@
 #![tactic(auto)]
 
 ghost use Rattle.galley_file.specs.declared.form.Form.TheVariants.{New};
-ghost use Rattle.std.specs.Prelude.{◌≡◌, nat_abs};
+ghost use Rattle.std.specs.Prelude.{◌≡◌, ◌≤◌, length, nat_abs, IfOk};
 ghost use Rattle.octets.specs.Answer.{accepted};
 ghost use Rattle.galley_file.specs.Outcome.{check_outcome};
 
@@ -10,9 +10,9 @@ use galley_file::character::Character;
 use galley_file::form::Form;
 use galley_file::item::Item;
 use galley_file::{font, form, item};
-use libc::{STDIN_FILENO, STDOUT_FILENO};
 use octets::answer::Answer;
 use octets::field;
+use std::io::{self, Read};
 
 // The 8-font machine.
 const MACHINE: u32 = 8;
@@ -31,85 +31,91 @@ fn absolute(z: i32) -> u64
     }
 }
 
-fn write_number(n: u64) {
-    io::print_decimal(STDOUT_FILENO, n);
-    io::write_all(STDOUT_FILENO, b" ");
+fn write_number(rt: &impl Print, n: u64) -> io::Result<()> {
+    print!(rt; "{n} ")
 }
 
 // A line: x, height, font, size and character.
-fn write_character(c: Character) {
+fn write_character(rt: &impl Print, c: Character) -> io::Result<()> {
     if c.x.0 < 0 {
-        io::write_all(STDOUT_FILENO, b"-");
+        print!(rt; "-")?;
     }
-    write_number(absolute(c.x.0));
-    write_number(absolute(c.height.0));
-    write_number(font::font_of(c.font) as u64);
-    write_number(font::point_size(c.font) as u64);
-    io::print_decimal(STDOUT_FILENO, c.code as u64);
-    io::write_all(STDOUT_FILENO, b"\n");
+    write_number(rt, absolute(c.x.0))?;
+    write_number(rt, absolute(c.height.0))?;
+    write_number(rt, font::font_of(c.font) as u64)?;
+    write_number(rt, font::point_size(c.font) as u64)?;
+    println!(rt; "{}", c.code)
 }
 
 // A line for a character, or `cut`.
-fn write_item(i: Item) {
+fn write_item(rt: &impl Print, i: Item) -> io::Result<()> {
     match i {
-        Item::Placed(c) => write_character(c),
-        Item::Cut => {
-            io::write_all(STDOUT_FILENO, b"cut\n");
-        }
+        Item::Placed(c) => write_character(rt, c),
+        Item::Cut => println!(rt; "cut"),
     }
 }
 
 // The items of a checked galley: after each comes another, or End.
-fn write_items(g: &[u8], count: usize)
+fn write_items(rt: &impl Print, g: &[u8], count: usize) -> io::Result<()>
     requires { accepted count ≡ check_outcome New g.now }
 {
     let mut at: usize = 0;
     while at + field::END_FIELD < g.len() {
         let i = item::item_at(Form::New, g, at);
-        write_item(i);
+        write_item(rt, i)?;
         at += item::item_size(Form::New, i);
     }
+    Ok(())
 }
 
-fn write_refusal(number: u8, place: usize) {
-    io::write_all(STDOUT_FILENO, b"refused ");
-    io::print_decimal(STDOUT_FILENO, number as u64);
-    io::write_all(STDOUT_FILENO, b" at ");
-    io::print_decimal(STDOUT_FILENO, place as u64);
-    io::write_all(STDOUT_FILENO, b"\n");
+fn write_refusal(rt: &impl Print, number: u8, place: usize) -> io::Result<()> {
+    println!(rt; "refused {number} at {place}")
 }
 
 // A galley that a tape gave: the check accepts it, and counts its characters.
-fn write_galley(g: &[u8]) {
+fn write_galley(rt: &impl Print, g: &[u8]) -> io::Result<()> {
     let checked = galley_check::check_galley(g);
     match checked {
-        Answer::Refused(number, place) => write_refusal(number, place),
+        Answer::Refused(number, place) => write_refusal(rt, number, place),
         Answer::Accepted(count) => {
-            io::write_all(STDOUT_FILENO, b"x y font size char\n");
-            write_items(g, count);
-            io::print_decimal(STDOUT_FILENO, count as u64);
-            io::write_all(STDOUT_FILENO, b" glyphs\n");
+            println!(rt; "x y font size char")?;
+            write_items(rt, g, count)?;
+            println!(rt; "{count} glyphs")
         }
     }
 }
 
 // Reads a tape into the lent buffer, and lists it or says why not.
-fn list(tape: &[u8], galley: &mut [u8]) {
+fn list(rt: &impl Print, tape: &[u8], galley: &mut [u8]) -> io::Result<()> {
     let answer = tape::read_tape(tape, MACHINE, galley);
     match answer {
-        Answer::Refused(number, place) => write_refusal(number, place),
-        Answer::Accepted(length) => write_galley(&galley[..length]),
+        Answer::Refused(number, place) => write_refusal(rt, number, place),
+        Answer::Accepted(length) => write_galley(rt, &galley[..length]),
     }
 }
 
-fn main() {
+// Reads until the buffer is full or the input ends: how many bytes there are.
+fn read_full<R: Read>(input: &mut R, buffer: &mut [u8]) -> io::Result<usize>
+    ensures within { IfOk result (λ n. n ≤ length buffer.old) }
+{
+    let mut n: usize = 0;
+    while n < buffer.len() {
+        let more = input.read(&mut buffer[n..])?;
+        if more == 0 {
+            return Ok(n);
+        }
+        n += more;
+    }
+    Ok(n)
+}
+
+fn main(rt: HostRuntime) -> io::Result<()> {
     let mut tape = [0u8; MAX_TAPE + 1];
-    let n = io::read_full(STDIN_FILENO, &mut tape);
+    let n = read_full(&mut rt.reader(), &mut tape)?;
     if MAX_TAPE < n {
-        io::write_all(STDOUT_FILENO, b"too long\n");
-        return;
+        return println!(rt; "too long");
     }
     // Room for a character for each byte, and End.
     let mut galley = [0u8; form::NEW_FIELD * MAX_TAPE + field::END_FIELD];
-    list(&tape[..n], &mut galley);
+    list(&rt, &tape[..n], &mut galley)
 }
