@@ -127,6 +127,7 @@ kept_old new old room b e = kept (old_made new old room b e)
 
 above_high : (is : List Item) (at : ℕ) → Above (characters_of is) → (p : ℕ) × (first_high is at ≡ some p)
 unfolding first_high characters_of
+above_high [] at a = elim a [ ]
 above_high (Cut ∷ is) at a = above_high is (at + 3) a
 above_high (Placed c ∷ is) at (here h) = (at, rw (false_le_z c.height.0 low_end (omega (integers, h))))
 above_high (Placed c ∷ is) at (later a) = go (le_z c.height.0 low_end) (above_high is (at + 11) a)

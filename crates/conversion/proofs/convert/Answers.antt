@@ -3,7 +3,6 @@
 use mathlib.Core.Path.{◌≡◌, refl, ap}
 use Prim.Native.Nat.{ℕ, ◌+◌, ◌-◌, ◌*◌}
 use native.Mathlib.Omega.{arith}
-use borrow.Author.Rules.{rules}
 use lib.ListN.{length}
 use Rattle.octets.specs.AnswerLaws.{gives}
 use Rattle.octets.specs.Write.{length_wrote}
@@ -57,4 +56,4 @@ put_end-requires c =
 
 pub returns : goal.returns
 returns c =
-    with_room _ _ _ _ c.requires _ _ (needed (goal.at.returns-then-out-needed c).After-character_size-2) c.if-out-needed.false _ (all_written _ _ _ _ c.requires _ _ _ _ _ c.put_items-next.ensures c.put_end.ensures)
+    with_room _ _ _ _ c.requires _ _ (needed (goal.at.returns c).After-character_size-2) c.if-out-needed.false _ (all_written _ _ _ _ c.requires _ _ _ _ _ c.put_items-next.ensures c.put_end.ensures)

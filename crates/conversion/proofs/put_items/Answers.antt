@@ -1,6 +1,6 @@
 -- `conversion::put_items` meets its contract: the items behind are written, and what is left of the galley falls.
 -- Assumes nothing.
-use Prim.Native.Nat.{◌+◌, ◌-◌, ◌≤◌}
+use Prim.Native.Nat.{◌+◌, ◌≤◌}
 use native.Mathlib.Omega.{arith}
 use borrow.Author.Rules.{rules}
 use lib.ListN.{length}
@@ -9,7 +9,7 @@ use Rattle.galley_file.specs.FormLaws.{form_sizes}
 use Rattle.galley_file.specs.Form.{max_galley}
 use Rattle.galley_file.specs.ItemLaws.{size_least}
 use Rattle.galley_file.specs.GalleyLaws.{checked}
-use Rattle.conversion.proofs.Forms.{Converted, converted_start, converted_inside, converted_whole, converted_size, converted_room, converted_next, converted_end}
+use Rattle.conversion.proofs.Forms.{converted_start, converted_inside, converted_whole, converted_size, converted_room, converted_next, converted_end}
 use Rattle.conversion.proofs.put_items.Goals as goal
 use Rattle.conversion.proofs.put_items.Goals.{Start, After-item_size-at}
 
