@@ -4,7 +4,6 @@ use mathlib.Core.Path.{◌≡◌, sym, subst}
 use mathlib.Core.List.{List}
 use Prim.Native.Nat.{ℕ, ◌+◌, ◌-◌, ◌<◌}
 use native.Mathlib.Omega.{arith}
-use borrow.Author.Rules.{rules}
 use lib.ListN.{length, get_or}
 use mir.Syntax.{w64}
 use mir.Val.{Fits}
@@ -18,10 +17,10 @@ use Rattle.tape_quick.proofs.Turns.{turn_taken}
 use Rattle.tape_stretch.proofs.Stretches.{still_derived}
 use Rattle.tape_quick.specs.Turn.{Leads}
 use Rattle.tape_quick.proofs.quick_run.Goals as goal
-use Rattle.tape_quick.proofs.quick_run.Goals.{After-place-1, Start}
+use Rattle.tape_quick.proofs.quick_run.Goals.{After-quick_stretch-r, Start}
 
 -- the laws of a turn of the loop, after its stretch
-module _ (c : After-place-1) where
+module _ (c : After-quick_stretch-r) where
   abbrev now : State
   now = with_carriage c.loop-i.s c.quick_stretch-r.result.carriage
 
@@ -65,42 +64,42 @@ quick_stretch-r-requires c =
     ((further_sound l.invariant.0 pre.0, l.invariant.1), further_few l.invariant.0 pre.1)
 
 pub overflow_add-i : goal.overflow_add-i
-overflow_add-i c = next-i (goal.at.overflow_add-i c).After-place-1 c.if-i-tape.true
+overflow_add-i c = next-i (goal.at.overflow_add-i c).After-quick_stretch-r c.if-i-tape.true
 
 pub loop-i-smaller-then-takes_turn : goal.loop-i-smaller-then-takes_turn
-loop-i-smaller-then-takes_turn c = less (goal.at.loop-i-smaller-then-takes_turn c).After-place-1 c.if-i-tape.true
+loop-i-smaller-then-takes_turn c = less (goal.at.loop-i-smaller-then-takes_turn c).After-quick_stretch-r c.if-i-tape.true
 
 pub loop-i-preserved-then-takes_turn : goal.loop-i-preserved-then-takes_turn
 loop-i-preserved-then-takes_turn c =
     let turn = c.takes_turn.ensures c.if-takes_turn.true in
     let m = c.modes_after-modes in
     let z = c.size_after-size in
-    (moved (further (goal.at.loop-i-preserved-then-takes_turn c).After-place-1) c.if-i-tape.true (turn_taken (now (goal.at.loop-i-preserved-then-takes_turn c).After-place-1) turn.0 (get_or c.args.tape.now (i (goal.at.loop-i-preserved-then-takes_turn c).After-place-1) 0) turn.1 m.result m.ensures z.result z.ensures), c.derived_of-d-then-takes_turn.ensures)
+    (moved (further (goal.at.loop-i-preserved-then-takes_turn c).After-quick_stretch-r) c.if-i-tape.true (turn_taken (now (goal.at.loop-i-preserved-then-takes_turn c).After-quick_stretch-r) turn.0 (get_or c.args.tape.now (i (goal.at.loop-i-preserved-then-takes_turn c).After-quick_stretch-r) 0) turn.1 m.result m.ensures z.result z.ensures), c.derived_of-d-then-takes_turn.ensures)
 
 pub overflow_add-i-in-At : goal.overflow_add-i-in-At
-overflow_add-i-in-At c = next-i (goal.at.overflow_add-i-in-At c).After-place-1 c.if-i-tape.true
+overflow_add-i-in-At c = next-i (goal.at.overflow_add-i-in-At c).After-quick_stretch-r c.if-i-tape.true
 
 pub loop-i-smaller-in-At : goal.loop-i-smaller-in-At
-loop-i-smaller-in-At c = less (goal.at.loop-i-smaller-in-At c).After-place-1 c.if-i-tape.true
+loop-i-smaller-in-At c = less (goal.at.loop-i-smaller-in-At c).After-quick_stretch-r c.if-i-tape.true
 
 pub loop-i-preserved-in-At : goal.loop-i-preserved-in-At
 loop-i-preserved-in-At c =
-    (moved (further (goal.at.loop-i-preserved-in-At c).After-place-1) c.if-i-tape.true (subst (Leads (now (goal.at.loop-i-preserved-in-At c).After-place-1) (get_or c.args.tape.now (i (goal.at.loop-i-preserved-in-At c).After-place-1) 0)) c.in-At.is c.height_after.ensures), still_derived (now (goal.at.loop-i-preserved-in-At c).After-place-1) (now (goal.at.loop-i-preserved-in-At c).After-place-1).carriage c.in-At.h (derived (goal.at.loop-i-preserved-in-At c).After-place-1))
+    (moved (further (goal.at.loop-i-preserved-in-At c).After-quick_stretch-r) c.if-i-tape.true (subst (Leads (now (goal.at.loop-i-preserved-in-At c).After-quick_stretch-r) (get_or c.args.tape.now (i (goal.at.loop-i-preserved-in-At c).After-quick_stretch-r) 0)) c.in-At.is c.height_after.ensures), still_derived (now (goal.at.loop-i-preserved-in-At c).After-quick_stretch-r) (now (goal.at.loop-i-preserved-in-At c).After-quick_stretch-r).carriage c.in-At.h (derived (goal.at.loop-i-preserved-in-At c).After-quick_stretch-r))
 
 pub shape_of-out-in-Outside : goal.shape_of-out-in-Outside
-shape_of-out-in-Outside c = further_length (further (goal.at.shape_of-out-in-Outside c).After-place-1)
+shape_of-out-in-Outside c = further_length (further (goal.at.shape_of-out-in-Outside c).After-quick_stretch-r)
 
 pub returns-in-Outside : goal.returns-in-Outside
-returns-in-Outside c = run_ends (start c.before.before.before.before.before.before.before.before) c.run_end.ensures (further (goal.at.returns-in-Outside c).After-place-1)
+returns-in-Outside c = run_ends (goal.at.returns-in-Outside c).Start c.run_end.ensures (further (goal.at.returns-in-Outside c).After-quick_stretch-r)
 
 pub loop-i-smaller : goal.loop-i-smaller
 loop-i-smaller c = omega (arith, c.if-i-tape.false, c.loop-i-test.true)
 
 pub loop-i-preserved : goal.loop-i-preserved
-loop-i-preserved c = (further (goal.at.loop-i-preserved c).After-place-1, derived (goal.at.loop-i-preserved c).After-place-1)
+loop-i-preserved c = (further (goal.at.loop-i-preserved c).After-quick_stretch-r, derived (goal.at.loop-i-preserved c).After-quick_stretch-r)
 
 pub shape_of-out : goal.shape_of-out
 shape_of-out c = further_length c.loop-i.invariant.0
 
 pub returns : goal.returns
-returns c = run_ends (goal.at.returns-in-Outside c).Start c.run_end-2.ensures c.loop-i.invariant.0
+returns c = run_ends (goal.at.returns c).Start c.run_end-2.ensures c.loop-i.invariant.0

@@ -1,6 +1,5 @@
 -- `tape_quick::turn::modes_after` meets its contract: each mode by itself.
 -- Assumes nothing.
-use borrow.Author.Rules.{rules}
 use Rattle.tape_quick.proofs.turn.modes_after.Goals as goal
 
 pub returns : goal.returns

@@ -2,7 +2,6 @@
 -- Assumes nothing.
 use mathlib.Core.Path.{sym, ◌∙◌}
 use mathlib.Core.Bool.{true≢false}
-use borrow.Author.Rules.{rules}
 use Rattle.tape_quick.proofs.turn.takes_turn.Goals as goal
 
 pub returns-then-is_ready : goal.returns-then-is_ready
