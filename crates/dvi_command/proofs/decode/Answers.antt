@@ -1,6 +1,5 @@
 -- `dvi_command::decode` meets its contract: a character, or one of the others.
 -- Assumes nothing.
-use borrow.Author.Rules.{rules}
 use Rattle.dvi_command.proofs.Commands.{decode_set}
 use Rattle.dvi_command.proofs.decode.Goals as goal
 

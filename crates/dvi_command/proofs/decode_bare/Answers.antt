@@ -24,6 +24,4 @@ unfolding decode layout_of layouts with_parameters
 returns-in-133 c ps = ap (λ (o : ℕ). decode o ps) (sym c.in-133.is)
 
 pub returns-in_default : goal.returns-in_default
-returns-in_default c ps =
-    let n = c.in-128.rest in
-    decode_barred c.args.op ps (omega arith) (omega arith) n.0.0.0.1 n.0.0.1 n.0.1 n.1
+returns-in_default c ps = decode_barred c.args.op ps (omega arith) (omega arith) (omega arith) (omega arith) (omega arith) (omega arith)

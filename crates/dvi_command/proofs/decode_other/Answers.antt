@@ -8,7 +8,6 @@ use mir.Syntax.{w32}
 use mir.ValLaws.{to_z_pos}
 use Rattle.dvi.specs.Command.{set_font, command}
 use Rattle.dvi_command.proofs.Commands.{decode_fontnum, decode_undefined}
-use borrow.Author.Rules.{rules}
 use Rattle.dvi_command.proofs.decode_other.Goals as goal
 
 pub returns-then-op-ge-UNDEFINED : goal.returns-then-op-ge-UNDEFINED

@@ -1,6 +1,7 @@
 -- `dvi_command::moving` meets its contract: a move for each amount.
 -- Assumes nothing.
 use mathlib.Core.Path.{sym, ap}
+use native.Mathlib.Omega.{arith}
 use Prim.Native.Nat.{ℕ}
 use borrow.Author.Tests.{ne_eqb}
 use Rattle.dvi_command.specs.Command.{moving_of}
@@ -20,6 +21,4 @@ returns-in-2 c = ap (λ (k : ℕ). moving_of k c.args.m.0) (sym c.in-2.is)
 
 pub returns-in_default : goal.returns-in_default
 unfolding moving_of
-returns-in_default c =
-    let n = c.in-0.rest in
-    rw (ne_eqb c.args.amount 0 n.0.0.1, ne_eqb c.args.amount 1 n.0.1, ne_eqb c.args.amount 2 n.1)
+returns-in_default c = rw (ne_eqb c.args.amount 0 (omega arith), ne_eqb c.args.amount 1 (omega arith), ne_eqb c.args.amount 2 (omega arith))

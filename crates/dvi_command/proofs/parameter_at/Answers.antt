@@ -5,8 +5,7 @@ use native.Mathlib.Omega.{arith}
 use lib.ListN.{drop, length-drop}
 use mir.Syntax.{w32}
 use Rattle.integers.specs.Bits.{returned}
-use Rattle.dvi_command.proofs.Commands.{parameter_value, parameter_short, is_four, has_room}
-use borrow.Author.Rules.{rules}
+use Rattle.dvi_command.proofs.Commands.{parameter_value, parameter_short, has_room}
 use Rattle.dvi_command.proofs.parameter_at.Goals as goal
 
 pub returns-then-s-at : goal.returns-then-s-at
@@ -36,6 +35,5 @@ returns-in-3 c =
 pub returns-in_default : goal.returns-in_default
 returns-in_default c =
     let a = c.args in
-    let n = c.in-1.rest in
-    let e : a.n ≡ 4 = is_four a.n (search rules) (search rules) n.0.0.1 n.0.1 n.1 in
+    let e : a.n ≡ 4 = omega arith in
     parameter_value a.n 4 (drop a.at a.s.now) _ e (has_room c.if-s-at.false e (length-drop a.at a.s.now)) (returned w32 c.signed4_at.type_inv c.signed4_at.ensures)

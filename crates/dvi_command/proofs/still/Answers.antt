@@ -1,6 +1,7 @@
 -- `dvi_command::still` meets its contract: a command for each amount.
 -- Assumes nothing.
 use mathlib.Core.Path.{sym, ap}
+use native.Mathlib.Omega.{arith}
 use borrow.Author.Tests.{ne_eqb}
 use Rattle.dvi_command.specs.Command.{still_of}
 use Rattle.dvi_command.proofs.still.Goals as goal
@@ -19,6 +20,4 @@ returns-in-2 c = ap still_of (sym c.in-2.is)
 
 pub returns-in_default : goal.returns-in_default
 unfolding still_of
-returns-in_default c =
-    let n = c.in-0.rest in
-    rw (ne_eqb c.args.amount 0 n.0.0.1, ne_eqb c.args.amount 1 n.0.1, ne_eqb c.args.amount 2 n.1)
+returns-in_default c = rw (ne_eqb c.args.amount 0 (omega arith), ne_eqb c.args.amount 1 (omega arith), ne_eqb c.args.amount 2 (omega arith))
