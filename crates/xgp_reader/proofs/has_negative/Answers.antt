@@ -1,15 +1,13 @@
 -- `xgp_reader::has_negative` meets its contract. What is left decides the whole; the measure is its length.
 -- Assumes nothing.
-use mathlib.Core.Path.{◌≡◌, refl, sym, ap, ◌∙◌}
-use Prim.Native.Nat.{◌-◌, ◌≤◌}
+use mathlib.Core.Path.{refl, sym, ap, ◌∙◌}
 use native.Mathlib.Omega.{arith}
 use borrow.Author.Rules.{rules}
 use lib.IntN.{ℤ, pos}
-use lib.ListN.{length, get_or, drop}
+use lib.ListN.{get_or}
 use lib.Signed.{lt_z}
 use mir.Syntax.{w32}
 use Rattle.integers.specs.Bits.{plain}
-use Rattle.xgp.specs.Sheet.{any_negative}
 use Rattle.xgp_reader.proofs.Widths.{negative_here, negative_further, negative_none}
 use Rattle.xgp_reader.proofs.has_negative.Goals as goal
 

@@ -1,14 +1,7 @@
-use mathlib.Core.Path.{◌≡◌, refl, sym, ap, ◌∙◌}
+use mathlib.Core.Path.{◌≡◌}
 use Prim.Native.Nat.{◌-◌, ◌≤◌}
-use native.Mathlib.Omega.{arith}
-use borrow.Author.Rules.{rules}
-use lib.IntN.{ℤ, pos}
-use lib.ListN.{length, get_or, drop}
-use lib.Signed.{lt_z}
-use mir.Syntax.{w32}
-use Rattle.integers.specs.Bits.{plain}
+use lib.ListN.{length, drop}
 use Rattle.xgp.specs.Sheet.{any_negative}
-use Rattle.xgp_reader.proofs.Widths.{negative_here, negative_further, negative_none}
 use Rattle.xgp_reader.proofs.has_negative.Given as goal
 
 abbrev pub invariant-loop-i : goal.invariant-loop-i

@@ -3,7 +3,6 @@
 use mathlib.Core.Path.{◌≡◌, refl, sym, ◌∙◌}
 use mathlib.Core.Bool.{true≢false}
 use Prim.Native.Nat.{◌*◌, ◌≤◌}
-use borrow.Author.Rules.{rules}
 use borrow.Author.Tests.{eqb-true}
 use lib.ListN.{length}
 use Rattle.octets.specs.Answer.{if_room, no_sheet_room}
@@ -16,7 +15,7 @@ use Rattle.xgp.specs.File.{read_xgp}
 use Rattle.xgp.specs.Sheet.{four_fonts, xgp_result}
 use Rattle.xgp.specs.SheetLaws.{some_negative, readable}
 use Rattle.xgp_reader.proofs.read_xgp.Goals as goal
-use Rattle.xgp_reader.proofs.read_xgp.Goals.{After-has_negative, After-pass-arg-1}
+use Rattle.xgp_reader.proofs.read_xgp.Goals.{After-has_negative, After-pass-found}
 
 pub returns-then-number-ne0 : goal.returns-then-number-ne0
 unfolding xgp_result
@@ -38,28 +37,32 @@ returns-then-has_negative c =
     gives (some_negative a.file.now a.spacing a.widths.now (length a.sheet.now) (passed (goal.at.returns-then-has_negative c).After-has_negative).0 (passed (goal.at.returns-then-has_negative c).After-has_negative).1 e) refl refl
 
 -- and no width is negative
-reads : (c : After-pass-arg-1)
+reads : (c : After-pass-found)
     → let a = c.args in
-    xgp_result a.file.now a.spacing a.widths.now (length a.sheet.now)
+    (length a.file.now ≤ max_file) × (length a.widths.now ≡ 4 * font_chars)
+    → xgp_result a.file.now a.spacing a.widths.now (length a.sheet.now)
     ≡ if_room no_sheet_room (length a.sheet.now) (shown_result (read_xgp a.widths.now a.spacing a.file.now))
-reads c =
+reads c p =
     let a = c.args in
     let e = sym c.has_negative.ensures ∙ c.if-has_negative.false in
-    readable a.file.now a.spacing a.widths.now (length a.sheet.now) (passed (record { before = c.before.before.before; type_inv = record { sheet = c.slice_known-1.given; file = c.type_inv.file } })).0 (passed (record { before = c.before.before.before; type_inv = record { sheet = c.slice_known-1.given; file = c.type_inv.file } })).1 e
+    readable a.file.now a.spacing a.widths.now (length a.sheet.now) p.0 p.1 e
 
 pub pass-found-requires : goal.pass-found-requires
 pass-found-requires c = record { file_len_bound = (passed (goal.at.pass-found-requires c).After-has_negative).0; roomy = λ w. absurd (true≢false (sym w)) }
 
 pub returns-in_default : goal.returns-in_default
 returns-in_default c =
-    pass_refused no_sheet_room c.answered-given.result c.pass-found.ensures c.answered-given.ensures (reads (goal.at.returns-in_default c).After-pass-arg-1) c.in_default.is
+    let p = goal.at.returns-in_default c in
+    pass_refused no_sheet_room c.answered-given.result c.pass-found.ensures c.answered-given.ensures (reads p.After-pass-found (passed p.After-has_negative)) c.in_default.is
 
 pub pass-requires : goal.pass-requires
 pass-requires c =
-    let e = c.in-Accepted.is in
-    record { file_len_bound = (passed (goal.at.pass-found-requires c).After-has_negative).0; roomy = λ _. pass_roomy no_sheet_room c.answered-given.result c.pass-found.ensures c.answered-given.ensures e }
+    record {
+      file_len_bound = (passed (goal.at.pass-requires c).After-has_negative).0;
+      roomy = λ _. pass_roomy no_sheet_room c.answered-given.result c.pass-found.ensures c.answered-given.ensures c.in-Accepted.is;
+    }
 
 pub returns : goal.returns
 returns c =
-    let second = c.pass.ensures in
-    pass_whole no_sheet_room c.answered-given.result c.pass-found.ensures c.answered-given.ensures (reads c.before.before.before.before.before.before.before.before.before.before) c.in-Accepted.is second
+    let p = goal.at.returns c in
+    pass_whole no_sheet_room c.answered-given.result c.pass-found.ensures c.answered-given.ensures (reads p.After-pass-found (passed p.After-has_negative)) c.in-Accepted.is c.pass.ensures
