@@ -3,7 +3,6 @@
 use mathlib.Core.Path.{sym, ap, ◌∙◌}
 use Prim.Native.Nat.{ℕ}
 use native.Mathlib.Omega.{arith}
-use borrow.Author.Rules.{rules}
 use Rattle.dvi.specs.Page.{Page, popped, with_numbers}
 use Rattle.dvi_page.specs.Stack.{stack_of}
 use Rattle.dvi_page.specs.Page.{page_of}

@@ -1,7 +1,6 @@
 -- `dvi_page::page::push` meets its contract: the entry lies above the others.
 -- Assumes nothing.
 use native.Mathlib.Omega.{arith}
-use borrow.Author.Rules.{rules}
 use Rattle.dvi_page.specs.Page.{page_of}
 use Rattle.dvi_page.specs.StackLaws.{stack_length}
 use Rattle.dvi_page.proofs.Stacks.{push_full, push_room}

@@ -25,7 +25,15 @@ six : (c : After-struct_told-1)
     ◌≡◌ {A = Numbers}
     (record { x_at = held n.x.0; y_at = held n.y.0; amount_w = held n.wa.0; amount_x = held n.xa.0; amount_y = held n.ya.0; amount_z = held n.za.0 })
     (six_numbers n)
-six c = numbers (plain (search rules)) (plain (search rules)) (plain (search rules)) (plain (search rules)) (plain (search rules)) (plain (search rules))
+six c =
+    let n = c.args.n in
+    numbers
+    (plain {w = w32} {z = n.x.0} (search rules))
+    (plain {w = w32} {z = n.y.0} (search rules))
+    (plain {w = w32} {z = n.wa.0} (search rules))
+    (plain {w = w32} {z = n.xa.0} (search rules))
+    (plain {w = w32} {z = n.ya.0} (search rules))
+    (plain {w = w32} {z = n.za.0} (search rules))
 
 pub returns : goal.returns
 returns c =
