@@ -147,7 +147,7 @@ module _ (s₀ : State) (at : ℕ) (tape first : List ℕ) (w : Bool) where
 
   -- ---- over codes that go further
 
-  pub going_further : {out later : List ℕ} {s t : State} {count cuts i n j : ℕ} → Further w tape out s count cuts i t n j later
+  pub going_further : {out : List ℕ} {s : State} {count cuts i : ℕ} {t : State} {n j : ℕ} {later : List ℕ} → Further w tape out s count cuts i t n j later
       → Going s₀ at tape first w out s count cuts i → Going s₀ at tape first w later t n cuts j
   going_further further.here g = g
   going_further (further.moved {t} {u} {n} {j} {later} f h e) g = going_moved later t n _ j (going_further f g) h u e

@@ -5,7 +5,6 @@ use mathlib.Core.Bool.{true}
 use mathlib.Core.List.{List}
 use Prim.Native.Nat.{ℕ, ◌+◌, ◌-◌, ◌*◌, ◌≤◌, ◌<◌}
 use native.Mathlib.Omega.{arith}
-use borrow.Author.Rules.{rules}
 use lib.ListN.{length, get_or}
 use mir.Syntax.{w64}
 use mir.Val.{Fits}
@@ -24,10 +23,10 @@ use Rattle.tape_stretch.specs.FurtherLaws.{further_onward}
 use Rattle.tape.specs.Pass.{Going, Passed}
 use Rattle.tape.proofs.Passes.{going_start, going_bound, going_moved, going_room, going_set, going_refused, going_done, going_further}
 use Rattle.tape.proofs.pass.Goals as goal
-use Rattle.tape.proofs.pass.Goals.{After-reached-1, In-Flashed-2, In-PageEnded-2}
+use Rattle.tape.proofs.pass.Goals.{After-quick_run-r, In-Flashed, In-PageEnded}
 
 -- the laws of a turn of the loop, after the quick ways
-module _ (c : After-reached-1) where
+module _ (c : After-quick_run-r) where
   abbrev now : State
   now = c.quick_run-r.result.state
 
@@ -80,10 +79,10 @@ module _ (c : After-reached-1) where
       set = let a = c.args in going_set a.first a.at a.tape.now a.out.now a.writing out now count cuts i going h q m
 
 -- the character, or the cut, that a code sets
-flashes : (c : In-Flashed-2) → byte_effect (now c.before.before.before.before.before) (code c.before.before.before.before.before) ≡ Flashed c.in-Flashed.c
+flashes : (c : In-Flashed) → byte_effect c.quick_run-r.result.state (get_or c.args.tape.now c.quick_run-r.result.next 0) ≡ Flashed c.in-Flashed.c
 flashes c = sym c.step.ensures ∙ c.in-Flashed.is
 
-parts : (c : In-PageEnded-2) → byte_effect (now c.before.before.before.before.before) (code c.before.before.before.before.before) ≡ PageEnded c.in-PageEnded.next
+parts : (c : In-PageEnded) → byte_effect c.quick_run-r.result.state (get_or c.args.tape.now c.quick_run-r.result.next 0) ≡ PageEnded c.in-PageEnded.next
 parts c = sym c.step.ensures ∙ c.in-PageEnded.is
 
 pub loop-i-init : goal.loop-i-init
@@ -98,74 +97,74 @@ quick_run-r-requires c =
     (l.invariant.sound, omega (arith, going_bound a.first a.at a.tape.now a.out.now a.writing l.out l.s l.count l.cuts l.i l.invariant))
 
 pub step-requires : goal.step-requires
-step-requires c = (going (goal.at.step-requires c).After-reached-1).sound
+step-requires c = (going (goal.at.step-requires c).After-quick_run-r).sound
 
 pub overflow_add-i : goal.overflow_add-i
-overflow_add-i c = next-i (goal.at.overflow_add-i c).After-reached-1 c.if-i-tape.true
+overflow_add-i c = next-i (goal.at.overflow_add-i c).After-quick_run-r c.if-i-tape.true
 
 pub loop-i-smaller-in-Moved : goal.loop-i-smaller-in-Moved
-loop-i-smaller-in-Moved c = less (goal.at.loop-i-smaller-in-Moved c).After-reached-1 c.if-i-tape.true
+loop-i-smaller-in-Moved c = less (goal.at.loop-i-smaller-in-Moved c).After-quick_run-r c.if-i-tape.true
 
 pub loop-i-preserved-in-Moved : goal.loop-i-preserved-in-Moved
 loop-i-preserved-in-Moved c =
-    moved (goal.at.loop-i-preserved-in-Moved c).After-reached-1 c.if-i-tape.true c.in-Moved.next (sym c.step.ensures ∙ c.in-Moved.is)
+    moved (goal.at.loop-i-preserved-in-Moved c).After-quick_run-r c.if-i-tape.true c.in-Moved.next (sym c.step.ensures ∙ c.in-Moved.is)
 
 pub put_after-requires : goal.put_after-requires
 put_after-requires c =
     let h = c.if-i-tape.true in
-    record { count_le_max_tape = few (goal.at.put_after-requires c).After-reached-1 h; i_in_bounds = room (goal.at.put_after-requires c).After-reached-1 h (flashes (goal.at.put_after-requires c).In-Flashed-2) flashed }
+    record { count_le_max_tape = few (goal.at.put_after-requires c).After-quick_run-r h; i_in_bounds = room (goal.at.put_after-requires c).After-quick_run-r h (flashes (goal.at.put_after-requires c).In-Flashed) flashed }
 
 pub overflow_add-count : goal.overflow_add-count
-overflow_add-count c = next-count (goal.at.overflow_add-count c).After-reached-1 c.if-i-tape.true
+overflow_add-count c = next-count (goal.at.overflow_add-count c).After-quick_run-r c.if-i-tape.true
 
 pub overflow_add-i-in-Flashed : goal.overflow_add-i-in-Flashed
-overflow_add-i-in-Flashed c = next-i (goal.at.overflow_add-i-in-Flashed c).After-reached-1 c.if-i-tape.true
+overflow_add-i-in-Flashed c = next-i (goal.at.overflow_add-i-in-Flashed c).After-quick_run-r c.if-i-tape.true
 
 pub loop-i-smaller-in-Flashed : goal.loop-i-smaller-in-Flashed
-loop-i-smaller-in-Flashed c = less (goal.at.loop-i-smaller-in-Flashed c).After-reached-1 c.if-i-tape.true
+loop-i-smaller-in-Flashed c = less (goal.at.loop-i-smaller-in-Flashed c).After-quick_run-r c.if-i-tape.true
 
 pub loop-i-preserved-in-Flashed : goal.loop-i-preserved-in-Flashed
 loop-i-preserved-in-Flashed c =
     let p = c.put_after in
-    set (goal.at.loop-i-preserved-in-Flashed c).After-reached-1 c.if-i-tape.true (flashes (goal.at.loop-i-preserved-in-Flashed c).In-Flashed-2) flashed p.new.out p.auto.out p.ensures _ _ refl refl
+    set (goal.at.loop-i-preserved-in-Flashed c).After-quick_run-r c.if-i-tape.true (flashes (goal.at.loop-i-preserved-in-Flashed c).In-Flashed) flashed p.new.out p.auto.out p.ensures _ _ refl refl
 
 pub put_after-requires-in-PageEnded : goal.put_after-requires-in-PageEnded
 put_after-requires-in-PageEnded c =
     let h = c.if-i-tape.true in
-    record { count_le_max_tape = few (goal.at.put_after-requires-in-PageEnded c).After-reached-1 h; i_in_bounds = room (goal.at.put_after-requires-in-PageEnded c).After-reached-1 h (parts (goal.at.put_after-requires-in-PageEnded c).In-PageEnded-2) page_ended }
+    record { count_le_max_tape = few (goal.at.put_after-requires-in-PageEnded c).After-quick_run-r h; i_in_bounds = room (goal.at.put_after-requires-in-PageEnded c).After-quick_run-r h (parts (goal.at.put_after-requires-in-PageEnded c).In-PageEnded) page_ended }
 
 pub overflow_add-cuts : goal.overflow_add-cuts
-overflow_add-cuts c = next-cuts (goal.at.overflow_add-cuts c).After-reached-1 c.if-i-tape.true
+overflow_add-cuts c = next-cuts (goal.at.overflow_add-cuts c).After-quick_run-r c.if-i-tape.true
 
 pub overflow_add-i-in-PageEnded : goal.overflow_add-i-in-PageEnded
-overflow_add-i-in-PageEnded c = next-i (goal.at.overflow_add-i-in-PageEnded c).After-reached-1 c.if-i-tape.true
+overflow_add-i-in-PageEnded c = next-i (goal.at.overflow_add-i-in-PageEnded c).After-quick_run-r c.if-i-tape.true
 
 pub loop-i-smaller-in-PageEnded : goal.loop-i-smaller-in-PageEnded
-loop-i-smaller-in-PageEnded c = less (goal.at.loop-i-smaller-in-PageEnded c).After-reached-1 c.if-i-tape.true
+loop-i-smaller-in-PageEnded c = less (goal.at.loop-i-smaller-in-PageEnded c).After-quick_run-r c.if-i-tape.true
 
 pub loop-i-preserved-in-PageEnded : goal.loop-i-preserved-in-PageEnded
 loop-i-preserved-in-PageEnded c =
     let p = c.put_after-in-PageEnded in
-    set (goal.at.loop-i-preserved-in-PageEnded c).After-reached-1 c.if-i-tape.true (parts (goal.at.loop-i-preserved-in-PageEnded c).In-PageEnded-2) page_ended p.new.out p.auto.out p.ensures _ _ (omega arith) (omega arith)
+    set (goal.at.loop-i-preserved-in-PageEnded c).After-quick_run-r c.if-i-tape.true (parts (goal.at.loop-i-preserved-in-PageEnded c).In-PageEnded) page_ended p.new.out p.auto.out p.ensures _ _ (omega arith) (omega arith)
 
 pub overflow_add-at : goal.overflow_add-at
 overflow_add-at c = omega (arith, c.if-i-tape.true, c.requires.sound.1, c.well_formed)
 
 pub shape_of-out-in-Refused : goal.shape_of-out-in-Refused
-shape_of-out-in-Refused c = (going (goal.at.shape_of-out-in-Refused c).After-reached-1).same
+shape_of-out-in-Refused c = (going (goal.at.shape_of-out-in-Refused c).After-quick_run-r).same
 
 pub returns-in-Refused : goal.returns-in-Refused
 returns-in-Refused c =
     let a = c.args in
-    subst (λ (r : Reading). Passed (run a.first a.at a.tape.now) a.writing a.out.now r (out (goal.at.returns-in-Refused c).After-reached-1)) (sym c.found.ensures)
-    (going_refused a.first a.at a.tape.now a.out.now a.writing (out (goal.at.returns-in-Refused c).After-reached-1) (now (goal.at.returns-in-Refused c).After-reached-1) (count (goal.at.returns-in-Refused c).After-reached-1) (cuts (goal.at.returns-in-Refused c).After-reached-1) (i (goal.at.returns-in-Refused c).After-reached-1) (going (goal.at.returns-in-Refused c).After-reached-1) c.if-i-tape.true c.in-Refused.n c.requires.sound.1
+    subst (λ (r : Reading). Passed (run a.first a.at a.tape.now) a.writing a.out.now r (out (goal.at.returns-in-Refused c).After-quick_run-r)) (sym c.found.ensures)
+    (going_refused a.first a.at a.tape.now a.out.now a.writing (out (goal.at.returns-in-Refused c).After-quick_run-r) (now (goal.at.returns-in-Refused c).After-quick_run-r) (count (goal.at.returns-in-Refused c).After-quick_run-r) (cuts (goal.at.returns-in-Refused c).After-quick_run-r) (i (goal.at.returns-in-Refused c).After-quick_run-r) (going (goal.at.returns-in-Refused c).After-quick_run-r) c.if-i-tape.true c.in-Refused.n c.requires.sound.1
     (sym c.step.ensures ∙ c.in-Refused.is))
 
 pub loop-i-smaller : goal.loop-i-smaller
 loop-i-smaller c = omega (arith, c.if-i-tape.false, c.loop-i-test.true)
 
 pub loop-i-preserved : goal.loop-i-preserved
-loop-i-preserved c = going (goal.at.loop-i-preserved c).After-reached-1
+loop-i-preserved c = going (goal.at.loop-i-preserved c).After-quick_run-r
 
 pub shape_of-out : goal.shape_of-out
 shape_of-out c = c.loop-i.invariant.same

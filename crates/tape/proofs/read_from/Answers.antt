@@ -5,7 +5,6 @@ use mathlib.Core.Bool.{true≢false}
 use mathlib.Core.List.{List}
 use Prim.Native.Nat.{ℕ, ◌+◌, ◌*◌, ◌≤◌, ◌<◌}
 use native.Mathlib.Omega.{arith}
-use borrow.Author.Rules.{rules}
 use lib.ListN.{length}
 use lib.Seq.{sets}
 use Rattle.octets.specs.Answer.{accepted}
@@ -56,7 +55,7 @@ returns-then-galley-needed c =
 pub pass-requires : goal.pass-requires
 pass-requires c =
     let p = c.pass-r in
-    record { sound = (c.requires.0, omega (arith, c.requires.1)); tape_in_bounds = λ _. omega (arith, bytes_counted c.before.before.before.before.before.before.before.before.before.before, c.if-galley-needed.false, ap length p.ensures.buffer) }
+    record { sound = (c.requires.0, omega (arith, c.requires.1)); tape_in_bounds = λ _. omega (arith, bytes_counted (goal.at.pass-requires c).After-pass-r, c.if-galley-needed.false, ap length p.ensures.buffer) }
 
 pub overflow_cast-count : goal.overflow_cast-count
 overflow_cast-count c = omega (arith, c.pass-r.ensures.few)

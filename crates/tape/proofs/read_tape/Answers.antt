@@ -1,7 +1,6 @@
 -- `tape::read_tape` meets its contract: 1 over the whole tape, then 50, and then the tape read from the start of its machine.
 -- Assumes nothing.
 use mathlib.Core.Path.{refl}
-use borrow.Author.Rules.{rules}
 use lib.ListN.{length}
 use Rattle.octets.specs.AnswerLaws.{gives, gives_same}
 use Rattle.typesetter.specs.declared.code.Machine.TheVariants.{Four, Eight}
