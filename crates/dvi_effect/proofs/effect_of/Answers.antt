@@ -1,43 +1,34 @@
 -- `dvi_effect::effect_of` meets its contract: PUSH and POP by the stack, any other command by `plain_effect`.
 -- Assumes nothing.
-use mathlib.Core.Path.{◌≡◌, sym, ap, ◌∙◌}
-use mathlib.Core.List.{List, [], ◌∷◌}
-use Prim.Native.Nat.{ℕ}
-use borrow.Author.Rules.{rules}
-use denote.Enum.Declared.{tag_of}
-use types.Run.{OneOf, miss}
+use mathlib.Core.Path.{◌≡◌, refl, sym, ap, ◌∙◌}
 use Rattle.dvi.specs.Command.{NoBracket}
 use Rattle.dvi.specs.Page.{Page, effect}
 use Rattle.dvi_command.specs.Command.{command_of}
 use Rattle.dvi_page.specs.Page.{page_of}
 use Rattle.dvi_command.specs.declared.Command.{Command}
-use Rattle.dvi_command.specs.contracts.Command.{the_type}
 use Rattle.dvi_command.specs.declared.Command.TheVariants.{SetChar, Nop, Eop, Push, Pop, VertRule, HorzRule, HorzChar, SetFont, MoveW, MoveW0, MoveX, MoveX0, MoveY, MoveY0, MoveZ, MoveZ0}
 use Rattle.dvi_effect.proofs.effect_of.Goals as goal
 use Rattle.dvi_effect.proofs.effect_of.Goals.{Start}
 
--- the tags of the commands other than PUSH and POP
-abbrev others : List ℕ
-others = 0 ∷ 1 ∷ 2 ∷ 5 ∷ 6 ∷ 7 ∷ 8 ∷ 9 ∷ 10 ∷ 11 ∷ 12 ∷ 13 ∷ 14 ∷ 15 ∷ 16 ∷ []
-
-no-bracket : (k : Command) → OneOf others (tag_of the_type k) → NoBracket (command_of k)
-no-bracket (SetChar c) h = tt
-no-bracket Nop h = tt
-no-bracket Eop h = tt
-no-bracket Push h = miss others 3 tt h
-no-bracket Pop h = miss others 4 tt h
-no-bracket (VertRule a w) h = tt
-no-bracket (HorzRule a w) h = tt
-no-bracket (HorzChar c) h = tt
-no-bracket (SetFont f) h = tt
-no-bracket (MoveW m) h = tt
-no-bracket MoveW0 h = tt
-no-bracket (MoveX m) h = tt
-no-bracket MoveX0 h = tt
-no-bracket (MoveY m) h = tt
-no-bracket MoveY0 h = tt
-no-bracket (MoveZ m) h = tt
-no-bracket MoveZ0 h = tt
+-- the commands other than PUSH and POP
+no-bracket : (k : Command) → (k ≡ Push → ⊥) → (k ≡ Pop → ⊥) → NoBracket (command_of k)
+no-bracket (SetChar c) h g = tt
+no-bracket Nop h g = tt
+no-bracket Eop h g = tt
+no-bracket Push h g = absurd (h refl)
+no-bracket Pop h g = absurd (g refl)
+no-bracket (VertRule a w) h g = tt
+no-bracket (HorzRule a w) h g = tt
+no-bracket (HorzChar c) h g = tt
+no-bracket (SetFont f) h g = tt
+no-bracket (MoveW m) h g = tt
+no-bracket MoveW0 h g = tt
+no-bracket (MoveX m) h g = tt
+no-bracket MoveX0 h g = tt
+no-bracket (MoveY m) h g = tt
+no-bracket MoveY0 h g = tt
+no-bracket (MoveZ m) h g = tt
+no-bracket MoveZ0 h g = tt
 
 -- the page before the command, and the effect of the command that the match found
 module _ (s : Start) where
@@ -48,7 +39,7 @@ module _ (s : Start) where
   found e = ap (λ (k : Command). effect s.args.widths.now page (command_of k)) (sym e)
 
 pub plain_effect-requires : goal.plain_effect-requires
-plain_effect-requires c = no-bracket c.args.c c.in-Push.keys3
+plain_effect-requires c = no-bracket c.args.c c.in_default.not-Push c.in_default.not-Pop
 
 pub returns-in-Push : goal.returns-in-Push
 unfolding effect

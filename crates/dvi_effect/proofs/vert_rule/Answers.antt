@@ -1,7 +1,6 @@
 -- `dvi_effect::vert_rule` meets its contract: the rule is shown, and the page goes on by its width.
 -- Assumes nothing.
 use mathlib.Core.Path.{ap, ◌∙◌}
-use borrow.Author.Rules.{rules}
 use Rattle.sheet.specs.Sheet.{Mark}
 use Rattle.dvi.specs.Page.{right_by, show_and_go_to, effect}
 use Rattle.dvi_page.specs.Page.{page_of}
