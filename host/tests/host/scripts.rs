@@ -9,21 +9,18 @@ use std::process::{self, Command, Output};
 use std::thread;
 use std::time::Duration;
 
-/// Proves everything but the crates that the file `unproved` names, and exports sp_NAME from crate NAME.
+/// Stands in a crate's folder; proves every crate but those that the file `unproved` names, and exports sp_NAME from crate NAME.
 const RT: &str = r#"#!/usr/bin/env bash
 if [ "$1" = version ]; then echo "a stand-in for rt"; exit; fi
-echo "rt $*" >>calls
-verb=$1
-shift
-for crate in "$@"; do
-    if grep -qsx "$crate" unproved; then echo "rt: $crate NOT PROVED (exit 1, 0 s)"; exit 1; fi
-done
-[ "$verb" = staticlib ] || exit 0
-mkdir -p target/staticlib
-rm -f "target/staticlib/lib$1.a"
-cat crates/$1/src/more.c 2>/dev/null >more.c
-echo "int sp_$1(void) { return 0; }" | cat - more.c | cc -x c -c - -o object.o
-ar rcs "target/staticlib/lib$1.a" object.o
+crate=${PWD##*/}
+echo "rt $1 $crate" >>../../calls
+if grep -qsx "$crate" ../../unproved; then echo "fn $crate::f: not proved"; exit 1; fi
+[ "$1" = lib ] || exit 0
+mkdir -p out
+rm -f "out/lib$crate.a"
+cat src/more.c 2>/dev/null >out/more.c
+echo "int sp_$crate(void) { return 0; }" | cat - out/more.c | cc -x c -c - -o out/object.o
+ar rcs "out/lib$crate.a" out/object.o
 "#;
 
 const CARGO: &str = r#"#!/usr/bin/env bash
@@ -34,10 +31,10 @@ chmod +x host/target/release/spatecanter
 "#;
 
 /// The tools that the scripts and the stand-ins call.
-const TOOLS: [&str; 34] = [
+const TOOLS: [&str; 36] = [
     "ar", "as", "awk", "bash", "cat", "cc", "chmod", "cp", "cut", "dirname", "env", "find", "flock", "grep",
-    "head", "install", "ld", "ln", "mkdir", "mktemp", "mv", "nm", "printf", "readlink", "rm", "rmdir", "sed",
-    "sleep", "sort", "tail", "touch", "uniq", "wc", "sh",
+    "head", "install", "ld", "ln", "mkdir", "mktemp", "mv", "nm", "nproc", "printf", "readlink", "rm", "rmdir",
+    "sed", "sleep", "sort", "tail", "touch", "uniq", "wc", "sh", "xargs",
 ];
 
 /// A repository in small, outside of this one, whose crates are all that `rt` should find here.
@@ -68,8 +65,8 @@ impl Repository {
             ("base", ""),
             ("left", ""),
             ("right", ""),
-            ("spatecanter", "#[no_mangle]"),
-            ("second", "#[no_mangle]"),
+            ("spatecanter", "#[unsafe(no_mangle)]"),
+            ("second", "#[unsafe(no_mangle)]"),
         ] {
             repository.write(&format!("crates/{name}/src/lib.rt"), text);
         }
@@ -159,8 +156,12 @@ fn the_library_is_joined_of_all_export_crates() {
                  proving 4 of 5: second\nproving 5 of 5: spatecanter\n\
                  target/staticlib/libspatecanter.a: 2 functions, of second spatecanter\n";
     assert_eq!((out(&first).as_str(), err(&first).as_str()), (lines, ""));
-    let calls = "rt check base\nrt check left right\nrt staticlib second\nrt staticlib spatecanter\n";
-    assert_eq!(repository.calls(), calls);
+    // The crates of one layer are proved side by side, in any order.
+    let calls = repository.calls();
+    let mut calls: Vec<&str> = calls.lines().collect();
+    calls[1..3].sort();
+    let in_order = ["rt check base", "rt check left", "rt check right", "rt lib second", "rt lib spatecanter"];
+    assert_eq!(calls, in_order);
     let members = Command::new("ar").arg("t").arg(repository.archive()).output().unwrap();
     assert_eq!(out(&members), "second.object.o\nspatecanter.object.o\n");
     // A second run gives the same bytes, and nothing is left but the library and the log.
@@ -180,7 +181,7 @@ fn a_library_that_is_not_proved_names_the_log() {
     repository.write("unproved", "right\n");
     let refused = repository.run("library", &[]);
     assert_eq!(refused.status.code(), Some(1));
-    assert!(err(&refused).starts_with("rt: right NOT PROVED"), "{}", err(&refused));
+    assert!(err(&refused).starts_with("fn right::f: not proved"), "{}", err(&refused));
     assert!(err(&refused).contains("target/library.log"), "{}", err(&refused));
     assert!(!repository.archive().exists());
     assert_eq!(repository.in_target(), ["library.log", "staticlib"]);
@@ -207,7 +208,7 @@ fn the_command_is_built_again_when_a_source_changed() {
     let first = repository.run("spatecanter", &["read", "a b"]);
     assert_eq!((first.status.code(), out(&first).as_str()), (Some(0), "built: read a b\n"));
     assert!(err(&first).contains("proving 1 of 5: base"), "{}", err(&first));
-    assert!(repository.calls().ends_with("rt staticlib spatecanter\ncargo\n"));
+    assert!(repository.calls().ends_with("rt lib spatecanter\ncargo\n"));
     let again = repository.run("spatecanter", &[]);
     assert_eq!((out(&again).as_str(), err(&again).as_str()), ("built: \n", ""));
     assert_eq!(repository.calls(), "");
@@ -215,7 +216,7 @@ fn the_command_is_built_again_when_a_source_changed() {
         let text = fs::read_to_string(repository.root.join(changed)).unwrap_or_default();
         repository.write(changed, &text);
         assert_eq!(repository.run("spatecanter", &[]).status.code(), Some(0));
-        assert!(repository.calls().ends_with("rt staticlib spatecanter\ncargo\n"), "{changed}");
+        assert!(repository.calls().ends_with("rt lib spatecanter\ncargo\n"), "{changed}");
     }
     repository.remove("crates/base/specs/New.antt");
     assert_eq!(repository.run("spatecanter", &[]).status.code(), Some(0));
