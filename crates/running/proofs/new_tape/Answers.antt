@@ -1,6 +1,5 @@
 -- `running::new_tape` meets its contract: a machine of eight fonts at its start, at rest.
 -- Assumes nothing.
-use borrow.Author.Rules.{rules}
 use Rattle.running.proofs.new_tape.Goals as goal
 
 pub returns : goal.returns
