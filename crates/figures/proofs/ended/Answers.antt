@@ -1,6 +1,6 @@
 -- `figures::ended` meets its contract: each test is the definition's.
 -- Assumes nothing.
-use Rattle.std.proofs.Common.{◌∙◌, rules}
+use Rattle.std.proofs.Common.{◌∙◌}
 use Rattle.figures.proofs.ended.Goals as goal
 
 pub returns-then-s : goal.returns-then-s

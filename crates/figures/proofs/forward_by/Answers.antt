@@ -1,6 +1,6 @@
 -- `figures::forward_by` meets its contract: the lead of a code, if the direction is forward.
 -- Assumes nothing.
-use Rattle.std.proofs.Common.{Bool, cond, sym, ap, ◌∙◌, rules}
+use Rattle.std.proofs.Common.{Bool, cond, sym, ap, ◌∙◌}
 use Rattle.typesetter.specs.Code.{code_of}
 use Rattle.figures.specs.Figures.{lead_in}
 use Rattle.figures.proofs.forward_by.Goals as goal

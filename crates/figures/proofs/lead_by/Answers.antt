@@ -1,6 +1,6 @@
 -- `figures::lead_by` meets its contract: the table at all 256 codes.
 -- Assumes nothing.
-use Rattle.std.proofs.Common.{◌-◌, ◌%◌, Bool, cond, sym, ap, ◌∙◌, rules, eq-eqb, ne_eqb}
+use Rattle.std.proofs.Common.{◌-◌, ◌%◌, Bool, cond, sym, ap, ◌∙◌, eq-eqb, ne_eqb}
 use Rattle.figures.specs.LeadLaws.{lead_at_lem}
 use Rattle.figures.proofs.lead_by.Goals as goal
 

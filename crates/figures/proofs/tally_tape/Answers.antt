@@ -1,6 +1,6 @@
 -- `figures::tally_tape` meets its contract: 1 over the whole tape, then 50, and then the tape counted from the start of its machine.
 -- Assumes nothing.
-use Rattle.std.proofs.Common.{◌≡◌, ℕ, List, sym, refl, ap, ◌∙◌, subst, lit≤, rules}
+use Rattle.std.proofs.Common.{◌≡◌, ℕ, List, sym, refl, ap, ◌∙◌, subst, lit≤}
 use Rattle.octets.specs.Answer.{tape_too_long, no_machine}
 use Rattle.typesetter.specs.declared.code.Machine.TheVariants.{Four, Eight}
 use Rattle.typesetter.specs.declared.machine.State.{State}
