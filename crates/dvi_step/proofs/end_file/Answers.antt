@@ -3,7 +3,6 @@
 use mathlib.Core.Path.{◌≡◌, sym, ap, ◌∙◌}
 use mathlib.Core.Bool.{true}
 use Prim.Native.Nat.{◌+◌}
-use borrow.Author.Rules.{rules}
 use lib.IntN.{ℤ}
 use lib.ListN.{drop}
 use lib.Signed.{non_neg}
@@ -31,4 +30,4 @@ pub returns-then-is_postamble : goal.returns-then-is_postamble
 returns-then-is_postamble c ws l = end_good ws _ _ _ (after-page (goal.at.returns-then-is_postamble c).Else-last-lt0) (tested (goal.at.returns-then-is_postamble c).After-is_postamble ∙ c.if-is_postamble.true)
 
 pub returns : goal.returns
-returns c ws l = end_bad ws _ _ _ (after-page c.before.before) (tested c.before ∙ c.if-is_postamble.false)
+returns c ws l = end_bad ws _ _ _ (after-page (goal.at.returns c).Else-last-lt0) (tested (goal.at.returns c).After-is_postamble ∙ c.if-is_postamble.false)

@@ -1,7 +1,6 @@
 -- `dvi_step::in_page` meets its contract: the command is decoded, its effect taken, and the step made of it.
 -- Assumes nothing.
 use mathlib.Core.Path.{sym, ap, ◌∙◌}
-use borrow.Author.Rules.{rules}
 use lib.IntN.{ℤ}
 use Rattle.integers.specs.Bits.{plain}
 use Rattle.dvi.specs.File.{after_effect, in_page, step}

@@ -1,15 +1,12 @@
 -- `dvi_step::postamble::are_definitions` meets its contract. The definitions from j decide the whole; the measure is what is left.
 -- Assumes nothing.
-use mathlib.Core.Path.{◌≡◌, refl, sym, ap, ◌∙◌, subst}
-use Prim.Native.Nat.{◌-◌, ◌≤◌}
+use mathlib.Core.Path.{refl, sym, ap, ◌∙◌, subst}
 use native.Mathlib.Omega.{arith}
-use borrow.Author.Rules.{rules}
 use lib.IntN.{negsuc}
-use lib.ListN.{length, drop}
+use lib.ListN.{length}
 use mir.Syntax.{w32}
 use mir.Val.{of_z}
 use Rattle.integers.specs.Bits.{same_bits}
-use Rattle.dvi.specs.Postamble.{at_id, definitions}
 use Rattle.dvi_step.specs.Postamble.{after_name, FoundIn}
 use Rattle.dvi_step.specs.declared.postamble.Found.{Found}
 use Rattle.dvi_step.specs.declared.postamble.Found.TheVariants.{At}

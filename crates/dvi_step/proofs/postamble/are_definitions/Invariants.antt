@@ -1,17 +1,7 @@
-use mathlib.Core.Path.{◌≡◌, refl, sym, ap, ◌∙◌, subst}
+use mathlib.Core.Path.{◌≡◌}
 use Prim.Native.Nat.{◌-◌, ◌≤◌}
-use native.Mathlib.Omega.{arith}
-use borrow.Author.Rules.{rules}
-use lib.IntN.{negsuc}
 use lib.ListN.{length, drop}
-use mir.Syntax.{w32}
-use mir.Val.{of_z}
-use Rattle.integers.specs.Bits.{same_bits}
 use Rattle.dvi.specs.Postamble.{at_id, definitions}
-use Rattle.dvi_step.specs.Postamble.{after_name, FoundIn}
-use Rattle.dvi_step.specs.declared.postamble.Found.{Found}
-use Rattle.dvi_step.specs.declared.postamble.Found.TheVariants.{At}
-use Rattle.dvi_step.proofs.Postambles.{ids_short, ids_end, ids_more}
 use Rattle.dvi_step.proofs.postamble.are_definitions.Given as goal
 
 abbrev pub invariant-loop-j : goal.invariant-loop-j

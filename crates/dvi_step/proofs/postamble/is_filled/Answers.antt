@@ -1,10 +1,7 @@
 -- `dvi_step::postamble::is_filled` meets its contract. What is left decides the whole; the measure is its length.
 -- Assumes nothing.
-use mathlib.Core.Path.{◌≡◌, refl, sym, ◌∙◌}
-use Prim.Native.Nat.{◌-◌, ◌≤◌}
+use mathlib.Core.Path.{refl, sym, ◌∙◌}
 use native.Mathlib.Omega.{arith}
-use lib.ListN.{length, drop}
-use Rattle.dvi.specs.Postamble.{all223}
 use Rattle.dvi_step.proofs.Postambles.{fill_more, fill_not, fill_none}
 use Rattle.dvi_step.proofs.postamble.is_filled.Goals as goal
 

@@ -1,9 +1,7 @@
-use mathlib.Core.Path.{◌≡◌, refl, sym, ◌∙◌}
+use mathlib.Core.Path.{◌≡◌}
 use Prim.Native.Nat.{◌-◌, ◌≤◌}
-use native.Mathlib.Omega.{arith}
 use lib.ListN.{length, drop}
 use Rattle.dvi.specs.Postamble.{all223}
-use Rattle.dvi_step.proofs.Postambles.{fill_more, fill_not, fill_none}
 use Rattle.dvi_step.proofs.postamble.is_filled.Given as goal
 
 abbrev pub invariant-loop-j : goal.invariant-loop-j

@@ -2,7 +2,6 @@
 -- Assumes nothing.
 use mathlib.Core.Path.{◌≡◌, sym, ap, ◌∙◌}
 use native.Mathlib.Omega.{arith}
-use borrow.Author.Rules.{rules}
 use lib.IntN.{pos}
 use lib.ListN.{drop, length-drop}
 use lib.Seq.{drop-drop, get_or-drop}
@@ -47,4 +46,4 @@ returns c =
     let n = length-drop a.i s in
     c.is_filled.ensures
     ∙ ap all223 (sym (drop-drop 5 a.i s))
-    ∙ trailer_fill a.pst (drop a.i s) (omega arith) (offset-is c.before.before.before) (get_or-drop a.i s 4 0 ∙ c.if-s-i-ne0.false)
+    ∙ trailer_fill a.pst (drop a.i s) (omega arith) (offset-is (goal.at.returns c).Else-offset-right) (get_or-drop a.i s 4 0 ∙ c.if-s-i-ne0.false)

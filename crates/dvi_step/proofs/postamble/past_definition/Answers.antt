@@ -2,7 +2,6 @@
 -- Assumes nothing.
 use mathlib.Core.Path.{◌∙◌}
 use native.Mathlib.Omega.{arith}
-use borrow.Author.Rules.{rules}
 use lib.ListN.{length}
 use Rattle.dvi_step.proofs.Postambles.{quote_short, quote_past, within_more}
 use Rattle.dvi_step.proofs.postamble.past_definition.Goals as goal

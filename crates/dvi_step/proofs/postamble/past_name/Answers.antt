@@ -1,10 +1,8 @@
 -- `dvi_step::postamble::past_name` meets its contract. The name is read as far as j; the measure is what is left.
 -- Assumes nothing.
-use mathlib.Core.Path.{◌≡◌, refl, ◌∙◌}
-use Prim.Native.Nat.{ℕ, ◌-◌, ◌≤◌}
+use mathlib.Core.Path.{refl, ◌∙◌}
 use native.Mathlib.Omega.{arith}
-use lib.ListN.{length, drop}
-use Rattle.dvi.specs.Postamble.{in_name, definitions}
+use Rattle.dvi.specs.Postamble.{in_name}
 use Rattle.dvi_step.proofs.Postambles.{name_end, name_more, part_none}
 use Rattle.dvi_step.proofs.postamble.past_name.Goals as goal
 

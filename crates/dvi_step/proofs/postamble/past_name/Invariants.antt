@@ -1,9 +1,7 @@
-use mathlib.Core.Path.{◌≡◌, refl, ◌∙◌}
+use mathlib.Core.Path.{◌≡◌}
 use Prim.Native.Nat.{ℕ, ◌-◌, ◌≤◌}
-use native.Mathlib.Omega.{arith}
 use lib.ListN.{length, drop}
 use Rattle.dvi.specs.Postamble.{in_name, definitions}
-use Rattle.dvi_step.proofs.Postambles.{name_end, name_more, part_none}
 use Rattle.dvi_step.proofs.postamble.past_name.Given as goal
 
 abbrev pub invariant-loop-j : goal.invariant-loop-j
