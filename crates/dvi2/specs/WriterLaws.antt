@@ -8,7 +8,7 @@
 --     length_pages              the length of all pages, length_commands of all commands, length_file of the file
 --     file_fits                 which a reader takes
 -- Assumes nothing.
-use Rattle.std.specs.Prelude.{◌≡◌, refl, Bool, cond, List, [], ◌∷◌, ◌++◌, ℕ, zero, suc, ◌+◌, ◌*◌, ◌-◌, ◌%◌, ◌≤◌, ◌<◌, ltb, eqb, ℤ, pos, ◌-ℤ◌, length}
+use Rattle.std.specs.Prelude.{◌≡◌, refl, Bool, cond, List, [], ◌∷◌, ◌++◌, ℕ, zero, suc, ◌+◌, ◌*◌, ◌%◌, ◌≤◌, ◌<◌, ltb, eqb, ℤ, pos, ◌-ℤ◌, length}
 use Rattle.std.proofs.Common.{sym, ap, ◌∙◌, append_assoc, append-nil, arith, ltb-true, ltb-false, length-append}
 use Rattle.std.proofs.Math.Option.{Option, none, some}
 use Rattle.std.specs.Int.Signed.{mag}
@@ -203,6 +203,8 @@ unfolding dvi2_file
 length_file is = rw (length-append, length_223 (fillers (length (command_bytes is))))
 
 pub file_fits : (is : List Item) → length is ≤ max_items → length (dvi2_file is) ≤ max_dvi2
-file_fits is h =
-    rw (length_file is)
-    (omega (arith, (fillers_range (length (command_bytes is))).1.0, length_commands is, items_bytes_most first_writing is, used_fonts_most 120 (characters_of is)))
+unfolding fillers
+file_fits is h = rw (length_file is) (omega (arith, few, length_commands is, items_bytes_most first_writing is, used_fonts_most 120 (characters_of is)))
+  where
+    few : fillers (length (command_bytes is)) ≤ 7
+    few = omega arith
