@@ -1,7 +1,6 @@
 -- `running_piece::fed` meets its contract: by the phase.
 -- Assumes nothing.
 use mathlib.Core.Path.{refl}
-use borrow.Author.Rules.{rules}
 use lib.ListN.{length}
 use Rattle.running.specs.RunningLaws.{feed_phase, leaves_same}
 use Rattle.running.proofs.Replies.{refuses}

@@ -5,7 +5,6 @@ use mathlib.Core.Bool.{true}
 use mathlib.Core.List.{List}
 use Prim.Native.Nat.{ℕ, ◌+◌, ◌≤◌, ◌<◌}
 use native.Mathlib.Omega.{arith}
-use borrow.Author.Rules.{rules}
 use lib.ListN.{length}
 use Rattle.tape.specs.Tape.{max_tape}
 use Rattle.running.specs.declared.Running.{Running}
@@ -34,19 +33,21 @@ overflow_sub-total c = omega (arith, (sound_tape (tape c) (sound c)).short)
 
 pub returns-then-total-piece : goal.returns-then-total-piece
 returns-then-total-piece c =
-    let long : max_tape < (tape (goal.at.returns-then-total-piece c).Then-is_sound).total + length (piece (goal.at.returns-then-total-piece c).Then-is_sound) = omega (arith, c.if-total-piece.true, (sound_tape (tape (goal.at.returns-then-total-piece c).Then-is_sound) (sound (goal.at.returns-then-total-piece c).Then-is_sound)).short) in
-    fails (tape (goal.at.returns-then-total-piece c).Then-is_sound) (feed_long (tape (goal.at.returns-then-total-piece c).Then-is_sound) (piece (goal.at.returns-then-total-piece c).Then-is_sound) (room (goal.at.returns-then-total-piece c).Then-is_sound) (sound (goal.at.returns-then-total-piece c).Then-is_sound) long) c.failing.ensures refl
+    let k = (goal.at.returns-then-total-piece c).Then-is_sound in
+    let long : max_tape < (tape k).total + length (piece k) = omega (arith, c.if-total-piece.true, (sound_tape (tape k) (sound k)).short) in
+    fails (tape k) (feed_long (tape k) (piece k) (room k) (sound k) long) c.failing.ensures refl
 
 -- within the limit
-fits : (e : Else-total-piece) → (tape e.before).total + length (piece e.before) ≤ max_tape
-fits e = omega (arith, e.if-total-piece.false, (sound_tape (tape (record { before = e.before.before; type_inv = record { out = e.type_inv.out; piece = e.type_inv.piece } })) (sound (record { before = e.before.before; type_inv = record { out = e.type_inv.out; piece = e.type_inv.piece } }))).short)
+fits : (e : Else-total-piece) → e.args.tape.total + length e.args.piece.now ≤ max_tape
+fits e = omega (arith, e.if-total-piece.false, (sound_tape e.args.tape (sym e.is_sound.ensures ∙ e.if-is_sound.true)).short)
 
 pub feed_within-requires : goal.feed_within-requires
 feed_within-requires c = (sound (goal.at.feed_within-requires c).Then-is_sound, fits (goal.at.feed_within-requires c).Else-total-piece)
 
 pub returns-else-total-piece : goal.returns-else-total-piece
 returns-else-total-piece c =
-    leaves_same (feed_fits (tape (goal.at.returns-else-total-piece c).Then-is_sound) (piece (goal.at.returns-else-total-piece c).Then-is_sound) (room (goal.at.returns-else-total-piece c).Then-is_sound) (sound (goal.at.returns-else-total-piece c).Then-is_sound) (fits (goal.at.returns-else-total-piece c).Else-total-piece)) c.feed_within.ensures
+    let k = (goal.at.returns-else-total-piece c).Then-is_sound in
+    leaves_same (feed_fits (tape k) (piece k) (room k) (sound k) (fits (goal.at.returns-else-total-piece c).Else-total-piece)) c.feed_within.ensures
 
 pub returns-else-is_sound : goal.returns-else-is_sound
 returns-else-is_sound c =

@@ -4,9 +4,8 @@ use mathlib.Core.Path.{◌≡◌, sym, ap, ◌∙◌}
 use mathlib.Core.List.{List}
 use Prim.Native.Nat.{ℕ, ◌≤◌}
 use native.Mathlib.Omega.{arith}
-use borrow.Author.Rules.{rules}
 use lib.ListN.{length, take, drop}
-use lib.Seq.{sets, take_at, length-take-le}
+use lib.Seq.{sets, take_at}
 use Rattle.octets.specs.Write.{sets_start}
 use Rattle.galley_file.specs.declared.form.Form.TheVariants.{New}
 use Rattle.galley_file.specs.declared.item.Item.{Item}
@@ -37,12 +36,6 @@ wrote c =
 pub pass-requires : goal.pass-requires
 pass-requires c =
     record { sound = ((sound_tape c.args.tape c.requires.tape_value.0).state_sound, c.requires.tape_value.1); tape_in_bounds = λ _. omega (arith, c.requires.needed_value.0, c.requires.needed_value.1) }
-
-pub slice_bounds-with_fields-end : goal.slice_bounds-with_fields-end
-slice_bounds-with_fields-end c = search rules
-
-pub slice_bounds-with_fields-end-2 : goal.slice_bounds-with_fields-end-2
-slice_bounds-with_fields-end-2 c = sym (length-take-le _ _ (slice_bounds-with_fields-end c.before))
 
 pub with_fields-requires : goal.with_fields-requires
 with_fields-requires c = (wrote (goal.at.with_fields-requires c).After-pass).1
