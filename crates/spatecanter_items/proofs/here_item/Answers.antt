@@ -14,9 +14,8 @@ use Rattle.spatecanter_items.proofs.here_item.Goals as goal
 
 pub returns-in-Placed : goal.returns-in-Placed
 returns-in-Placed c =
-    let i = c.i-1 in
-    let g = i.given.0.0 in
-    let e = c.in-Is.is ∙ ap Is i.given.1 in
+    let g = c.in-Placed.c in
+    let e = c.in-Is.is ∙ ap Is c.in-Placed.is in
     let x : SFits w32 g.x.0 = search rules in
     let h : SFits w32 g.height.0 = search rules in
     let f : SFits w32 (pos g.font) = omega integers in
