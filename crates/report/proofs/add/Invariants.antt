@@ -1,8 +1,7 @@
-use Rattle.std.proofs.Common.{◌≡◌, ℕ, ◌-◌, ◌≤◌, get_or, refl, ap, ◌∙◌, arith, rules}
-use Rattle.figures.specs.Figures.{Figures, sum64}
+use Rattle.std.proofs.Common.{◌≡◌, ◌-◌, ◌≤◌}
+use Rattle.figures.specs.Figures.{Figures}
 use Rattle.report.specs.Report.{amount, added}
 use Rattle.figures.specs.Counting.{Tallied}
-use Rattle.report.proofs.Entries.{added_next}
 use Rattle.report.proofs.add.Given as goal
 
 abbrev pub invariant-loop-i : goal.invariant-loop-i

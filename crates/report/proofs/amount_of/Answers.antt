@@ -1,6 +1,6 @@
 -- `report::amount_of` meets its contract: each test is the definition's.
 -- Assumes nothing.
-use Rattle.std.proofs.Common.{sym, ◌∙◌, rules}
+use Rattle.std.proofs.Common.{sym, ◌∙◌}
 use Rattle.report.proofs.Entries.{amount_tapes, amount_number, amount_other, amount_accepted, amount_refused, amount_forward, amount_backward}
 use Rattle.report.proofs.amount_of.Goals as goal
 

@@ -1,6 +1,6 @@
 -- `report::count_tape` meets its contract: 47 first, and then what the tape adds, added to each entry.
 -- Assumes nothing.
-use Rattle.std.proofs.Common.{Bool, cond, get_or, sym, ap, ◌∙◌, arith, rules, le-ltb, lt-ltb}
+use Rattle.std.proofs.Common.{Bool, cond, get_or, sym, ap, ◌∙◌, arith, le-ltb, lt-ltb}
 use Rattle.octets.specs.Answer.{accepted, refused, report_full}
 use Rattle.figures.specs.Figures.{figures_of}
 use Rattle.report.specs.Report.{amount, added, max_tapes, report_outcome, counted_in}

@@ -1,6 +1,6 @@
 -- `report::number_entry` meets its contract: the test is the definition's.
 -- Assumes nothing.
-use Rattle.std.proofs.Common.{◌+◌, Bool, cond, sym, ap, rules, eq-eqb, ne_eqb}
+use Rattle.std.proofs.Common.{◌+◌, Bool, cond, sym, ap, eq-eqb, ne_eqb}
 use Rattle.report.proofs.number_entry.Goals as goal
 
 pub returns-then-n-eq-NO_MACHINE : goal.returns-then-n-eq-NO_MACHINE
