@@ -4,9 +4,8 @@
 use mathlib.Core.Path.{◌≡◌, refl, sym, ap, ◌∙◌}
 use mathlib.Core.Bool.{true}
 use mathlib.Core.List.{List, [], ◌∷◌, ◌++◌}
-use Prim.Native.Nat.{ℕ, ◌+◌, ◌-◌, ◌≤◌}
+use Prim.Native.Nat.{ℕ, ◌+◌, ◌≤◌}
 use native.Mathlib.Omega.{arith}
-use borrow.Author.Rules.{rules}
 use lib.IntN.{ℤ}
 use lib.ListN.{length, length-append}
 use Rattle.sheet.specs.Sheet.{Mark, mark_fields}
@@ -50,24 +49,30 @@ module _ (c : After-step-r) where
   further : (t : State) (ms : List Mark) (n : ℕ) {r : Stepped} → c.step-r.result ≡ r → step_of r entries ≡ go_on (state_of t entries) ms n → Further t ms n
   further t ms n e f = standing_next standing c.loop-at-test.true entries t ms n (c.step-r.auto.entries ∙ standing.whole) (stepped e ∙ f)
 
-goes : (c : In-Go) → let g = c.r-in-Go-1.given.0 in Further c.before.before.before.before g.0 [] g.1.0
-goes c = further (record { before = c.before.before.before.before.before; type_inv = record { dvi = c.type_inv.dvi } }) c.in-Go.t [] c.in-Go.n c.in-Go.is refl
+-- the step of a command that goes on, and of one that shows a mark
+abbrev step-go : In-Go → After-step-r
+step-go c = record { before = c.before.before.before; type_inv = record { dvi = c.type_inv.dvi } }
 
-showing : (c : In-Show)
-    → let g = c.r-in-Show-1.given.0 in Further c.before.before.before.before g.0 (mark_of g.1.0 ∷ []) g.1.1.0
-showing c =
-    further (record { before = c.before.before.before.before.before; type_inv = record { dvi = c.type_inv.dvi } }) c.in-Show.t (mark_of c.in-Show.m ∷ []) c.in-Show.n c.in-Show.is refl
+abbrev step-show : In-Show → After-step-r
+step-show c = record { before = c.before.before.before; type_inv = record { dvi = c.type_inv.dvi } }
+
+goes : (c : In-Go) → Further (step-go c) c.in-Go.t [] c.in-Go.n
+goes c = further (step-go c) c.in-Go.t [] c.in-Go.n c.in-Go.is refl
+
+showing : (c : In-Show) → Further (step-show c) c.in-Show.t (mark_of c.in-Show.m ∷ []) c.in-Show.n
+showing c = further (step-show c) c.in-Show.t (mark_of c.in-Show.m ∷ []) c.in-Show.n c.in-Show.is refl
 
 -- the field of the mark that is shown has room, if writing
 room : (c : In-Show) → c.args.writing ≡ true
-    → length (mark_fields (marks c.before.before.before.before)) + field_size (mark_of c.in-Show.m) + 7 ≤ length c.args.out.now
+    → length (mark_fields (marks (step-show c))) + field_size (mark_of c.in-Show.m) + 7 ≤ length c.args.out.now
 room c w =
+    let ms = marks (step-show c) in
     let m = mark_of c.in-Show.m in
     omega (
       arith,
-      shown_room (marks (record { before = c.before.before.before.before.before; type_inv = record { dvi = c.type_inv.dvi } }) ++ (m ∷ [])) _ (showing c).so_far (c.requires.roomy w),
-      ap length (mark_fields_append (marks (record { before = c.before.before.before.before.before; type_inv = record { dvi = c.type_inv.dvi } })) (m ∷ [])),
-      length-append (mark_fields (marks (record { before = c.before.before.before.before.before; type_inv = record { dvi = c.type_inv.dvi } }))) (mark_fields (m ∷ [])),
+      shown_room (ms ++ (m ∷ [])) _ (showing c).so_far (c.requires.roomy w),
+      ap length (mark_fields_append ms (m ∷ [])),
+      length-append (mark_fields ms) (mark_fields (m ∷ [])),
       ap length (one_field m),
       length_mark_field m,
     )
@@ -128,7 +133,7 @@ loop-at-preserved c =
     (_, (showing (goal.at.loop-at-preserved c).In-Show, filled_mark (filled (goal.at.loop-at-preserved c).After-step-r) _ (mark_of c.in-Show.m) (omega arith) p.ensures p.auto.out))
 
 pub show_end-requires : goal.show_end-requires
-show_end-requires c κs w =
+show_end-requires c w =
     omega (arith, shown_room (marks (goal.at.show_end-requires c).After-step-r) _ (standing (goal.at.show_end-requires c).After-step-r).so_far (c.requires.roomy w), (filled (goal.at.show_end-requires c).After-step-r).put.place, (filled (goal.at.show_end-requires c).After-step-r).same)
 
 pub overflow_add-result : goal.overflow_add-result
