@@ -1,6 +1,5 @@
 -- `punch_codes::item::flash_for` meets its contract.
 -- Assumes nothing.
-use borrow.Author.Rules.{rules}
 use borrow.Author.Tests.{lt-ltb, le-ltb}
 use Rattle.punch_codes.specs.Codes.{flash_for}
 use Rattle.punch_codes.proofs.item.flash_for.Goals as goal

@@ -3,7 +3,6 @@
 use mathlib.Core.Path.{sym, ap, subst}
 use mathlib.Core.List.{[], ◌∷◌, ◌++◌}
 use Prim.Native.Nat.{ℕ, ◌<◌}
-use borrow.Author.Rules.{rules}
 use Rattle.typesetter.specs.declared.machine.State.{State}
 use Rattle.typesetter.specs.Sound.{Sound}
 use Rattle.punch_codes.specs.Codes.{flash_for, setting_codes, moving_codes}

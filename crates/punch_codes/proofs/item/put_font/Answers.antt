@@ -2,7 +2,6 @@
 -- Assumes nothing.
 use mathlib.Core.List.{List, ◌++◌}
 use Prim.Native.Nat.{ℕ}
-use borrow.Author.Rules.{rules}
 use Rattle.typesetter.specs.declared.machine.Modes.{Modes}
 use Rattle.punch_codes.specs.Codes.{switch_codes, font_codes}
 use Rattle.octets.specs.Write.{put_then}

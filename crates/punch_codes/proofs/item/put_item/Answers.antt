@@ -2,7 +2,6 @@
 -- Assumes nothing.
 use mathlib.Core.Path.{sym, ap, ◌∙◌}
 use mathlib.Core.List.{[], ◌∷◌}
-use borrow.Author.Rules.{rules}
 use Rattle.measure.specs.Place.{height_end}
 use Rattle.galley_file.specs.Item.{valid_item}
 use Rattle.punch_codes.specs.Codes.{start_codes, item_codes, state_after}

@@ -1,7 +1,6 @@
 -- `punch_codes::item::put_start` meets its contract.
 -- Assumes nothing.
 use mathlib.Core.List.{[], ◌∷◌}
-use borrow.Author.Rules.{rules}
 use Rattle.octets.specs.Write.{put_then}
 use Rattle.octets.specs.Space.{space_first, space_then}
 use Rattle.punch_codes.proofs.item.put_start.Goals as goal

@@ -1,9 +1,7 @@
-use mathlib.Core.Path.{◌≡◌, refl, ap, ◌∙◌}
+use mathlib.Core.Path.{◌≡◌}
 use Prim.Native.Nat.{◌-◌, ◌≤◌}
-use native.Mathlib.Omega.{arith}
-use lib.ListN.{length, replicate}
-use lib.Seq.{sets, length-sets}
-use Rattle.punch_codes.proofs.Sends.{fill_more}
+use lib.ListN.{replicate}
+use lib.Seq.{sets}
 use Rattle.punch_codes.proofs.put.fill.Given as goal
 
 abbrev pub invariant-loop-i : goal.invariant-loop-i

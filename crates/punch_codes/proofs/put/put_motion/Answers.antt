@@ -1,7 +1,6 @@
 -- `punch_codes::put::put_motion` meets its contract: the direction, and the distance of the two places.
 -- Assumes nothing.
 use mathlib.Core.Path.{◌≡◌, sym, ap, ◌∙◌}
-use borrow.Author.Rules.{rules}
 use lib.IntN.{nat_abs, ◌-ℤ◌}
 use Rattle.integers.specs.Bits.{plain}
 use Rattle.punch_codes.specs.Codes.{switch_codes, distance_codes, motion_codes}

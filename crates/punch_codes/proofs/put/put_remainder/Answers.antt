@@ -1,7 +1,6 @@
 -- `punch_codes::put::put_remainder` meets its contract.
 -- Assumes nothing.
 use mathlib.Core.Path.{sym}
-use borrow.Author.Rules.{rules}
 use Rattle.octets.specs.Write.{put_named, put_none}
 use Rattle.octets.specs.Space.{space_named}
 use Rattle.punch_codes.proofs.Sends.{remainder_none, remainder_one}

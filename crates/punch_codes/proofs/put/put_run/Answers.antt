@@ -3,7 +3,6 @@
 use mathlib.Core.Path.{sym, ap}
 use Prim.Native.Nat.{◌+◌}
 use native.Mathlib.Omega.{arith}
-use borrow.Author.Rules.{rules}
 use lib.ListN.{length-replicate}
 use Rattle.octets.specs.Write.{put_written, put_counted}
 use Rattle.punch_codes.proofs.put.put_run.Goals as goal

@@ -2,7 +2,6 @@
 -- Assumes nothing.
 use mathlib.Core.Path.{sym}
 use mathlib.Core.Bool.{true, false}
-use borrow.Author.Rules.{rules}
 use Rattle.punch_codes.specs.Codes.{switch_codes}
 use Rattle.octets.specs.Write.{put_named, put_none}
 use Rattle.octets.specs.Space.{space_named}

@@ -1,7 +1,6 @@
 -- `punch_codes::setting::at_begin` meets its contract.
 -- Assumes nothing.
 use mathlib.Core.Path.{ap, ◌∙◌}
-use borrow.Author.Rules.{rules}
 use Rattle.punch_codes.specs.Codes.{begun_from}
 use Rattle.punch_codes.proofs.setting.at_begin.Goals as goal
 

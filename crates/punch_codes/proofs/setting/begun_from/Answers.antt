@@ -1,7 +1,6 @@
 -- `punch_codes::setting::begun_from` meets its contract: initialize, and the carriage off the switch.
 -- Assumes nothing.
 use mathlib.Core.Path.{ap}
-use borrow.Author.Rules.{rules}
 use Rattle.typesetter.specs.declared.machine.State.{State}
 use Rattle.typesetter.specs.Machine.{origin, off_switch_at}
 use Rattle.punch_codes.proofs.setting.begun_from.Goals as goal

@@ -1,7 +1,6 @@
 -- `punch_codes::setting::set_for` meets its contract, part by part.
 -- Assumes nothing.
 use mathlib.Core.Path.{◌≡◌, ap, ◌∙◌}
-use borrow.Author.Rules.{rules}
 use Rattle.galley_file.specs.CharacterLaws.{valid_parts, x_range}
 use Rattle.galley_file.specs.Font.{is_double}
 use Rattle.punch_codes.specs.Codes.{carriage_of, carriage_for, modes_for, set_for}

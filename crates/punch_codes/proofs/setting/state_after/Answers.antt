@@ -1,7 +1,6 @@
 -- `punch_codes::setting::state_after` meets its contract: each arm is given which item it is.
 -- Assumes nothing.
 use mathlib.Core.Path.{sym, ap, ◌∙◌}
-use borrow.Author.Rules.{rules}
 use Rattle.measure.specs.Place.{height_end}
 use Rattle.galley_file.specs.Item.{valid_item}
 use Rattle.punch_codes.specs.Codes.{state_after}
