@@ -69,9 +69,9 @@ sent_since : {r : Running} {bs : List ℕ} → Sent r bs → {cs : List Call} �
 unfolding transduced start_of
 sent_since s done = same_out s
 sent_since {r} {bs} s (later {c} {cs} l ls) =
-    subst (Sent (tape_after (given r c).tape cs)) (append_assoc bs (bytes_of (given r c).result) (output (given r c).tape cs)) (sent_since (sent_later s l) ls)
+    subst (Sent (tape_after (given r c).tape cs)) (append_assoc bs (bytes_of (given r c).result) (output (given r c).tape cs)) (sent_since {r = (given r c).tape} (sent_later s l) ls)
 sent_since {r} {bs} s (wrong {machine} {cs} n ls) =
-    subst (λ (x : Replied). Sent (tape_after x.tape cs) (bs ++ (bytes_of x.result ++ output x.tape cs))) (sym (ap (start_on r) n)) (sent_since s ls)
+    subst (λ (x : Replied). Sent (tape_after x.tape cs) (bs ++ (bytes_of x.result ++ output x.tape cs))) (sym (ap (start_on r) n)) (sent_since {r = r} s ls)
 
 pub record ExtentsOut (e : Extents) (out : List ℕ) : Type 0 where
   pub items : List Item

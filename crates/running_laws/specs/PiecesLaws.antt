@@ -67,7 +67,7 @@ module _ (kind : Machine) where
       let first : length (xs ++ p.codes) ≤ max_tape = omega (arith, length-append (xs ++ p.codes) (whole_tape ps), all) in
       let f = fed kind s p.codes p.room first roomy in
       let next = feed_of r p.codes p.room in
-      let k = fed_all f.stands ps all rest in
+      let k = fed_all {r = next.tape} {xs = xs ++ p.codes} f.stands ps all rest in
       record {
         stands = subst (Stands kind (tape_after next.tape (pieces ps))) q k.stands;
         out = λ {u} h.
