@@ -3,7 +3,6 @@
 use mathlib.Core.Path.{◌≡◌, ap, ◌∙◌}
 use Prim.Native.Nat.{◌≤◌, ◌<◌}
 use native.Mathlib.Omega.{arith}
-use borrow.Author.Rules.{rules}
 use borrow.Author.Tests.{lt-ltb, le-ltb}
 use lib.Signed.{mag}
 use Rattle.integers.specs.Bits.{plain}
@@ -24,5 +23,5 @@ returns-then-magnitude-lt128 c =
 pub returns : goal.returns
 unfolding parameter_width
 returns c =
-    let h : 128 ≤ mag c.args.z = omega (arith, size (goal.at.returns-then-magnitude-lt128 c).After-magnitude, c.if-magnitude-lt128.false) in
+    let h : 128 ≤ mag c.args.z = omega (arith, size (goal.at.returns c).After-magnitude, c.if-magnitude-lt128.false) in
     (rw (le-ltb _ _ h) (c.signed_width.ensures.0 ∙ ap octets.width_of (plain c.ranges.z)), omega (arith, c.signed_width.ensures.1))

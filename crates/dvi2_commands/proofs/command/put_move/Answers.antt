@@ -3,7 +3,6 @@
 use mathlib.Core.Path.{◌≡◌, refl, sym, ap, ◌∙◌}
 use Prim.Native.Nat.{◌+◌}
 use native.Mathlib.Omega.{arith}
-use borrow.Author.Rules.{rules}
 use Rattle.integers.specs.Bits.{plain}
 use Rattle.octets.specs.Write.{then, named, room_after}
 use Rattle.dvi2.specs.Writer.{parameter_width}
@@ -33,4 +32,4 @@ put_signed-requires c =
 pub returns : goal.returns
 returns c =
     put_if_room_written
-    (named (move_some c.args.m c.ranges.m c.args.op c.if-m-eq0.false _ (is-width c.before.before.before.before.before.before.before.before.before)) (then c.put_byte-to.ensures c.put_signed.ensures))
+    (named (move_some c.args.m c.ranges.m c.args.op c.if-m-eq0.false _ (is-width (goal.at.returns c).After-parameter_width-width)) (then c.put_byte-to.ensures c.put_signed.ensures))

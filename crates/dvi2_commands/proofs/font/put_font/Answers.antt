@@ -3,7 +3,6 @@
 use mathlib.Core.Path.{sym, ap, ◌∙◌}
 use mathlib.Core.Bool.{Bool}
 use native.Mathlib.Omega.{arith}
-use borrow.Author.Rules.{rules}
 use Rattle.dvi2.specs.Writer.{font_commands}
 use Rattle.dvi2.specs.WriterLaws.{length_definition}
 use Rattle.octets.specs.PutIfRoomLaws.{put_if_room_none, put_if_room_then, put_if_room_named}

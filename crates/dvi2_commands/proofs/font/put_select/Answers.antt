@@ -1,6 +1,5 @@
 -- `dvi2_commands::font::put_select` meets its contract: its test is that of the definition.
 -- Assumes nothing.
-use borrow.Author.Rules.{rules}
 use borrow.Author.Tests.{lt-ltb, le-ltb}
 use Rattle.dvi2.specs.Writer.{selects}
 use Rattle.dvi2_commands.proofs.font.put_select.Goals as goal

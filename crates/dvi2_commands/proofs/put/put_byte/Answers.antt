@@ -1,7 +1,6 @@
 -- `dvi2_commands::put::put_byte` meets its contract.
 -- Assumes nothing.
 use mathlib.Core.Path.{refl}
-use borrow.Author.Rules.{rules}
 use Rattle.octets.specs.PutIfRoomLaws.{put_if_room_written, put_if_room_counted}
 use Rattle.dvi2_commands.proofs.put.put_byte.Goals as goal
 

@@ -1,7 +1,6 @@
 -- `dvi2_commands::put::put_two` meets its contract.
 -- Assumes nothing.
 use mathlib.Core.Path.{refl}
-use borrow.Author.Rules.{rules}
 use Rattle.octets.specs.Write.{then}
 use Rattle.octets.specs.PutIfRoomLaws.{put_if_room_written, put_if_room_counted}
 use Rattle.dvi2_commands.proofs.put.put_two.Goals as goal
