@@ -1,7 +1,6 @@
 -- `dvi2_frame::bop` meets its contract: bop, written alone into its array.
 -- Assumes nothing.
 use mathlib.Core.Path.{ap, ◌∙◌}
-use borrow.Author.Rules.{rules}
 use Rattle.integers.specs.Bits.{plain}
 use Rattle.octets.specs.PutIfRoomLaws.{put_if_room_whole}
 use Rattle.dvi2.specs.Writer.{bop_bytes}

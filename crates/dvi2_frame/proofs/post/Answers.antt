@@ -1,6 +1,5 @@
 -- `dvi2_frame::post` meets its contract: post, written alone into its array.
 -- Assumes nothing.
-use borrow.Author.Rules.{rules}
 use Rattle.octets.specs.PutIfRoomLaws.{put_if_room_whole}
 use Rattle.dvi2_frame.specs.FrameLaws.{length_post}
 use Rattle.dvi2_frame.proofs.post.Goals as goal

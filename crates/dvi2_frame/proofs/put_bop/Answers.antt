@@ -1,7 +1,6 @@
 -- `dvi2_frame::put_bop` meets its contract: one write after the other, or none.
 -- Assumes nothing.
 use mathlib.Core.Path.{refl, ap}
-use borrow.Author.Rules.{rules}
 use Rattle.integers.specs.Bits.{plain}
 use Rattle.octets.specs.Octets.{bytes, signed_bytes}
 use Rattle.octets.specs.Write.{then, named, room_after}

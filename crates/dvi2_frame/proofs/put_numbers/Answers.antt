@@ -4,7 +4,6 @@ use mathlib.Core.Path.{refl}
 use mathlib.Core.List.{◌++◌}
 use Prim.Native.Nat.{◌%◌}
 use native.Mathlib.Omega.{arith}
-use borrow.Author.Rules.{rules}
 use Rattle.integers.specs.Bits.{plain}
 use Rattle.octets.specs.Octets.{bytes, signed_bytes}
 use Rattle.octets.specs.Write.{then, named, room_after}

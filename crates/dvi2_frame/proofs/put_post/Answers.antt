@@ -1,6 +1,5 @@
 -- `dvi2_frame::put_post` meets its contract: three times the greatest height, and the farthest x.
 -- Assumes nothing.
-use borrow.Author.Rules.{rules}
 use lib.IntN.{pos, ◌*ℤ◌}
 use mir.Syntax.{w32}
 use mir.Val.{SFits}

@@ -1,7 +1,6 @@
 -- `dvi2_frame::put_preamble` meets its contract: one write after the other, or none.
 -- Assumes nothing.
 use mathlib.Core.Path.{refl}
-use borrow.Author.Rules.{rules}
 use Rattle.octets.specs.Octets.{bytes}
 use Rattle.octets.specs.Write.{then, room_after}
 use Rattle.dvi2.specs.Writer.{unit_bytes, preamble_bytes}

@@ -2,7 +2,6 @@
 -- Assumes nothing.
 use mathlib.Core.Path.{refl}
 use native.Mathlib.Omega.{arith}
-use borrow.Author.Rules.{rules}
 use Rattle.octets.specs.Octets.{bytes}
 use Rattle.octets.specs.Write.{then, room_after}
 use Rattle.dvi2.specs.Writer.{unit_bytes}
