@@ -1,6 +1,5 @@
 -- `punch::pass` meets its contract: the start, the items and stop.
 -- Assumes nothing.
-use borrow.Author.Rules.{rules}
 use Rattle.punch.proofs.Passes.{start_space, items_space, stop_space, all_put}
 use Rattle.punch.proofs.pass.Goals as goal
 

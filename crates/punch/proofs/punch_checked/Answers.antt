@@ -2,7 +2,6 @@
 -- Assumes nothing.
 use native.Mathlib.Nat.{suc-ne-zero}
 use native.Mathlib.Omega.{arith}
-use borrow.Author.Rules.{rules}
 use Rattle.octets.specs.Write.{put_length}
 use Rattle.punch.proofs.Passes.{punch_long, punch_no_room, punch_room}
 use Rattle.punch.proofs.punch_checked.Goals as goal

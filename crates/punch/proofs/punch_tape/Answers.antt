@@ -1,7 +1,6 @@
 -- `punch::punch_tape` meets its contract: what the check refuses is refused, and a checked galley is punched; reading its tape gives the galley.
 -- Assumes nothing.
 use mathlib.Core.Path.{refl, sym, ap, ◌∙◌}
-use borrow.Author.Rules.{rules}
 use lib.ListN.{length}
 use Rattle.octets.specs.Octets.{Bytes}
 use Rattle.octets.specs.Answer.{outcome_of}
@@ -16,7 +15,7 @@ punch_checked-requires c = sym (ap outcome_of c.in-Accepted.is) ∙ c.check_gall
 pub returns-in-Refused : goal.returns-in-Refused
 returns-in-Refused c =
     let a = c.args in
-    let k : Bytes a.galley.now = λ i. (c.shared_slice_known-1.given i).fits in
+    let k : Bytes a.galley.now = λ i. (c.type_inv.galley i).fits in
     let q = punch_refused a.galley.now (length a.tape.now) _ _ (sym (ap outcome_of c.in-Refused.is) ∙ c.check_galley-checked.ensures) in
     let g = gives q refl refl in
     record { gives_tape = g; reads_galley = round_trip k g }
@@ -24,5 +23,5 @@ returns-in-Refused c =
 pub returns-in-Accepted : goal.returns-in-Accepted
 returns-in-Accepted c =
     let g = c.punch_checked.ensures in
-    let k : Bytes c.args.galley.now = λ i. (c.shared_slice_known-1.given i).fits in
+    let k : Bytes c.args.galley.now = λ i. (c.type_inv.galley i).fits in
     record { gives_tape = g; reads_galley = round_trip k g }

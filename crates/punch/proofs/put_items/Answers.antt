@@ -1,13 +1,12 @@
 -- `punch::put_items` meets its contract. The codes of the items behind are put, and the machine is in the state after them; what is
 -- left of the galley falls.
 -- Assumes nothing.
-use Prim.Native.Nat.{◌+◌, ◌-◌, ◌≤◌}
+use Prim.Native.Nat.{◌+◌, ◌≤◌}
 use native.Mathlib.Omega.{arith}
-use borrow.Author.Rules.{rules}
 use lib.ListN.{length}
 use Rattle.galley_file.specs.declared.form.Form.TheVariants.{New}
 use Rattle.galley_file.specs.ItemLaws.{size_least}
-use Rattle.punch.proofs.Passes.{Punching, short_galley, punching_start, punching_inside, punching_whole, punching_valid, punching_size, punching_space, punching_next, punching_end}
+use Rattle.punch.proofs.Passes.{short_galley, punching_start, punching_inside, punching_whole, punching_valid, punching_size, punching_space, punching_next, punching_end}
 use Rattle.punch.proofs.put_items.Goals as goal
 use Rattle.punch.proofs.put_items.Goals.{After-item_size-at}
 

@@ -1,10 +1,6 @@
-use Prim.Native.Nat.{◌+◌, ◌-◌, ◌≤◌}
-use native.Mathlib.Omega.{arith}
-use borrow.Author.Rules.{rules}
+use Prim.Native.Nat.{◌-◌}
 use lib.ListN.{length}
-use Rattle.galley_file.specs.declared.form.Form.TheVariants.{New}
-use Rattle.galley_file.specs.ItemLaws.{size_least}
-use Rattle.punch.proofs.Passes.{Punching, short_galley, punching_start, punching_inside, punching_whole, punching_valid, punching_size, punching_space, punching_next, punching_end}
+use Rattle.punch.proofs.Passes.{Punching}
 use Rattle.punch.proofs.put_items.Given as goal
 
 abbrev pub invariant-loop-at : goal.invariant-loop-at
