@@ -8,19 +8,20 @@ use lib.ListN.{length}
 use lib.Seq.{length-take-le}
 use Rattle.octets.specs.Answer.{outcome_of}
 use Rattle.tape.specs.TapeLaws.{tape_room}
+use Rattle.galley.proofs.list.Given.{Over}
 use Rattle.galley.proofs.list.Goals as goal
 use Rattle.galley.proofs.list.Goals.{In-Accepted}
 
 -- the length accepted is at most the buffer's
-fits : (c : In-Accepted) → c.in-Accepted.length ≤ length c.read_tape-answer.new.galley
-fits c =
+fits : (g : Over) (c : In-Accepted g) → c.in-Accepted.length ≤ length c.read_tape-answer.new.galley
+fits g c =
     let r = c.read_tape-answer in
     let a = c.args in
     let h = tape_room a.tape.now 8 (length a.galley.now) c.in-Accepted.length (sym (ap outcome_of c.in-Accepted.is) ∙ r.ensures.outcome_is) in
     omega (arith, h, r.auto.galley)
 
 pub slice_bounds-write_galley-end : goal.slice_bounds-write_galley-end
-slice_bounds-write_galley-end c = fits c
+slice_bounds-write_galley-end g c = fits g c
 
 pub slice_bounds-write_galley-end-in-Accepted : goal.slice_bounds-write_galley-end-in-Accepted
-slice_bounds-write_galley-end-in-Accepted c = sym (length-take-le _ _ (fits c))
+slice_bounds-write_galley-end-in-Accepted g c = sym (length-take-le _ _ (fits g c))

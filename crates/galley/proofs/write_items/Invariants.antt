@@ -11,10 +11,11 @@ use Rattle.galley_file.specs.ItemLaws.{size_least}
 use Rattle.galley_file.specs.Galley.{items_of}
 use Rattle.galley_file.specs.GalleyLaws.{checked, read_as}
 use Rattle.galley_file.specs.Walk.{Midway, Onward, midway_start, midway_inside, midway_next, midway_whole}
+use Rattle.galley.proofs.Items.{Listed}
 use Rattle.galley.proofs.write_items.Given as goal
 
 abbrev pub invariant-loop-at : goal.invariant-loop-at
-invariant-loop-at l = Listed l.g l.at
+invariant-loop-at g l = Listed l.g l.at
 
 abbrev pub decreases-loop-at : goal.decreases-loop-at
-decreases-loop-at l = length l.g - l.at
+decreases-loop-at g l = length l.g - l.at
