@@ -22,9 +22,7 @@ use Rattle.dvi_page.specs.declared.page.Page.{Page}
 use Rattle.dvi_brackets.specs.Brackets.{bad_item, past_item, page_end, bad_run, to_pop, to_eop, first, run, item_here}
 use Rattle.dvi_brackets.specs.Brackets as B
 use Rattle.dvi_brackets.specs.Reading.{InFile, GoodItem, RoomyItem, ItemDone, run_marks, GoodRun, RoomyRun, RunDone}
-use Rattle.dvi_brackets.specs.declared.Item.{Item}
 use Rattle.dvi_brackets.specs.declared.Item.TheVariants as I
-use Rattle.dvi_brackets.specs.declared.Run.{Run}
 use Rattle.dvi_brackets.specs.declared.Run.TheVariants as R
 use Rattle.dvi_brackets.specs.BracketsLaws.{first_none, first_first, run_none, run_pop, run_bad, run_end, run_past, SoundItem, item_sound}
 

@@ -2,7 +2,6 @@
 -- Assumes nothing.
 use mathlib.Core.Path.{◌≡◌, refl, sym, ap, subst, ◌∙◌}
 use mathlib.Core.List.{[]}
-use borrow.Author.Rules.{rules}
 use lib.ListN.{length, get_or, drop}
 use Rattle.dvi.specs.Command as S
 use Rattle.dvi.specs.Command.{decode}
@@ -31,11 +30,15 @@ pub plain_effect-e-requires : goal.plain_effect-e-requires
 plain_effect-e-requires c =
     (subst InnerDecoded (decoded (goal.at.plain_effect-e-requires c).After-decode-d c.in-Whole.is) (inner_decoded (get_or c.args.s.now 0 0) (drop 1 c.args.s.now) c.requires.fact.0 c.requires.fact.1)).0
 
+-- the step that decoded
+abbrev decoding : After-plain_effect-e → After-decode-d
+decoding c = record { before = c.before.before.before; type_inv = record { s = c.type_inv.s; out = c.type_inv.out } }
+
 -- the item is that of the effect
-as-effect : (c : After-plain_effect-e) → here c.before.before.before.before (whole c.before.before.before.before) ≡ effect_item c.args.at c.in-Whole.n (effect_of c.plain_effect-e.result [])
+as-effect : (c : After-plain_effect-e) → here (decoding c) (whole (decoding c)) ≡ effect_item c.args.at c.in-Whole.n (effect_of c.plain_effect-e.result [])
 unfolding command_item
 as-effect c =
-    ap (here (record { before = c.before.before.before.before.before; type_inv = record { s = c.type_inv.s; out = c.type_inv.out } })) (decoded (record { before = c.before.before.before.before.before; type_inv = record { s = c.type_inv.s; out = c.type_inv.out } }) c.in-Whole.is) ∙ ap (effect_item c.args.at c.in-Whole.n) (sym (c.plain_effect-e.ensures []))
+    ap (here (decoding c)) (decoded (decoding c) c.in-Whole.is) ∙ ap (effect_item c.args.at c.in-Whole.n) (sym (c.plain_effect-e.ensures []))
 
 pub effect_item-requires : goal.effect_item-requires
 effect_item-requires c =

@@ -4,7 +4,6 @@ use mathlib.Core.Path.{◌≡◌, refl, sym, subst}
 use mathlib.Core.List.{[]}
 use Prim.Native.Nat.{◌+◌}
 use native.Mathlib.Omega.{arith}
-use borrow.Author.Rules.{rules}
 use Rattle.octets.specs.Answer.{entries_left}
 use Rattle.dvi_brackets.specs.Reading.{LeavesAt, LeftBy}
 use Rattle.dvi_brackets.specs.declared.Item.{Item}
