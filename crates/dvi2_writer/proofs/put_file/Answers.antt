@@ -1,6 +1,5 @@
 -- `dvi2_writer::put_file` meets its contract: the pages, the postamble, and the bytes 223.
 -- Assumes nothing.
-use borrow.Author.Rules.{rules}
 use Rattle.dvi2_writer.proofs.Passes.{few, all_valid}
 use Rattle.dvi2_writer.proofs.Results.{sized, to_small, file_is}
 use Rattle.dvi2_writer.proofs.put_file.Goals as goal

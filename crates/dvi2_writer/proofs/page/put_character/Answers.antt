@@ -3,7 +3,6 @@
 use mathlib.Core.Path.{◌≡◌, ap, ◌∙◌}
 use mathlib.Core.Bool.{Bool}
 use native.Mathlib.Omega.{arith}
-use borrow.Author.Rules.{rules}
 use Rattle.galley_file.specs.CharacterLaws.{valid_parts}
 use Rattle.dvi2.specs.Writer.{commands_of}
 use Rattle.dvi2_commands.specs.Position.{position_of}

@@ -1,14 +1,13 @@
 -- `dvi2_writer::page::put_items` meets its contract. Written are the items behind, as far as they have room, and the writing is that after them; what is left of the galley falls.
 -- Assumes nothing.
 use mathlib.Core.Path.{ap}
-use Prim.Native.Nat.{◌+◌, ◌-◌, ◌≤◌}
+use Prim.Native.Nat.{◌+◌, ◌≤◌}
 use native.Mathlib.Omega.{arith}
-use borrow.Author.Rules.{rules}
 use lib.ListN.{length}
 use Rattle.galley_file.specs.declared.form.Form.TheVariants.{New}
 use Rattle.galley_file.specs.Item.{item_size}
 use Rattle.galley_file.specs.ItemLaws.{size_least}
-use Rattle.dvi2_writer.proofs.Passes.{few, within, Printed, printed_start, printed_whole, printed_inside, printed_size, printed_asks, printed_next, printed_end}
+use Rattle.dvi2_writer.proofs.Passes.{few, within, printed_start, printed_whole, printed_inside, printed_size, printed_asks, printed_next, printed_end}
 use Rattle.dvi2_writer.proofs.page.put_items.Goals as goal
 use Rattle.dvi2_writer.proofs.page.put_items.Goals.{After-item_size-at}
 

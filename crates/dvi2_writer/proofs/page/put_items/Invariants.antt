@@ -1,12 +1,6 @@
-use mathlib.Core.Path.{ap}
-use Prim.Native.Nat.{◌+◌, ◌-◌, ◌≤◌}
-use native.Mathlib.Omega.{arith}
-use borrow.Author.Rules.{rules}
+use Prim.Native.Nat.{◌-◌}
 use lib.ListN.{length}
-use Rattle.galley_file.specs.declared.form.Form.TheVariants.{New}
-use Rattle.galley_file.specs.Item.{item_size}
-use Rattle.galley_file.specs.ItemLaws.{size_least}
-use Rattle.dvi2_writer.proofs.Passes.{few, within, Printed, printed_start, printed_whole, printed_inside, printed_size, printed_asks, printed_next, printed_end}
+use Rattle.dvi2_writer.proofs.Passes.{Printed}
 use Rattle.dvi2_writer.proofs.page.put_items.Given as goal
 
 abbrev pub invariant-loop-at : goal.invariant-loop-at

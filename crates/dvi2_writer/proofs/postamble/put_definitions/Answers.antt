@@ -2,11 +2,9 @@
 -- Assumes nothing.
 use mathlib.Core.Path.{◌≡◌, sym}
 use mathlib.Core.List.{flatten}
-use Prim.Native.Nat.{◌-◌, ◌≤◌, ◌<◌}
+use Prim.Native.Nat.{◌<◌}
 use native.Mathlib.Omega.{arith}
 use Rattle.extents.specs.FontMarks.{marked_fonts}
-use Rattle.dvi2.specs.Writer.{definition_bytes}
-use Rattle.octets.specs.PutIfRoom.{PutIfRoom}
 use Rattle.octets.specs.PutIfRoomLaws.{put_if_room_none, put_if_room_then, put_if_room_named}
 use Rattle.dvi2_writer.proofs.Postambles.{define_more, define_most}
 use Rattle.dvi2_writer.proofs.postamble.put_definitions.Goals as goal

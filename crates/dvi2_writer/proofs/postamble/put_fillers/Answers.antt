@@ -1,8 +1,7 @@
 -- `dvi2_writer::postamble::put_fillers` meets its contract. Some of the bytes 223 are written; what is left before the end falls.
 -- Assumes nothing.
-use Prim.Native.Nat.{◌-◌}
 use native.Mathlib.Omega.{arith}
-use Rattle.dvi2_writer.proofs.Postambles.{Filled, filled_start, filled_more, filled_end}
+use Rattle.dvi2_writer.proofs.Postambles.{filled_start, filled_more, filled_end}
 use Rattle.dvi2_writer.proofs.postamble.put_fillers.Goals as goal
 
 pub overflow_add-end : goal.overflow_add-end

@@ -1,6 +1,5 @@
 use Prim.Native.Nat.{◌-◌}
-use native.Mathlib.Omega.{arith}
-use Rattle.dvi2_writer.proofs.Postambles.{Filled, filled_start, filled_more, filled_end}
+use Rattle.dvi2_writer.proofs.Postambles.{Filled}
 use Rattle.dvi2_writer.proofs.postamble.put_fillers.Given as goal
 
 abbrev pub invariant-loop-to : goal.invariant-loop-to

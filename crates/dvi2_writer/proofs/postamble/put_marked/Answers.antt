@@ -2,7 +2,6 @@
 -- Assumes nothing.
 use mathlib.Core.Path.{sym, ◌∙◌}
 use mathlib.Core.List.{flatten, append-nil}
-use borrow.Author.Rules.{rules}
 use Rattle.dvi2.specs.Writer.{definition}
 use Rattle.octets.specs.PutIfRoomLaws.{put_if_room_none, put_if_room_named}
 use Rattle.dvi2_writer.proofs.postamble.put_marked.Goals as goal

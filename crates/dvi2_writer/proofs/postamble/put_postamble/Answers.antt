@@ -1,7 +1,6 @@
 -- `dvi2_writer::postamble::put_postamble` meets its contract: one run after the other.
 -- Assumes nothing.
 use native.Mathlib.Omega.{arith}
-use borrow.Author.Rules.{rules}
 use Rattle.dvi2_writer.specs.Postamble.{postamble_of}
 use Rattle.octets.specs.PutIfRoomLaws.{put_if_room_then, put_if_room_next}
 use Rattle.dvi2_frame.specs.FrameLaws.{post_most}

@@ -1,7 +1,6 @@
 -- `dvi2_writer::writing::after_character` meets its contract.
 -- Assumes nothing.
 use mathlib.Core.Path.{refl}
-use borrow.Author.Rules.{rules}
 use Rattle.galley_file.specs.CharacterLaws.{valid_parts}
 use Rattle.dvi2_writer.proofs.writing.after_character.Goals as goal
 

@@ -1,7 +1,6 @@
 -- `dvi2_writer::writing::first_writing` meets its contract.
 -- Assumes nothing.
 use mathlib.Core.Path.{refl}
-use borrow.Author.Rules.{rules}
 use Rattle.dvi2_writer.proofs.Writings.{writing_first}
 use Rattle.dvi2_writer.proofs.writing.first_writing.Goals as goal
 
