@@ -1,7 +1,7 @@
 -- A page so reached can be gone on with.
 --     page_live     a file begins so
 -- Assumes nothing.
-use Rattle.std.specs.Prelude.{◌≡◌, refl, true, List, [], ◌∷◌, ◌++◌, ℕ, ◌+◌, ◌-◌, ◌<◌, ℤ, pos, ◌-ℤ◌, length}
+use Rattle.std.specs.Prelude.{◌≡◌, refl, true, List, [], ◌∷◌, ◌++◌, ℕ, ◌<◌, ℤ, pos, ◌-ℤ◌, length}
 use Rattle.std.proofs.Common.{sym, ap, ◌∙◌, append_assoc, append-nil, arith}
 use Rattle.measure.specs.Place.{height_end}
 use Rattle.galley_file.specs.Font.{size_index, is_double}
@@ -10,12 +10,12 @@ use Rattle.galley_file.specs.declared.item.Item.{Item}
 use Rattle.galley_file.specs.declared.item.Item.TheVariants.{Placed}
 use Rattle.galley_file.specs.Character.{valid_x, valid}
 use Rattle.galley_file.specs.CharacterLaws.{parts_valid}
-use Rattle.galley_file.specs.Galley.{max_items, more}
+use Rattle.galley_file.specs.Galley.{max_items}
 use Rattle.extents.specs.FontMarks.{uses}
 use Rattle.dvi2.specs.Command.{PUT1, EOP, RIGHT1, DOWN1}
 use Rattle.dvi2.specs.Writer.{h_of, v_of, selects, font_change, move, commands_of, Writing, item_bytes, dvi2_file}
 use Rattle.dvi2_reading.specs.Beginning.{Writable, Begins}
-use Rattle.dvi2_reading.specs.PageReading.{across, Stage, ready, named, chosen, moved, lowered, PageState, is_downward}
+use Rattle.dvi2_reading.specs.PageReading.{Stage, ready, named, chosen, moved, lowered, PageState, is_downward}
 use Rattle.dvi2_reading.specs.Reading.{height_of}
 use Rattle.dvi2_reading.specs.Reached.{writing_of, open_bytes, Way, Staged, PageReached}
 use Rattle.dvi2_reading.specs.PieceLaws.{writable_more, open_more, close_bytes, file_open, thrice, height_valid, zero_valid}

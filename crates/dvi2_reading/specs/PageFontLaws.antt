@@ -2,7 +2,7 @@
 --     after_defining      a definition
 --     after_selecting     a selection
 -- Assumes nothing.
-use Rattle.std.specs.Prelude.{◌≡◌, refl, true, ◌&&◌, ℕ, ◌+◌, ◌<◌, ltb, length}
+use Rattle.std.specs.Prelude.{◌≡◌, refl, true, ◌&&◌, ℕ, ◌<◌, ltb, length}
 use Rattle.std.proofs.Common.{sym, subst, ◌∙◌, suc-ne-zero}
 use Rattle.std.proofs.Math.Path.{ap}
 use Rattle.std.proofs.Math.Bool.{false, not}
@@ -11,14 +11,14 @@ use Rattle.std.proofs.Math.Option.{Option, none, some}
 use borrow.Author.Tests.{ltb-true, eqb-true, not-true}
 use Rattle.octets.specs.FieldLaws.{both}
 use Rattle.galley_file.specs.Item.{characters_of}
-use Rattle.galley_file.specs.Galley.{max_items, more}
+use Rattle.galley_file.specs.Galley.{max_items}
 use Rattle.extents.specs.FontMarks.{uses}
 use Rattle.dvi.specs.Writer.{Position}
 use Rattle.dvi2.specs.Writer.{selects, definition, font_change, Writing}
 use Rattle.dvi2_reading.specs.PageReading.{defining, selecting, in_bytes, Stage, ready, named, chosen, moved, lowered, PageState, is_ready, is_more, is_font, may_choose, may_come}
 use Rattle.dvi2_reading.specs.Reading.{with_font, page_state_after}
 use Rattle.dvi2_reading.specs.Reached.{writing_of, open_bytes, Staged, PageReached, Reached}
-use Rattle.dvi2_reading.specs.PieceLaws.{more_bytes, behind_is, x_between, change_new, change_used, used_small}
+use Rattle.dvi2_reading.specs.PieceLaws.{more_bytes, behind_is, change_new, change_used, used_small}
 use Rattle.dvi2_reading.specs.WayLaws.{way_here, staged_ready}
 
 module _ (h : PageState) (bs : List ℕ) (k : PageReached h bs) where

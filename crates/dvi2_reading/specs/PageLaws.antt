@@ -1,7 +1,7 @@
 -- Inside a page each command that may come keeps `PageReached`.
 --     page_reached     one command
 -- Assumes nothing.
-use Rattle.std.specs.Prelude.{◌≡◌, ◌&&◌, ℕ, ◌+◌, ◌<◌, length}
+use Rattle.std.specs.Prelude.{◌≡◌, ◌&&◌, ℕ, ◌<◌, length}
 use Rattle.std.proofs.Math.Path.{refl, sym, ap, subst}
 use Rattle.std.proofs.Common.{◌∙◌}
 use Rattle.std.proofs.Math.Bool.{true}
@@ -26,7 +26,7 @@ use Rattle.dvi2.specs.Writer.{h_of, v_of, position_at, Writing, first_writing, i
 use Rattle.dvi2_reading.specs.PageReading.{PageCommand, ending, defining, selecting, across, downward, putting, in_bytes, PageState, before_put, is_more, valid_in, may_come}
 use Rattle.dvi2_reading.specs.Reading.{character_of, page_state_after}
 use Rattle.dvi2_reading.specs.Reached.{writing_of, open_bytes, way_to, PageReached, Reached}
-use Rattle.dvi2_reading.specs.PieceLaws.{more_bytes, writable_more, open_more, pages_open, thrice, height_valid, x_between, uses_last}
+use Rattle.dvi2_reading.specs.PieceLaws.{more_bytes, writable_more, open_more, pages_open, thrice, height_valid, uses_last}
 use Rattle.dvi2_reading.specs.WayLaws.{way_put, font_there, staged_way, staged_ready, font_same}
 use Rattle.dvi2_reading.specs.PageFontLaws.{after_defining, after_selecting}
 use Rattle.dvi2_reading.specs.PageMoveLaws.{after_across, after_downward}

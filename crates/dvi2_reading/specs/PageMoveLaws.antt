@@ -2,7 +2,7 @@
 --     after_across       a move right
 --     after_downward     a move down
 -- Assumes nothing.
-use Rattle.std.specs.Prelude.{◌≡◌, not, ◌&&◌, ℕ, ◌+◌, ◌-◌, ℤ, pos, ◌+ℤ◌, ◌-ℤ◌, length}
+use Rattle.std.specs.Prelude.{◌≡◌, not, ◌&&◌, ℕ, ℤ, pos, ◌+ℤ◌, ◌-ℤ◌, length}
 use Rattle.std.proofs.Math.Path.{sym, ap, subst}
 use Rattle.std.proofs.Common.{◌∙◌}
 use Rattle.std.proofs.Math.Bool.{true}
@@ -12,7 +12,7 @@ use Rattle.integers.specs.Equality.{eq_z}
 use Rattle.octets.specs.FieldLaws.{both}
 use Rattle.galley_file.specs.Font.{size_index, is_double}
 use Rattle.galley_file.specs.Character.{valid_x}
-use Rattle.galley_file.specs.Galley.{max_items, more}
+use Rattle.galley_file.specs.Galley.{max_items}
 use Rattle.extents.specs.FontMarks.{uses}
 use Rattle.dvi.specs.Writer.{Position}
 use Rattle.dvi2.specs.Command.{RIGHT1, DOWN1}

@@ -1,7 +1,7 @@
 -- The writer's file is a way from the start to the end.
 --     file_path     from the start through the file of some items, all is read
 -- Assumes nothing.
-use Rattle.std.specs.Prelude.{◌≡◌, refl, true, ℕ, ◌+◌, ◌<◌, ℤ, length}
+use Rattle.std.specs.Prelude.{◌≡◌, refl, true, ℕ, ◌<◌, ℤ, length}
 use Rattle.std.proofs.Common.{sym, ap, subst, ◌∙◌, arith, lt-ltb, length-append}
 use mathlib.Core.List.{List, [], ◌∷◌, ◌++◌, append_assoc, append-nil, foldl-append, flatten}
 use Rattle.std.proofs.Math.Option.{some}

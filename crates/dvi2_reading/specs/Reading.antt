@@ -7,7 +7,7 @@
 --     step               what the next command leads to
 --     read               the items of a file, or the place where it is refused
 --     read2_result        what the reader gives for a file and a buffer of so many bytes
-use Rattle.std.specs.Prelude.{ℕ, zero, suc, ◌+◌, ◌-◌, ◌*◌, ◌/◌, Bool, false, cond, ◌&&◌, ◌||◌, List, [], ◌∷◌, ◌++◌, map, ltb, leb, ℤ, pos, negsuc, ◌+ℤ◌, ◌-ℤ◌, length, take}
+use Rattle.std.specs.Prelude.{ℕ, zero, suc, ◌+◌, ◌*◌, ◌/◌, Bool, false, cond, ◌&&◌, ◌||◌, List, [], ◌∷◌, ◌++◌, map, ltb, leb, ℤ, pos, negsuc, ◌+ℤ◌, ◌-ℤ◌, length, take}
 use Rattle.std.proofs.Math.Option.{Option, none, some, get_or}
 use Rattle.octets.specs.Octets.{bytes}
 use Rattle.octets.specs.Answer.{Result, refusal, written, if_room, file_too_long, no_galley_room, not_ours}

@@ -17,7 +17,7 @@ use Rattle.galley_file.specs.Galley.{galley}
 use Rattle.dvi2.specs.File.{max_dvi2}
 use Rattle.dvi2.specs.Writer.{dvi2_file}
 use Rattle.dvi2.specs.WriterLaws.{file_fits}
-use Rattle.dvi2_reading.specs.Beginning.{Writable, FileOf, parameters, command_size, next, Refused}
+use Rattle.dvi2_reading.specs.Beginning.{Writable, FileOf, parameters, command_size, Refused}
 use Rattle.dvi2_reading.specs.Reading.{State, may_begin, Read, gives, bad, at_end, refuse, short, go, whole_step, step, follow, read, read_file, galley_result, read2_result}
 use Rattle.dvi2_reading.specs.Reading as R
 use Rattle.dvi2_reading.specs.SizeLaws.{Command}

@@ -5,7 +5,7 @@
 --     page_refuse, start_refuse, opened_refuse, closing_refuse, between_refuse     they are like none
 --     page-may                                                                     a command of a page that they begin may come
 -- Assumes nothing.
-use Rattle.std.specs.Prelude.{◌≡◌, refl, Bool, true, false, cond, ◌&&◌, List, [], ◌∷◌, ◌++◌, ℕ, ◌+◌, ◌*◌, ◌<◌, leb, pos, ◌-ℤ◌, length, take, drop}
+use Rattle.std.specs.Prelude.{◌≡◌, refl, Bool, true, false, cond, ◌&&◌, List, [], ◌∷◌, ◌++◌, ℕ, ◌*◌, ◌<◌, leb, pos, ◌-ℤ◌, length, take, drop}
 use Rattle.std.proofs.Common.{sym, ap, ◌∙◌, append_assoc, append-nil, suc-ne-zero, arith, le-leb, leb-true, leb-false, ltb-true, take-append-drop, length-append, take_at}
 use Rattle.std.proofs.Math.Option.{Option, none, some}
 use Rattle.std.proofs.lemmas.Bool.{lt-leb}

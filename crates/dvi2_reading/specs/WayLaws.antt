@@ -1,6 +1,6 @@
 -- The way from the last character to the next: its font, and the moves to its place.
 -- Assumes nothing.
-use Rattle.std.specs.Prelude.{◌≡◌, refl, true, ℕ, ◌+◌, ◌-◌, ℤ, ◌-ℤ◌}
+use Rattle.std.specs.Prelude.{◌≡◌, refl, true, ℕ, ℤ, ◌-ℤ◌}
 use Rattle.std.proofs.Common.{sym, ◌∙◌, suc-ne-zero}
 use Rattle.std.proofs.Math.Path.{ap}
 use mathlib.Core.List.{List, [], ◌∷◌, ◌++◌, append_assoc, append-nil}
