@@ -1,9 +1,9 @@
 -- `dvi2_state::begin::begins_from` meets its contract: what is left of both decides the whole. The measure is what is left of s.
 -- Assumes nothing.
 use mathlib.Core.Path.{◌≡◌, refl, sym, ◌∙◌}
-use Prim.Native.Nat.{suc, ◌+◌, ◌-◌, ◌≤◌}
+use Prim.Native.Nat.{suc, ◌+◌}
 use native.Mathlib.Omega.{arith}
-use lib.ListN.{length, drop}
+use lib.ListN.{drop}
 use Rattle.dvi2_reading.specs.PageReading.{begins}
 use Rattle.dvi2_state.proofs.Bytes.{begins_past, begins_other, begins_more, begins_out}
 use Rattle.dvi2_state.proofs.begin.begins_from.Goals as goal

@@ -1,9 +1,7 @@
-use mathlib.Core.Path.{◌≡◌, refl, sym, ◌∙◌}
-use Prim.Native.Nat.{suc, ◌+◌, ◌-◌, ◌≤◌}
-use native.Mathlib.Omega.{arith}
+use mathlib.Core.Path.{◌≡◌}
+use Prim.Native.Nat.{◌-◌, ◌≤◌}
 use lib.ListN.{length, drop}
 use Rattle.dvi2_reading.specs.PageReading.{begins}
-use Rattle.dvi2_state.proofs.Bytes.{begins_past, begins_other, begins_more, begins_out}
 use Rattle.dvi2_state.proofs.begin.begins_from.Given as goal
 
 abbrev pub invariant-loop-i : goal.invariant-loop-i

@@ -10,11 +10,7 @@ use Rattle.dvi2_reading.specs.PageReading.{begins}
 use Rattle.integers.specs.Bits.{plain}
 use Rattle.dvi2.specs.Writer.{parameter_width}
 use Rattle.dvi2_state.proofs.Bytes.{move_other, move_begins, over_four, drop_signed}
-use borrow.Author.Rules.{rules}
 use Rattle.dvi2_state.proofs.begin.begins_move.Goals as goal
-
-pub overflow_cast-s : goal.overflow_cast-s
-overflow_cast-s c = omega (arith, c.shared_slice_known-2-1.given c.args.at)
 
 pub returns-then-s-at : goal.returns-then-s-at
 returns-then-s-at c =

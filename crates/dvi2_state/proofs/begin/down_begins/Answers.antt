@@ -2,7 +2,6 @@
 -- Assumes nothing.
 use mathlib.Core.Path.{◌≡◌, sym, ap, ◌∙◌}
 use native.Mathlib.Omega.{arith}
-use borrow.Author.Rules.{rules}
 use lib.IntN.{ℤ, pos, ◌-ℤ◌, ◌*ℤ◌}
 use lib.ListN.{drop}
 use mir.Syntax.{w32}
@@ -59,5 +58,5 @@ returns-then-m-eq0 c =
 pub returns : goal.returns
 returns c =
     c.begins_move.ensures
-    ∙ ap (λ (m : ℤ). begins (drop c.args.at c.args.s.now) (shortest 157 m)) (rw (by-is (goal.at.returns-then-m-eq0 c).Start) (plain (by_fits (goal.at.returns-then-m-eq0 c).Start) ∙ by-dif (goal.at.returns-then-m-eq0 c).Start))
-    ∙ moves_down (drop c.args.at c.args.s.now) (page_position c.args.h) (pos 3 *ℤ c.args.to.0) (λ e. c.if-m-eq0.false (ap (of_z w32) (by-is (goal.at.returns-then-m-eq0 c).Start ∙ by-dif (goal.at.returns-then-m-eq0 c).Start ∙ e)))
+    ∙ ap (λ (m : ℤ). begins (drop c.args.at c.args.s.now) (shortest 157 m)) (rw (by-is (goal.at.returns c).Start) (plain (by_fits (goal.at.returns c).Start) ∙ by-dif (goal.at.returns c).Start))
+    ∙ moves_down (drop c.args.at c.args.s.now) (page_position c.args.h) (pos 3 *ℤ c.args.to.0) (λ e. c.if-m-eq0.false (ap (of_z w32) (by-is (goal.at.returns c).Start ∙ by-dif (goal.at.returns c).Start ∙ e)))

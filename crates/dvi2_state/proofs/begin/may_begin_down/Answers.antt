@@ -2,7 +2,7 @@
 -- Assumes nothing.
 use mathlib.Core.Path.{◌≡◌, sym, ap, subst, ◌∙◌}
 use mathlib.Core.Bool.{Bool, false}
-use Prim.Native.Nat.{ℕ, ◌-◌, ◌*◌, ◌≤◌, ◌<◌}
+use Prim.Native.Nat.{ℕ, ◌*◌, ◌<◌}
 use native.Mathlib.Omega.{arith}
 use lib.IntN.{ℤ, pos, ◌*ℤ◌}
 use lib.ListN.{drop}
@@ -33,7 +33,7 @@ module _ (s : Start) where
   abbrev begins-at : ℕ → Bool
   begins-at n = down_begins (drop s.args.at s.args.s.now) (page_position s.args.h) (pos (3 * n))
 
-begins_is : (c : After-down_begins) → c.down_begins.result ≡ begins-at c.before.before.before.before c.loop-k.k
+begins_is : (c : After-down_begins) → c.down_begins.result ≡ down_begins (drop c.args.at c.args.s.now) (page_position c.args.h) (pos (3 * c.loop-k.k))
 begins_is c =
     let k = c.loop-k.k in
     let e = ap (λ (z : ℤ). pos 3 *ℤ z) (plain_pos (count_fits k (omega arith))) in
@@ -55,4 +55,4 @@ loop-k-preserved c = (omega arith, some_next _ (begins-at (goal.at.loop-k-preser
 pub returns : goal.returns
 returns c =
     let n : c.loop-k.k ≡ heights = omega arith in
-    sym (subst (λ (j : ℕ). some_below j (begins-at (goal.at.returns-then-down_begins c).Start) ≡ false) n c.loop-k.invariant.1)
+    sym (subst (λ (j : ℕ). some_below j (begins-at (goal.at.returns c).Start) ≡ false) n c.loop-k.invariant.1)

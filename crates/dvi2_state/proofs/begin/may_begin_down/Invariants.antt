@@ -1,16 +1,11 @@
-use mathlib.Core.Path.{◌≡◌, sym, ap, subst, ◌∙◌}
-use mathlib.Core.Bool.{Bool, false}
-use Prim.Native.Nat.{ℕ, ◌-◌, ◌*◌, ◌≤◌, ◌<◌}
-use native.Mathlib.Omega.{arith}
-use lib.IntN.{ℤ, pos, ◌*ℤ◌}
+use mathlib.Core.Path.{◌≡◌}
+use mathlib.Core.Bool.{false}
+use Prim.Native.Nat.{◌-◌, ◌*◌, ◌≤◌}
+use lib.IntN.{pos}
 use lib.ListN.{drop}
-use Rattle.integers.specs.Parts.{integers}
-use Rattle.integers.specs.Bits.{plain_pos}
 use Rattle.dvi2_reading.specs.PageReading.{some_below}
 use Rattle.dvi2_reading.specs.Reading.{heights}
-use Rattle.dvi2_reading.specs.BytesLaws.{found_some}
 use Rattle.dvi2_state.specs.Page.{page_position, down_begins}
-use Rattle.dvi2_state.proofs.Searches.{some_next, some_none, count_fits}
 use Rattle.dvi2_state.proofs.begin.may_begin_down.Given as goal
 
 abbrev pub invariant-loop-k : goal.invariant-loop-k

@@ -1,18 +1,11 @@
-use mathlib.Core.Path.{◌≡◌, sym, ap, subst, ◌∙◌}
-use mathlib.Core.Bool.{Bool, false}
-use Prim.Native.Nat.{ℕ, ◌-◌, ◌≤◌, ◌<◌}
-use native.Mathlib.Omega.{arith}
-use lib.IntN.{ℤ, pos, ◌-ℤ◌}
+use mathlib.Core.Path.{◌≡◌}
+use mathlib.Core.Bool.{false}
+use Prim.Native.Nat.{◌-◌, ◌≤◌}
 use lib.ListN.{drop}
-use mir.Syntax.{w32}
-use mir.Val.{to_z, of_z}
-use Rattle.integers.specs.Bits.{plain, plain_pos}
 use Rattle.measure.specs.Target.{entry_x}
 use Rattle.dvi2_reading.specs.PageReading.{some_below}
 use Rattle.dvi2_reading.specs.Reading.{places}
-use Rattle.dvi2_reading.specs.BytesLaws.{found_some}
 use Rattle.dvi2_state.specs.Page.{page_position, right_begins}
-use Rattle.dvi2_state.proofs.Searches.{some_next, some_none, count_fits, place_between, place_fits}
 use Rattle.dvi2_state.proofs.begin.may_begin_right.Given as goal
 
 abbrev pub invariant-loop-k : goal.invariant-loop-k

@@ -2,8 +2,6 @@
 -- Assumes nothing.
 use mathlib.Core.Path.{◌≡◌, sym, ap, ◌∙◌}
 use native.Mathlib.Omega.{arith}
-use borrow.Author.Rules.{rules}
-use borrow.Author.Tests.{not-true, not-false}
 use lib.IntN.{ℤ, pos, ◌-ℤ◌}
 use lib.ListN.{drop}
 use mir.Syntax.{w32}
@@ -45,11 +43,11 @@ returns-then-m-eq0 c =
 pub returns-then-not-valid_in : goal.returns-then-not-valid_in
 returns-then-not-valid_in c =
     outside (drop c.args.at c.args.s.now) (page_position c.args.h) c.args.to.0 (λ e. c.if-m-eq0.false (ap (of_z w32) (by-is (goal.at.returns-then-not-valid_in c).Start ∙ e)))
-    (sym c.valid_in.ensures ∙ not-true c.valid_in.result c.if-not-valid_in.true)
+    (sym c.valid_in.ensures ∙ c.if-not-valid_in.true)
 
 pub returns : goal.returns
 returns c =
     c.begins_move.ensures
-    ∙ ap (λ (m : ℤ). begins (drop c.args.at c.args.s.now) (shortest 143 m)) (rw (by-is (goal.at.returns-then-m-eq0 c).Start) (plain (by_fits (goal.at.returns-then-m-eq0 c).Start)))
-    ∙ moves_right (drop c.args.at c.args.s.now) (page_position c.args.h) c.args.to.0 (λ e. c.if-m-eq0.false (ap (of_z w32) (by-is (goal.at.returns-then-m-eq0 c).Start ∙ e)))
-    (sym c.valid_in.ensures ∙ not-false c.valid_in.result c.if-not-valid_in.false)
+    ∙ ap (λ (m : ℤ). begins (drop c.args.at c.args.s.now) (shortest 143 m)) (rw (by-is (goal.at.returns c).Start) (plain (by_fits (goal.at.returns c).Start)))
+    ∙ moves_right (drop c.args.at c.args.s.now) (page_position c.args.h) c.args.to.0 (λ e. c.if-m-eq0.false (ap (of_z w32) (by-is (goal.at.returns c).Start ∙ e)))
+    (sym c.valid_in.ensures ∙ c.if-not-valid_in.false)

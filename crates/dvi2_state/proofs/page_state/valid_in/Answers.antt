@@ -1,7 +1,6 @@
 -- `dvi2_state::page_state::valid_in` meets its contract: no font, or the test of a character's x.
 -- Assumes nothing.
 use mathlib.Core.Path.{◌∙◌}
-use borrow.Author.Rules.{rules}
 use Rattle.dvi2_state.proofs.Bytes.{no_font, valid_font}
 use Rattle.dvi2_state.proofs.page_state.valid_in.Goals as goal
 
