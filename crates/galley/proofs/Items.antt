@@ -1,17 +1,14 @@
 -- What the loop over the items of a galley knows: the items behind, and the next one.
 -- Assumes nothing.
 use mathlib.Core.Path.{◌≡◌, sym, subst}
-use mathlib.Core.List.{List, []}
-use Prim.Native.Nat.{ℕ, ◌+◌, ◌-◌, ◌≤◌, ◌<◌}
-use native.Mathlib.Omega.{arith}
+use mathlib.Core.List.{List}
+use Prim.Native.Nat.{ℕ, ◌+◌, ◌<◌}
 use lib.ListN.{length}
 use Rattle.galley_file.specs.declared.form.Form.TheVariants.{New}
 use Rattle.galley_file.specs.declared.item.Item.{Item}
 use Rattle.galley_file.specs.Item.{item_at}
-use Rattle.galley_file.specs.ItemLaws.{size_least}
 use Rattle.galley_file.specs.Galley.{items_of}
-use Rattle.galley_file.specs.GalleyLaws.{checked, read_as}
-use Rattle.galley_file.specs.Walk.{Midway, Onward, midway_start, midway_inside, midway_next, midway_whole}
+use Rattle.galley_file.specs.Walk.{Midway, Onward, midway_next}
 
 pub record Listed (g : List ℕ) (at : ℕ) : Type 0 where
   pub done : List Item

@@ -3,7 +3,7 @@
 --     flag_back, machine_back, phase_back     a flag, a machine, a phase
 --     leaves_words                            what a call promises, from the words before and after it
 -- Assumes nothing.
-use Rattle.std.specs.Prelude.{◌≡◌, refl, Bool, true, false, cond, List, ℕ, ◌+◌, ◌%◌, ◌<◌, eqb, ℤ, pos, negsuc, nat_abs, ◌+ℤ◌, ◌-ℤ◌}
+use Rattle.std.specs.Prelude.{◌≡◌, refl, Bool, true, false, cond, List, ℕ, ◌%◌, ◌<◌, eqb, ℤ, pos, negsuc, nat_abs, ◌+ℤ◌, ◌-ℤ◌}
 use Rattle.std.proofs.Common.{ap, subst, ◌∙◌, arith, SFits, to_z, of_z}
 use Rattle.std.specs.Int.{w32}
 use Rattle.integers.specs.Parts.{integers, bounds, sum_parts, dif_parts}

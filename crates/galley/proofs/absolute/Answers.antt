@@ -1,10 +1,8 @@
 -- `galley::absolute` meets its contract: what the test says of the number decides its sign.
 -- Assumes nothing.
-use Prim.Native.Nat.{◌+◌}
 use lib.IntN.{neg_ℤ, +ℤ_idl}
 use mir.Syntax.{w64}
 use mir.Val.{SFits}
-use borrow.Author.Rules.{rules}
 use Rattle.integers.specs.Parts.{integers, bounds, neg_up, neg_dn, abs_parts, non_neg_by}
 use Rattle.integers.specs.Bits.{plain, wide, widened}
 use Rattle.galley.proofs.absolute.Goals as goal

@@ -1,7 +1,6 @@
 -- `galley::write_galley` meets its contract: the check's answer is what `write_items` asks.
 -- Assumes nothing.
 use mathlib.Core.Path.{sym, ap, ◌∙◌}
-use borrow.Author.Rules.{rules}
 use Rattle.octets.specs.Answer.{outcome_of}
 use Rattle.galley.proofs.write_galley.Goals as goal
 

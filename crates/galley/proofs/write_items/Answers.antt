@@ -1,19 +1,14 @@
 -- `galley::write_items` meets its contract: some items lie behind, and what is left of the galley falls.
 -- Assumes nothing.
-use mathlib.Core.Path.{◌≡◌, sym, subst}
-use mathlib.Core.List.{List, []}
-use Prim.Native.Nat.{ℕ, ◌+◌, ◌-◌, ◌≤◌, ◌<◌}
+use mathlib.Core.List.{[]}
+use Prim.Native.Nat.{◌+◌, ◌≤◌}
 use native.Mathlib.Omega.{arith}
-use borrow.Author.Rules.{rules}
 use lib.ListN.{length}
 use Rattle.galley_file.specs.declared.form.Form.TheVariants.{New}
-use Rattle.galley_file.specs.declared.item.Item.{Item}
-use Rattle.galley_file.specs.Item.{item_at}
 use Rattle.galley_file.specs.ItemLaws.{size_least}
-use Rattle.galley_file.specs.Galley.{items_of}
 use Rattle.galley_file.specs.GalleyLaws.{checked, read_as}
-use Rattle.galley_file.specs.Walk.{Midway, Onward, midway_start, midway_inside, midway_next, midway_whole}
-use Rattle.galley.proofs.Items.{Listed, onward}
+use Rattle.galley_file.specs.Walk.{midway_start, midway_inside, midway_whole}
+use Rattle.galley.proofs.Items.{onward}
 use Rattle.galley.proofs.write_items.Given.{Over}
 use Rattle.galley.proofs.write_items.Goals as goal
 use Rattle.galley.proofs.write_items.Goals.{After-item_size-at}

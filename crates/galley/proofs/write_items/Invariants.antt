@@ -1,16 +1,5 @@
-use mathlib.Core.Path.{◌≡◌, sym, subst}
-use mathlib.Core.List.{List, []}
-use Prim.Native.Nat.{ℕ, ◌+◌, ◌-◌, ◌≤◌, ◌<◌}
-use native.Mathlib.Omega.{arith}
-use borrow.Author.Rules.{rules}
+use Prim.Native.Nat.{◌-◌}
 use lib.ListN.{length}
-use Rattle.galley_file.specs.declared.form.Form.TheVariants.{New}
-use Rattle.galley_file.specs.declared.item.Item.{Item}
-use Rattle.galley_file.specs.Item.{item_at}
-use Rattle.galley_file.specs.ItemLaws.{size_least}
-use Rattle.galley_file.specs.Galley.{items_of}
-use Rattle.galley_file.specs.GalleyLaws.{checked, read_as}
-use Rattle.galley_file.specs.Walk.{Midway, Onward, midway_start, midway_inside, midway_next, midway_whole}
 use Rattle.galley.proofs.Items.{Listed}
 use Rattle.galley.proofs.write_items.Given as goal
 

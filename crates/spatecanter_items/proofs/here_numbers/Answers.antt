@@ -3,7 +3,6 @@
 use mathlib.Core.List.{[], ◌∷◌}
 use mathlib.Core.Path.{sym, ap, ◌∙◌}
 use Prim.Native.Nat.{ℕ}
-use borrow.Author.Rules.{rules}
 use Rattle.octets.specs.Answer.{numbers_of}
 use Rattle.galley_items.specs.declared.Here.{Here}
 use Rattle.galley_items.specs.Here.{here_of, outcome_of_here}

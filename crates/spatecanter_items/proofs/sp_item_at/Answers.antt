@@ -1,7 +1,6 @@
 -- `spatecanter_items::sp_item_at` meets its contract: it hands over the numbers of the answer and of the item.
 -- Assumes nothing.
 use mathlib.Core.Path.{ap, ◌∙◌}
-use borrow.Author.Rules.{rules}
 use Rattle.octets.specs.Answer.{numbers_of}
 use Rattle.galley_items.specs.Here.{HereOutcome, outcome_of_here, here_numbers}
 use Rattle.spatecanter_items.proofs.sp_item_at.Goals as goal

@@ -1,6 +1,5 @@
 -- `spatecanter_punch::sp_punch_tape` meets its contract: it hands over the numbers of the answer.
 -- Assumes nothing.
-use borrow.Author.Rules.{rules}
 use Rattle.spatecanter_punch.proofs.sp_punch_tape.Goals as goal
 
 pub returns : goal.returns

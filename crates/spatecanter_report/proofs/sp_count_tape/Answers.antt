@@ -1,7 +1,6 @@
 -- `spatecanter_report::sp_count_tape` meets its contract: it hands over the numbers of the answer.
 -- Assumes nothing.
 use mathlib.Core.Path.{ap, ◌∙◌}
-use borrow.Author.Rules.{rules}
 use Rattle.octets.specs.Answer.{numbers_of}
 use Rattle.spatecanter_report.proofs.sp_count_tape.Goals as goal
 

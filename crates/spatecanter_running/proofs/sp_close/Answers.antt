@@ -1,6 +1,5 @@
 -- `spatecanter_running::sp_close` meets its contract: the words hold the running tape before, and after.
 -- Assumes nothing.
-use borrow.Author.Rules.{rules}
 use Rattle.running.specs.Running.{close_of}
 use Rattle.spatecanter_running.specs.WordsLaws.{leaves_words}
 use Rattle.spatecanter_running.proofs.sp_close.Goals as goal

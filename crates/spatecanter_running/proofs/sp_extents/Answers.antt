@@ -2,7 +2,6 @@
 -- Assumes nothing.
 use mathlib.Core.Path.{ap}
 use mathlib.Core.List.{[], ◌∷◌}
-use borrow.Author.Rules.{rules}
 use lib.ListN.{get_or}
 use Rattle.extents.specs.declared.Extents.{Extents}
 use Rattle.spatecanter_running.specs.Words.{tape_in}

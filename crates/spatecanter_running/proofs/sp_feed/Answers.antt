@@ -1,6 +1,5 @@
 -- `spatecanter_running::sp_feed` meets its contract: the words hold the running tape before, and after.
 -- Assumes nothing.
-use borrow.Author.Rules.{rules}
 use Rattle.running.specs.declared.Running.{Running}
 use Rattle.running.specs.Running.{feed_of}
 use Rattle.spatecanter_running.specs.WordsLaws.{leaves_words}

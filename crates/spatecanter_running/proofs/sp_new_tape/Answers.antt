@@ -1,7 +1,6 @@
 -- `spatecanter_running::sp_new_tape` meets its contract: the words of a new tape.
 -- Assumes nothing.
 use mathlib.Core.Path.{subst}
-use borrow.Author.Rules.{rules}
 use Rattle.spatecanter_running.specs.Words.{Holds}
 use Rattle.spatecanter_running.proofs.sp_new_tape.Goals as goal
 

@@ -1,7 +1,6 @@
 -- `spatecanter_running::sp_start` meets its contract: the words hold the running tape before, and after.
 -- Assumes nothing.
 use mathlib.Core.Path.{ap, subst, ◌∙◌}
-use borrow.Author.Rules.{rules}
 use Rattle.octets.specs.Answer.{numbers_of, outcome}
 use Rattle.running.specs.declared.Running.{Running}
 use Rattle.running.specs.Running.{Replied, start_of}

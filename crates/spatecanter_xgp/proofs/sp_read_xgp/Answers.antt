@@ -1,6 +1,5 @@
 -- `spatecanter_xgp::sp_read_xgp` meets its contract: it hands over the numbers of the answer.
 -- Assumes nothing.
-use borrow.Author.Rules.{rules}
 use Rattle.octets.specs.AnswerLaws.{gives_numbers}
 use Rattle.spatecanter_xgp.proofs.sp_read_xgp.Goals as goal
 

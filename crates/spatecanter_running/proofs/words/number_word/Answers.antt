@@ -1,7 +1,6 @@
 -- `spatecanter_running::words::number_word` meets its contract.
 -- Assumes nothing.
 use mathlib.Core.Path.{sym, ap, ◌∙◌}
-use borrow.Author.Rules.{rules}
 use Rattle.spatecanter_running.specs.Words.{number_word}
 use Rattle.spatecanter_running.proofs.words.number_word.Goals as goal
 

@@ -1,6 +1,5 @@
 -- `spatecanter_running::words::phase_in` meets its contract: the tests are those of `phase_in`.
 -- Assumes nothing.
-use borrow.Author.Rules.{rules}
 use borrow.Author.Tests.{eq-eqb, ne_eqb}
 use Rattle.spatecanter_running.proofs.words.phase_in.Goals as goal
 

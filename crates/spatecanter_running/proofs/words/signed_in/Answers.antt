@@ -1,7 +1,6 @@
 -- `spatecanter_running::words::signed_in` meets its contract: the difference is exact in 64 bits, and fits 32.
 -- Assumes nothing.
 use Prim.Native.Nat.{◌%◌}
-use borrow.Author.Rules.{rules}
 use lib.IntN.{pos, ◌-ℤ◌}
 use mir.Syntax.{w64}
 use mir.Val.{SFits}

@@ -1,7 +1,6 @@
 -- `spatecanter_running::words::state_in` meets its contract, part by part.
 -- Assumes nothing.
 use Prim.Native.Nat.{◌%◌}
-use borrow.Author.Rules.{rules}
 use lib.Dec.{eqb}
 use lib.ListN.{get_or}
 use Rattle.spatecanter_running.specs.Words.{modes_in}
@@ -10,7 +9,7 @@ use Rattle.spatecanter_running.proofs.words.state_in.Goals as goal
 
 pub returns : goal.returns
 returns c =
-    let w = c.args.t1 in
+    let w = c.args.w in
     let m = c.machine_in-machine.ensures in
     let x = word_held (get_or w 15 0) c.signed_in-carriage.ensures in
     let h = word_held (get_or w 16 0) c.signed_in-height.ensures in

@@ -1,6 +1,5 @@
 -- `spatecanter_running::words::tape_in` meets its contract, part by part.
 -- Assumes nothing.
-use borrow.Author.Rules.{rules}
 use lib.ListN.{get_or}
 use Rattle.spatecanter_running.specs.Words.{tape_in}
 use Rattle.spatecanter_running.proofs.words.tape_in.Goals as goal
@@ -8,7 +7,7 @@ use Rattle.spatecanter_running.proofs.words.tape_in.Goals as goal
 pub returns : goal.returns
 unfolding tape_in
 returns c =
-    let w = c.args.t1 in
+    let w = c.args.w in
     let p = c.phase_in-phase.ensures in
     let s = c.state_in-state.ensures in
     let x = c.extents_in-extents.ensures in

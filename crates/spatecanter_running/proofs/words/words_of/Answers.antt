@@ -1,7 +1,6 @@
 -- `spatecanter_running::words::words_of` meets its contract: word by word, and each can be read again.
 -- Assumes nothing.
 use mathlib.Core.List.{[], ◌∷◌}
-use borrow.Author.Rules.{rules}
 use Rattle.spatecanter_running.specs.Words.{words_of, tape_in}
 use Rattle.spatecanter_running.specs.WordsLaws.{flag_back, machine_back, phase_back}
 use Rattle.spatecanter_running.proofs.words.words_of.Goals as goal
