@@ -1,7 +1,6 @@
 -- `dvi_writer::put_file` meets its contract: the pages, and the postamble of their extents.
 -- Assumes nothing.
 use native.Mathlib.Omega.{arith}
-use borrow.Author.Rules.{rules}
 use Rattle.octets.specs.Write.{length_wrote}
 use Rattle.dvi.specs.Writer.{first_writing}
 use Rattle.dvi.specs.WriterLaws.{items_bytes_most, length_pages, length_file}

@@ -3,7 +3,6 @@
 use mathlib.Core.Path.{◌≡◌, refl}
 use Prim.Native.Nat.{◌+◌, ◌*◌, ◌≤◌}
 use native.Mathlib.Omega.{arith}
-use borrow.Author.Rules.{rules}
 use lib.ListN.{length}
 use Rattle.octets.specs.AnswerLaws.{gives}
 use Rattle.dvi.specs.Writer.{first_writing, dvi_file}
@@ -41,4 +40,4 @@ put_file-requires c =
 
 pub returns : goal.returns
 returns c =
-    with_room _ _ _ c.requires _ (needed_is (goal.at.returns-then-out-needed c).After-count) c.if-out-needed.false _ c.put_file.ensures
+    with_room _ _ _ c.requires _ (needed_is (goal.at.returns c).After-count) c.if-out-needed.false _ c.put_file.ensures

@@ -1,6 +1,5 @@
 -- `dvi_writer::page::put_character` meets its contract: the commands are written; the writing goes on from the position and the place after them.
 -- Assumes nothing.
-use borrow.Author.Rules.{rules}
 use Rattle.dvi.specs.Writer as W
 use Rattle.dvi_writer.specs.Writing.{writing_of}
 use Rattle.dvi_characters.specs.PositionLaws.{position_set}

@@ -2,7 +2,7 @@
 -- galley falls.
 -- Assumes nothing.
 use mathlib.Core.Path.{ap}
-use Prim.Native.Nat.{◌+◌, ◌-◌, ◌≤◌}
+use Prim.Native.Nat.{◌+◌, ◌≤◌}
 use native.Mathlib.Omega.{arith}
 use borrow.Author.Rules.{rules}
 use lib.ListN.{length}
@@ -11,7 +11,7 @@ use Rattle.galley_file.specs.Item.{item_size}
 use Rattle.galley_file.specs.ItemLaws.{size_least}
 use Rattle.galley_file.specs.Walk.{midway_inside, midway_next, midway_whole}
 use Rattle.dvi_writer.proofs.Galleys.{few, within, all_low}
-use Rattle.dvi_writer.proofs.Passes.{Printed, printed_start, printed_asks, printed_next, printed_end}
+use Rattle.dvi_writer.proofs.Passes.{printed_start, printed_asks, printed_next, printed_end}
 use Rattle.dvi_writer.proofs.page.put_items.Goals as goal
 use Rattle.dvi_writer.proofs.page.put_items.Goals.{After-item_size-at}
 
@@ -26,7 +26,7 @@ item_at-i-requires c = midway_whole New _ _ _ _ c.loop-at.invariant.midway (omeg
 
 pub put_item-p-requires : goal.put_item-p-requires
 put_item-p-requires c =
-    let h = c.requires in record { i_in_bounds = printed_asks _ _ _ _ _ c.loop-at.invariant (omega (arith, c.loop-at-test.true)) (all_low _ _ h.0) (few _ _ h.0) h.1 _ c.item_at-i.ensures; targets_value = (c.targets-targets.ensures, ) }
+    let h = c.requires in record { i_in_bounds = printed_asks _ _ _ _ _ c.loop-at.invariant (omega (arith, c.loop-at-test.true)) (all_low _ _ h.0) (few _ _ h.0) h.1 _ c.item_at-i.ensures; targets_value = (c.targets-targets.ensures) }
 
 -- the next place is in the galley
 inside : (c : After-item_size-at) → c.loop-at.at + c.item_size-at.result + 7 ≤ length c.args.g.now

@@ -4,7 +4,6 @@ use mathlib.Core.Path.{◌≡◌, refl, ap, subst, ◌∙◌}
 use mathlib.Core.List.{List}
 use Prim.Native.Nat.{ℕ, ◌+◌}
 use native.Mathlib.Omega.{arith}
-use borrow.Author.Rules.{rules}
 use lib.IntN.{ℤ, negsuc}
 use lib.ListN.{length}
 use Rattle.octets.specs.Octets.{bytes, signed_bytes}

@@ -1,7 +1,6 @@
 -- `dvi_writer::plan::item_length` meets its contract, by the kinds of item.
 -- Assumes nothing.
 use mathlib.Core.Path.{sym, ap, ◌∙◌}
-use borrow.Author.Rules.{rules}
 use Rattle.measure.specs.Place.{low_end}
 use Rattle.galley_file.specs.Item.{valid_item}
 use Rattle.dvi_characters.specs.Position.{position_of}

@@ -1,7 +1,6 @@
 -- `dvi_writer::plan::none` meets its contract: no byte, and the extents of no character.
 -- Assumes nothing.
 use mathlib.Core.Path.{refl}
-use borrow.Author.Rules.{rules}
 use Rattle.dvi_writer.proofs.Passes.{plan_none}
 use Rattle.dvi_writer.proofs.plan.none.Goals as goal
 

@@ -2,7 +2,6 @@
 -- Assumes nothing.
 use mathlib.Core.Path.{ap}
 use Prim.Native.Nat.{ℕ, ◌+◌}
-use borrow.Author.Rules.{rules}
 use Rattle.dvi_writer.proofs.Galleys.{raised_one}
 use Rattle.dvi_writer.proofs.plan.with_item.Goals as goal
 

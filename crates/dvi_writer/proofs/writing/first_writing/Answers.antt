@@ -1,7 +1,6 @@
 -- `dvi_writer::writing::first_writing` meets its contract: the position is that at a page's start.
 -- Assumes nothing.
 use mathlib.Core.Path.{ap}
-use borrow.Author.Rules.{rules}
 use Rattle.dvi.specs.Writer as W
 use Rattle.dvi_writer.specs.Writing.{writing_of}
 use Rattle.dvi_writer.proofs.writing.first_writing.Goals as goal
