@@ -108,6 +108,6 @@ given (target_case x t) = target_case x (x_target x)
 given (file_case g r) = file_case g (dvi_result g 64)
 given (down_case m bs) = down_case m (move Y4 m)
 
-pub proof_sheet : map given cases ≡ cases
+pub proof_sheet_lem : map given cases ≡ cases
 unfolding eq_z max_z number_from twos signed bytes residue signed_bytes width_of field end_field starts_field starts_end if_room directed_by carriage_at height_at x_of x_target y_target valid character_body character_field character_at is_character fields galley is_cut next_item characters_of read_end reading read_galley first_high low_result code_of flash_of escape_of lead_of instruction_effect code_effect byte_effect run read_result tape_result start_position position_at font_command font_change shortest move commands_of bop_bytes first_writing item_bytes writing_after transduced pages_bytes largest uses used_fonts name_of definition flatten trailer_bytes postamble_bytes dvi_file dvi_result
-proof_sheet = refl
+proof_sheet_lem = refl
