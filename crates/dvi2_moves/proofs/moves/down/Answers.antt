@@ -4,7 +4,6 @@ use mathlib.Core.Path.{◌≡◌, refl, sym, ap, ◌∙◌}
 use mathlib.Core.Bool.{true}
 use Prim.Native.Nat.{◌+◌, ◌-◌, ◌<◌}
 use native.Mathlib.Omega.{arith}
-use borrow.Author.Rules.{rules}
 use lib.IntN.{ℤ, pos, ◌+ℤ◌, ◌*ℤ◌}
 use lib.ListN.{length}
 use mir.Syntax.{w32, w64}
@@ -46,24 +45,20 @@ module _ (s : Start) where
       → StepsAs s.args.s.now s.args.at s.args.h Bad
   refused c f is l = d_bad s.args.s.now s.args.at (156 + s.args.k) s.args.k s.args.h s.requires is l refl c f
 
--- from the number that is read back to the start, and from the sum back to that number
-abbrev start : After-signed_at-m → Start
-start c = c.before.before.before.before.before.before.before.before
-
-abbrev number : After-moved-t → After-signed_at-m
-number c = c.before.before.before.before.before.before
-
-by-is : (c : After-signed_at-m) → to_z w32 (of_z w32 c.signed_at-m.result) ≡ by (start c)
+by-is : (c : After-signed_at-m) → to_z w32 (of_z w32 c.signed_at-m.result) ≡ signed_at c.args.k (c.args.at + 1) c.args.s.now
 by-is c = returned w32 c.signed_at-m.type_inv c.signed_at-m.ensures
 
-to_is : (c : After-moved-t) → to_z w64 (of_z w64 c.moved-t.result) ≡ to (start (number c))
+to_is : (c : After-moved-t) → to_z w64 (of_z w64 c.moved-t.result) ≡ pos 3 *ℤ c.args.h.height.0 +ℤ signed_at c.args.k (c.args.at + 1) c.args.s.now
 to_is c =
-    let s = start (number c) in
-    let y = ap (λ (z : ℤ). to_z w32 (of_z w32 (pos 3 *ℤ z))) (plain (height-fits s)) ∙ plain (from_fits s) in
-    returned w64 c.moved-t.type_inv (c.moved-t.ensures ∙ (λ i. y i +ℤ by-is (number c) i))
+    let o = c.requires.sound.on_page in
+    let f : SFits w32 (pos 3 *ℤ c.args.h.height.0) = omega (integers, o.top, o.bottom) in
+    let g : SFits w32 c.args.h.height.0 = omega (integers, o.top, o.bottom, scale_parts 3 c.args.h.height.0) in
+    let y = ap (λ (z : ℤ). to_z w32 (of_z w32 (pos 3 *ℤ z))) (plain g) ∙ plain f in
+    let n = returned w32 c.signed_at-m.type_inv c.signed_at-m.ensures in
+    returned w64 c.moved-t.type_inv (c.moved-t.ensures ∙ (λ i. y i +ℤ n i))
 
-down_is : (c : After-is_down) → c.is_down.result ≡ is_downward (to (start (number c.before)))
-down_is c = c.is_down.ensures ∙ ap is_downward (to_is (record { before = c.before.before; type_inv = record { h = c.type_inv.h; s = c.type_inv.s } }))
+down_is : (c : After-is_down) → to_z w64 (of_z w64 c.moved-t.result) ≡ pos 3 *ℤ c.args.h.height.0 +ℤ signed_at c.args.k (c.args.at + 1) c.args.s.now → c.is_down.result ≡ is_downward (pos 3 *ℤ c.args.h.height.0 +ℤ signed_at c.args.k (c.args.at + 1) c.args.s.now)
+down_is c e = c.is_down.ensures ∙ ap is_downward e
 
 pub returns-then-may_begin_down : goal.returns-then-may_begin_down
 returns-then-may_begin_down c =
@@ -83,43 +78,50 @@ returns-then-s-at c =
 
 pub returns-then-parameter_width-k : goal.returns-then-parameter_width-k
 returns-then-parameter_width-k c =
-    refused (start c.before.before) (omega (arith, c.if-s-at.false))
-    (λ w n d. c.if-parameter_width-k.true (c.parameter_width.ensures.0 ∙ ap parameter_width (by-is (goal.at.returns-then-parameter_width-k c).After-signed_at-m) ∙ w))
+    let p = goal.at.returns-then-parameter_width-k c in
+    refused p.Start (omega (arith, c.if-s-at.false))
+    (λ w n d. c.if-parameter_width-k.true (c.parameter_width.ensures.0 ∙ ap parameter_width (by-is p.After-signed_at-m) ∙ w))
 
 pub returns-then-m-eq0 : goal.returns-then-m-eq0
 returns-then-m-eq0 c =
-    refused (start c.before.before.before) (omega (arith, c.if-s-at.false))
+    let p = goal.at.returns-then-m-eq0 c in
+    refused p.Start (omega (arith, c.if-s-at.false))
     (λ w n d.
     n (sym c.signed_at-m.ensures
     ∙ same_bits {w = w32} {b = pos 0} (record { sfits = c.signed_at-m.type_inv }) (record { sfits = omega arith }) c.if-m-eq0.true))
 
 pub overflow_mul-h : goal.overflow_mul-h
-overflow_mul-h c = rw (plain (height-fits (goal.at.overflow_mul-h c).Start)) (from_fits (goal.at.overflow_mul-h c).Start)
+overflow_mul-h c =
+    let p = goal.at.overflow_mul-h c in
+    rw (plain (height-fits p.Start)) (from_fits p.Start)
 
 pub height_at-requires : goal.height_at-requires
-height_at-requires c = rw (to_is (goal.at.height_at-requires c).After-moved-t) (sym (down_is (goal.at.height_at-requires c).After-is_down) ∙ c.if-is_down.true)
+height_at-requires c =
+    let p = goal.at.height_at-requires c in
+    rw (to_is p.After-moved-t) (sym (down_is p.After-is_down (to_is p.After-moved-t)) ∙ c.if-is_down.true)
 
 pub returns-then-is_down : goal.returns-then-is_down
 unfolding page_state_after
 returns-then-is_down c =
-    let m = number c.before.before.before in
-    let s = start m in
-    let d = sym (down_is (goal.at.returns-then-is_down c).After-is_down) ∙ c.if-is_down.true in
-    let y = ap (λ (z : ℤ). pos 3 *ℤ z) (c.height_at.ensures ∙ ap height_of (to_is (goal.at.returns-then-is_down c).After-moved-t)) ∙ thrice (to s) d in
+    let p = goal.at.returns-then-is_down c in
+    let m = p.After-signed_at-m in
+    let s = p.Start in
+    let d = sym (down_is p.After-is_down (to_is p.After-moved-t)) ∙ c.if-is_down.true in
+    let y = ap (λ (z : ℤ). pos 3 *ℤ z) (c.height_at.ensures ∙ ap height_of (to_is p.After-moved-t)) ∙ thrice (to s) d in
     λ is l.
     (λ i. go (in_page (record { items = is; stage = Page.lowered; position = record { font = font_or_none s.args.h.font; x = s.args.h.x.0; y = y i } })) s.args.k)
     ∙ sym (d_go s.args.s.now s.args.at (156 + s.args.k) s.args.k s.args.h s.requires is l refl
     (sym m.before_down.ensures ∙ m.if-before_down.true)
     (sym m.valid_in.ensures ∙ m.if-valid_in.true)
-    (omega (arith, m.if-s-at.false)) (λ i. (m.shared_slice_known-1.given i).fits)
+    (omega (arith, m.if-s-at.false)) (λ i. (c.type_inv.s i).fits)
     (ap parameter_width (sym (by-is m)) ∙ sym c.parameter_width.ensures.0 ∙ c.if-parameter_width-k.false)
     (λ e. c.if-m-eq0.false (ap (of_z w32) (m.signed_at-m.ensures ∙ e))) d)
 
 pub returns-then-valid_in : goal.returns-then-valid_in
 returns-then-valid_in c =
-    let m = number c.before.before in
-    refused (start m) (omega (arith, m.if-s-at.false))
-    (λ w n d. no_truth _ d (sym (down_is (goal.at.returns-then-valid_in c).After-is_down) ∙ c.if-is_down.false))
+    let p = goal.at.returns-then-valid_in c in
+    refused p.Start (omega (arith, c.if-s-at.false))
+    (λ w n d. no_truth _ d (sym (down_is p.After-is_down (to_is p.After-moved-t)) ∙ c.if-is_down.false))
 
 pub returns-then-before_down : goal.returns-then-before_down
 returns-then-before_down c =

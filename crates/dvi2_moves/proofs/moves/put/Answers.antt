@@ -4,7 +4,6 @@ use mathlib.Core.Path.{sym, ◌∙◌}
 use native.Mathlib.Omega.{arith}
 use Rattle.dvi2_moves.proofs.CommandKinds.{no_truth}
 use Rattle.dvi2_moves.proofs.CodeSteps.{p_not, p_bad, p_short, p_go}
-use borrow.Author.Rules.{rules}
 use Rattle.dvi2_moves.proofs.moves.put.Goals as goal
 
 pub returns-then-s-at-lt2 : goal.returns-then-s-at-lt2

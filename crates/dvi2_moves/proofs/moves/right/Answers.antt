@@ -41,21 +41,18 @@ module _ (s : Start) where
       → StepsAs s.args.s.now s.args.at s.args.h Bad
   refused c f is l = r_bad s.args.s.now s.args.at (142 + s.args.k) s.args.k s.args.h s.requires is l refl c f
 
--- from the number that is read back to the start, and from the sum back to that number
-abbrev start : After-signed_at-m → Start
-start c = c.before.before.before.before.before
-
-abbrev number : After-moved-t → After-signed_at-m
-number c = c.before.before.before.before.before
-
-by-is : (c : After-signed_at-m) → to_z w32 (of_z w32 c.signed_at-m.result) ≡ by (start c)
+by-is : (c : After-signed_at-m) → to_z w32 (of_z w32 c.signed_at-m.result) ≡ signed_at c.args.k (c.args.at + 1) c.args.s.now
 by-is c = returned w32 c.signed_at-m.type_inv c.signed_at-m.ensures
 
-to_is : (c : After-moved-t) → to_z w64 (of_z w64 c.moved-t.result) ≡ to (start (number c))
+to_is : (c : After-moved-t) → to_z w64 (of_z w64 c.moved-t.result) ≡ c.args.h.x.0 +ℤ signed_at c.args.k (c.args.at + 1) c.args.s.now
 to_is c =
-    let s = start (number c) in
-    let f : SFits w32 s.args.h.x.0 = search rules in
-    returned w64 c.moved-t.type_inv (c.moved-t.ensures ∙ (λ i. plain f i +ℤ by-is (number c) i))
+    let f : SFits w32 c.args.h.x.0 = search rules in
+    let n = returned w32 c.signed_at-m.type_inv c.signed_at-m.ensures in
+    returned w64 c.moved-t.type_inv (c.moved-t.ensures ∙ (λ i. plain f i +ℤ n i))
+
+allowed-is : (c : After-valid_at) → to_z w64 (of_z w64 c.moved-t.result) ≡ c.args.h.x.0 +ℤ signed_at c.args.k (c.args.at + 1) c.args.s.now
+    → c.valid_at.result ≡ valid_in (font_or_none c.args.h.font) (c.args.h.x.0 +ℤ signed_at c.args.k (c.args.at + 1) c.args.s.now)
+allowed-is c e = c.valid_at.ensures ∙ ap (valid_in (font_or_none c.args.h.font)) e
 
 pub returns-then-may_begin_right : goal.returns-then-may_begin_right
 returns-then-may_begin_right c =
@@ -73,43 +70,44 @@ returns-then-s-at c =
 
 pub returns-then-parameter_width-k : goal.returns-then-parameter_width-k
 returns-then-parameter_width-k c =
-    refused (start c.before.before) (omega (arith, c.if-s-at.false))
-    (λ w n v. c.if-parameter_width-k.true (c.parameter_width.ensures.0 ∙ ap parameter_width (by-is (goal.at.returns-then-parameter_width-k c).After-signed_at-m) ∙ w))
+    let p = goal.at.returns-then-parameter_width-k c in
+    refused p.Start (omega (arith, c.if-s-at.false))
+    (λ w n v. c.if-parameter_width-k.true (c.parameter_width.ensures.0 ∙ ap parameter_width (by-is p.After-signed_at-m) ∙ w))
 
 pub returns-then-m-eq0 : goal.returns-then-m-eq0
 returns-then-m-eq0 c =
-    refused (start c.before.before.before) (omega (arith, c.if-s-at.false))
+    let p = goal.at.returns-then-m-eq0 c in
+    refused p.Start (omega (arith, c.if-s-at.false))
     (λ w n v.
     n (sym c.signed_at-m.ensures
     ∙ same_bits {w = w32} {b = pos 0} (record { sfits = c.signed_at-m.type_inv }) (record { sfits = omega arith }) c.if-m-eq0.true))
 
-allowed-is : (c : After-valid_at) → c.valid_at.result ≡ allowed (start (number c.before)) (to (start (number c.before)))
-allowed-is c = c.valid_at.ensures ∙ ap (allowed (start (number c.before))) (to_is (record { before = c.before.before; type_inv = record { h = c.type_inv.h; s = c.type_inv.s } }))
-
 pub overflow_cast-result : goal.overflow_cast-result
 overflow_cast-result c =
-    subst (SFits w32) (sym (to_is (goal.at.overflow_cast-result c).After-moved-t)) (to_fits (start (number c.before.before.before)) (sym (allowed-is (goal.at.overflow_cast-result c).After-valid_at) ∙ c.if-valid_at.true))
+    let p = goal.at.overflow_cast-result c in
+    subst (SFits w32) (sym (to_is p.After-moved-t)) (to_fits p.Start (sym (allowed-is p.After-valid_at (to_is p.After-moved-t)) ∙ c.if-valid_at.true))
 
 pub returns-then-valid_at : goal.returns-then-valid_at
 unfolding page_state_after
 returns-then-valid_at c =
-    let m = number c.before.before.before in
-    let s = start m in
-    let v = sym (allowed-is (goal.at.returns-then-valid_at c).After-valid_at) ∙ c.if-valid_at.true in
-    let x = ap (λ (z : ℤ). to_z w32 (of_z w32 z)) (to_is (goal.at.returns-then-valid_at c).After-moved-t) ∙ plain (to_fits s v) in
+    let p = goal.at.returns-then-valid_at c in
+    let m = p.After-signed_at-m in
+    let s = p.Start in
+    let v = sym (allowed-is p.After-valid_at (to_is p.After-moved-t)) ∙ c.if-valid_at.true in
+    let x = ap (λ (z : ℤ). to_z w32 (of_z w32 z)) (to_is p.After-moved-t) ∙ plain (to_fits s v) in
     λ is l.
     (λ i. go (in_page (record { items = is; stage = Page.moved; position = record { font = font_or_none s.args.h.font; x = x i; y = pos 3 *ℤ s.args.h.height.0 } })) s.args.k)
     ∙ sym (r_go s.args.s.now s.args.at (142 + s.args.k) s.args.k s.args.h s.requires is l refl
-    (omega (arith, m.if-s-at.false)) (λ i. (m.shared_slice_known-1.given i).fits)
+    (omega (arith, m.if-s-at.false)) (λ i. (c.type_inv.s i).fits)
     (sym m.before_right.ensures ∙ m.if-before_right.true)
     (ap parameter_width (sym (by-is m)) ∙ sym c.parameter_width.ensures.0 ∙ c.if-parameter_width-k.false)
     (λ e. c.if-m-eq0.false (ap (of_z w32) (m.signed_at-m.ensures ∙ e))) v)
 
 pub returns-then-before_right : goal.returns-then-before_right
 returns-then-before_right c =
-    let m = number c.before.before in
-    refused (start m) (omega (arith, m.if-s-at.false))
-    (λ w n v. no_truth _ v (sym (allowed-is (goal.at.returns-then-before_right c).After-valid_at) ∙ c.if-valid_at.false))
+    let p = goal.at.returns-then-before_right c in
+    refused p.Start (omega (arith, c.if-s-at.false))
+    (λ w n v. no_truth _ v (sym (allowed-is p.After-valid_at (to_is p.After-moved-t)) ∙ c.if-valid_at.false))
 
 pub returns : goal.returns
 returns c =

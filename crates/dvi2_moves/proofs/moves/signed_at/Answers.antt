@@ -6,7 +6,6 @@ use mir.Syntax.{w32}
 use Rattle.dvi2_state.proofs.Bytes.{four_left}
 use Rattle.octets.specs.Octets.{signed_at}
 use Rattle.integers.specs.Bits.{returned}
-use borrow.Author.Rules.{rules}
 use Rattle.dvi2_moves.proofs.moves.signed_at.Goals as goal
 
 pub returns-then-k-eq1 : goal.returns-then-k-eq1

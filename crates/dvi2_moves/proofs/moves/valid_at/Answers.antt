@@ -8,7 +8,6 @@ use Rattle.dvi.specs.FontOrNone.{font_or_none}
 use Rattle.integers.specs.Parts.{integers}
 use Rattle.integers.specs.Bits.{plain}
 use Rattle.dvi2_moves.proofs.CodeSteps.{out_left, out_right}
-use borrow.Author.Rules.{rules}
 use Rattle.dvi2_moves.proofs.moves.valid_at.Goals as goal
 use Rattle.dvi2_moves.proofs.moves.valid_at.Goals.{Else-t-gt-LAST_X}
 
@@ -29,4 +28,4 @@ pub overflow_cast-t : goal.overflow_cast-t
 overflow_cast-t c = rw (plain c.ranges.t) (narrow c)
 
 pub returns : goal.returns
-returns c = let f = c.ranges in c.valid_in.ensures ∙ ap (valid_in (font_or_none c.args.f)) (rw (plain f.t) (plain (narrow c.before)))
+returns c = let f = c.ranges in c.valid_in.ensures ∙ ap (valid_in (font_or_none c.args.f)) (rw (plain f.t) (plain (narrow (goal.at.returns c).Else-t-gt-LAST_X)))
