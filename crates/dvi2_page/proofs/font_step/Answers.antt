@@ -1,7 +1,6 @@
 -- `dvi2_page::font_step` meets its contract: each font command's own, and refused between them.
 -- Assumes nothing.
 use native.Mathlib.Omega.{arith}
-use borrow.Author.Rules.{rules}
 use Rattle.dvi2_page.proofs.Steps.{s_middle, s_high}
 use Rattle.dvi2_page.proofs.font_step.Goals as goal
 

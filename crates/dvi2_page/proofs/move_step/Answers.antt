@@ -1,7 +1,6 @@
 -- `dvi2_page::move_step` meets its contract: each move's own, and refused between them.
 -- Assumes nothing.
 use native.Mathlib.Omega.{arith}
-use borrow.Author.Rules.{rules}
 use Rattle.dvi2_page.proofs.Steps.{s_low, s_gap}
 use Rattle.dvi2_page.proofs.move_step.Goals as goal
 

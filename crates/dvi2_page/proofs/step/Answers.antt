@@ -2,7 +2,6 @@
 -- Assumes nothing.
 use mathlib.Core.Path.{sym, ◌∙◌}
 use native.Mathlib.Omega.{arith}
-use borrow.Author.Rules.{rules}
 use Rattle.dvi2_page.proofs.Steps.{s_end, s_early, s_full}
 use Rattle.dvi2_page.proofs.step.Goals as goal
 

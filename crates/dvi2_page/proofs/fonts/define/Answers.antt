@@ -1,7 +1,6 @@
 -- `dvi2_page::fonts::define` meets its contract: only before a character, and cut short only where some font is free.
 -- Assumes nothing.
 use mathlib.Core.Path.{sym, ◌∙◌}
-use borrow.Author.Rules.{rules}
 use Rattle.dvi2_page.proofs.Defines.{d_not_ready, d_short, d_none}
 use Rattle.dvi2_page.proofs.fonts.define.Goals as goal
 

@@ -2,7 +2,6 @@
 -- Assumes nothing.
 use mathlib.Core.Path.{◌≡◌, sym, ap, ◌∙◌}
 use native.Mathlib.Omega.{arith}
-use borrow.Author.Rules.{rules}
 use lib.ListN.{drop}
 use Rattle.dvi2.specs.Writer.{definition}
 use Rattle.dvi2_reading.specs.Reading.{page_state_after, with_font, in_page, go}

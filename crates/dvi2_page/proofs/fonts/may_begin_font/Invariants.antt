@@ -1,17 +1,13 @@
-use mathlib.Core.Path.{◌≡◌, sym, ap, ◌∙◌}
+use mathlib.Core.Path.{◌≡◌}
 use mathlib.Core.Bool.{false}
 use mathlib.Core.List.{List}
-use Prim.Native.Nat.{ℕ, ◌-◌, ◌≤◌}
-use native.Mathlib.Omega.{arith}
+use Prim.Native.Nat.{◌-◌, ◌≤◌}
 use Rattle.galley_file.specs.declared.item.Item.{Item}
 use Rattle.galley_file.specs.Item.{characters_of}
 use Rattle.dvi2_reading.specs.PageReading.{some_below}
-use Rattle.dvi2_reading.specs.BytesLaws.{found_some}
 use Rattle.dvi.specs.FontOrNone.{font_or_none}
 use Rattle.dvi2_state.specs.Page.{stage_of}
 use Rattle.dvi2_page.specs.Fonts.{Known, chooses_high}
-use Rattle.dvi2_state.proofs.Searches.{some_next}
-use Rattle.dvi2_page.proofs.Selects.{none_low, chooses_high_lem}
 use Rattle.dvi2_page.proofs.fonts.may_begin_font.Given as goal
 
 abbrev pub invariant-loop-f : goal.invariant-loop-f

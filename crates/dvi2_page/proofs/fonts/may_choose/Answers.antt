@@ -8,7 +8,6 @@ use Rattle.dvi2_state.specs.declared.page_state.Stage.{Stage}
 use Rattle.dvi.specs.FontOrNone.{font_or_none}
 use Rattle.dvi2_state.specs.Page.{stage_of}
 use Rattle.dvi2_page.proofs.Marks.{choose_big, choose_same, choose_ready, choose_named}
-use borrow.Author.Rules.{rules}
 use Rattle.dvi2_page.proofs.fonts.may_choose.Goals as goal
 
 pub returns-then-f-ge-FONTS : goal.returns-then-f-ge-FONTS

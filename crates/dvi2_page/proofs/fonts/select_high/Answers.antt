@@ -12,7 +12,6 @@ use Rattle.dvi.specs.FontOrNone.{font_some}
 use Rattle.dvi2_page.proofs.Marks.{choose_big}
 use Rattle.dvi2_moves.proofs.CommandKinds.{no_truth}
 use Rattle.dvi2_page.proofs.Selects.{s_short, s_none, s_high_bad, s_high_go}
-use borrow.Author.Rules.{rules}
 use Rattle.dvi2_page.proofs.fonts.select_high.Goals as goal
 
 pub returns-then-may_begin_font : goal.returns-then-may_begin_font

@@ -10,7 +10,6 @@ use Rattle.dvi2_state.specs.declared.page_state.PageState.{PageState}
 use Rattle.dvi2_state.specs.Page.{page_state_of, page_position}
 use Rattle.dvi.specs.FontOrNone.{font_some}
 use Rattle.dvi2_page.proofs.Selects.{s_low_go, s_low_bad}
-use borrow.Author.Rules.{rules}
 use Rattle.dvi2_page.proofs.fonts.select_low.Goals as goal
 
 pub returns-then-may_choose : goal.returns-then-may_choose

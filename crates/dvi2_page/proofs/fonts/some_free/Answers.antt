@@ -1,15 +1,12 @@
 -- `dvi2_page::fonts::some_free` meets its contract: each font below f is used. The measure is what is left of the fonts.
 -- Assumes nothing.
 use mathlib.Core.Path.{◌≡◌, sym, ap, ◌∙◌}
-use mathlib.Core.Bool.{false}
-use mathlib.Core.List.{List}
-use Prim.Native.Nat.{ℕ, ◌-◌, ◌≤◌}
+use Prim.Native.Nat.{ℕ}
 use native.Mathlib.Omega.{arith}
-use Rattle.galley_file.specs.declared.item.Item.{Item}
 use Rattle.galley_file.specs.Item.{characters_of}
 use Rattle.dvi2_reading.specs.PageReading.{some_below}
 use Rattle.dvi2_reading.specs.BytesLaws.{found_some}
-use Rattle.dvi2_page.specs.Fonts.{Known, is_free}
+use Rattle.dvi2_page.specs.Fonts.{is_free}
 use Rattle.dvi2_state.proofs.Searches.{some_next, some_none}
 use Rattle.dvi2_page.proofs.Selects.{used_not_free, unused_free}
 use Rattle.dvi2_page.proofs.fonts.some_free.Goals as goal

@@ -1,9 +1,9 @@
 -- `dvi2_page::matching::compare` meets its contract: what is left of both decides the whole. The measure is what is left of e.
 -- Assumes nothing.
 use mathlib.Core.Path.{◌≡◌, sym, ap, ◌∙◌}
-use Prim.Native.Nat.{ℕ, suc, ◌+◌, ◌-◌, ◌≤◌}
+use Prim.Native.Nat.{ℕ, suc, ◌+◌}
 use native.Mathlib.Omega.{arith}
-use lib.ListN.{length, drop}
+use lib.ListN.{drop}
 use Rattle.dvi2_page.specs.Match.{compared}
 use Rattle.dvi2_page.proofs.Matches.{compared_short, compared_other, compared_more, compared_whole}
 use Rattle.dvi2_page.proofs.matching.compare.Goals as goal

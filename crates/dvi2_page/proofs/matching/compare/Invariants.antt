@@ -1,9 +1,7 @@
-use mathlib.Core.Path.{◌≡◌, sym, ap, ◌∙◌}
-use Prim.Native.Nat.{ℕ, suc, ◌+◌, ◌-◌, ◌≤◌}
-use native.Mathlib.Omega.{arith}
+use mathlib.Core.Path.{◌≡◌}
+use Prim.Native.Nat.{◌+◌, ◌-◌, ◌≤◌}
 use lib.ListN.{length, drop}
 use Rattle.dvi2_page.specs.Match.{compared}
-use Rattle.dvi2_page.proofs.Matches.{compared_short, compared_other, compared_more, compared_whole}
 use Rattle.dvi2_page.proofs.matching.compare.Given as goal
 
 abbrev pub invariant-loop-i : goal.invariant-loop-i
