@@ -3,7 +3,6 @@
 use mathlib.Core.Path.{subst}
 use mathlib.Core.List.{List, ◌∷◌}
 use Prim.Native.Nat.{ℕ}
-use borrow.Author.Rules.{rules}
 use lib.ListN.{length}
 use Rattle.dvi2.specs.Writer as W
 use Rattle.dvi2_frame.specs.Frame.{post_post_of}

@@ -1,10 +1,7 @@
 -- `dvi2_close::close::definitions` meets its contract: the fonts below f are defined. The measure is what is left of the fonts.
 -- Assumes nothing.
-use Prim.Native.Nat.{◌-◌, ◌≤◌}
 use native.Mathlib.Omega.{arith}
-use borrow.Author.Rules.{rules}
-use lib.ListN.{length}
-use Rattle.dvi2_close.proofs.Closes.{Defined, defined_start, defined_next, defined_fault, defined_inside, defined_end}
+use Rattle.dvi2_close.proofs.Closes.{defined_start, defined_next, defined_fault, defined_inside, defined_end}
 use Rattle.dvi2_close.proofs.close.definitions.Goals as goal
 
 pub loop-f-init : goal.loop-f-init

@@ -1,8 +1,6 @@
 use Prim.Native.Nat.{◌-◌, ◌≤◌}
-use native.Mathlib.Omega.{arith}
-use borrow.Author.Rules.{rules}
 use lib.ListN.{length}
-use Rattle.dvi2_close.proofs.Closes.{Defined, defined_start, defined_next, defined_fault, defined_inside, defined_end}
+use Rattle.dvi2_close.proofs.Closes.{Defined}
 use Rattle.dvi2_close.proofs.close.definitions.Given as goal
 
 abbrev pub invariant-loop-f : goal.invariant-loop-f

@@ -1,14 +1,11 @@
 -- `dvi2_close::close::fillers` meets its contract: of the n bytes, k stand before `to`. The measure is what is left of them.
 -- Assumes nothing.
-use mathlib.Core.Path.{◌≡◌, refl, sym, ap, ◌∙◌}
-use mathlib.Core.List.{[], ◌∷◌}
-use Prim.Native.Nat.{◌-◌, ◌≤◌}
+use mathlib.Core.Path.{refl, sym, ap, ◌∙◌}
 use native.Mathlib.Omega.{arith}
-use borrow.Author.Rules.{rules}
 use lib.ListN.{length}
 use Rattle.dvi2.specs.Writer as W
 use Rattle.dvi2_close.proofs.Expected.{expect_inside, inside_to}
-use Rattle.dvi2_close.proofs.Closes.{Filling, filling_start, filling_next, filling_fault, filling_end}
+use Rattle.dvi2_close.proofs.Closes.{filling_start, filling_next, filling_fault, filling_end}
 use Rattle.dvi2_close.proofs.close.fillers.Goals as goal
 
 pub loop-k-init : goal.loop-k-init

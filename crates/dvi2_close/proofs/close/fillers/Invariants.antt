@@ -1,12 +1,8 @@
-use mathlib.Core.Path.{◌≡◌, refl, sym, ap, ◌∙◌}
+use mathlib.Core.Path.{◌≡◌}
 use mathlib.Core.List.{[], ◌∷◌}
 use Prim.Native.Nat.{◌-◌, ◌≤◌}
-use native.Mathlib.Omega.{arith}
-use borrow.Author.Rules.{rules}
 use lib.ListN.{length}
-use Rattle.dvi2.specs.Writer as W
-use Rattle.dvi2_close.proofs.Expected.{expect_inside, inside_to}
-use Rattle.dvi2_close.proofs.Closes.{Filling, filling_start, filling_next, filling_fault, filling_end}
+use Rattle.dvi2_close.proofs.Closes.{Filling}
 use Rattle.dvi2_close.proofs.close.fillers.Given as goal
 
 abbrev pub invariant-loop-k : goal.invariant-loop-k

@@ -1,7 +1,6 @@
 -- `dvi2_close::close::last` meets its contract: nothing may follow the bytes 223.
 -- Assumes nothing.
 use mathlib.Core.List.{[]}
-use borrow.Author.Rules.{rules}
 use Rattle.dvi2_reading.specs.Reading.{closing}
 use Rattle.dvi2_close.proofs.Expected.{reads_to_standing, reads_to_fault}
 use Rattle.dvi2_close.proofs.Closes.{closed_more, closed_end}

@@ -1,7 +1,6 @@
 -- `dvi2_close::expect::expect` meets its contract: the definition by cases, the case told by the comparison.
 -- Assumes nothing.
 use mathlib.Core.Path.{sym, ap, ◌∙◌}
-use borrow.Author.Rules.{rules}
 use Rattle.dvi2_close.specs.Reading.{by_match, expected}
 use Rattle.dvi2_close.proofs.expect.expect.Goals as goal
 
