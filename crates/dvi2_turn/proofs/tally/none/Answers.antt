@@ -1,7 +1,6 @@
 -- `dvi2_turn::tally::none` meets its contract: nothing is read yet.
 -- Assumes nothing.
 use mathlib.Core.Path.{refl}
-use borrow.Author.Rules.{rules}
 use Rattle.dvi2_turn.proofs.Tallies.{tally_none}
 use Rattle.dvi2_turn.proofs.tally.none.Goals as goal
 

@@ -2,7 +2,6 @@
 -- Assumes nothing.
 use mathlib.Core.Path.{refl}
 use native.Mathlib.Omega.{arith}
-use borrow.Author.Rules.{rules}
 use Rattle.dvi2_turn.proofs.Tallies.{tally_placed, tally_ended}
 use Rattle.dvi2_turn.proofs.tally.with_item.Goals as goal
 

@@ -3,7 +3,6 @@
 use mathlib.Core.Path.{sym, subst}
 use mathlib.Core.List.{[], ◌∷◌, ◌++◌}
 use native.Mathlib.Omega.{arith}
-use borrow.Author.Rules.{rules}
 use Rattle.galley_file.specs.declared.item.Item.TheVariants.{Cut}
 use Rattle.dvi2_reading.specs.Reading.{in_page, between, new_page_state, at_end}
 use Rattle.dvi2_reading.specs.StandingLaws.{standing_refuse, standing_end, full_refuse}
