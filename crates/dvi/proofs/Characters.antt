@@ -11,7 +11,7 @@ use mir.Val.{SFits}
 use Rattle.integers.specs.Parts.{integers}
 use Rattle.measure.specs.Place.{low_end}
 use Rattle.measure.specs.Target.{x_target, y_target}
-use Rattle.measure.specs.TargetLaws.{target_parts, y_parts, x_move_fits, y_move_fits}
+use Rattle.measure.proofs.TargetLaws.{target_parts, y_parts, x_move_fits, y_move_fits}
 use Rattle.galley_file.specs.declared.character.Character.{Character}
 use Rattle.galley_file.specs.CharacterLaws.{Valid, x_range, height_range}
 use Rattle.dvi.specs.Writer.{x_target_of, y_target_of, Position, start_position, position_at, commands_of}

@@ -11,7 +11,7 @@ use lib.IntN.{ℤ, pos, ◌*ℤ◌}
 use lib.ListN.{length, length-append}
 use Rattle.octets.specs.Answer.{written, if_room, no_sheet_room}
 use Rattle.measure.specs.Target.{x_target, y_target}
-use Rattle.measure.specs.TargetLaws.{target_near}
+use Rattle.measure.proofs.TargetLaws.{target_near}
 use Rattle.galley_file.specs.declared.item.Item.{Item}
 use Rattle.galley_file.specs.declared.item.Item.TheVariants.{Placed, Cut}
 use Rattle.galley_file.specs.Item.{characters_of, cuts_of}
@@ -21,11 +21,11 @@ use Rattle.sheet.specs.Sheet.{mark_field, mark_fields, sheet}
 use Rattle.sheet.specs.Shown.{Shown, shown_result}
 use Rattle.dvi.specs.Sheet.{sheet_result}
 use Rattle.sheet.specs.SheetLaws.{length_mark_field, length_sheet}
-use Rattle.dvi.specs.SheetLaws.{readable}
+use Rattle.dvi.proofs.SheetLaws.{readable}
 use Rattle.dvi.specs.Writer.{dvi_file}
-use Rattle.dvi.specs.WriterLaws.{file_fits}
+use Rattle.dvi.proofs.WriterLaws.{file_fits}
 use Rattle.dvi.specs.Edition.{Within, Demand3}
-use Rattle.dvi.specs.EditionLaws.{mark_at, marks_at, demanded}
+use Rattle.dvi.proofs.EditionLaws.{mark_at, marks_at, demanded}
 use Rattle.dvi.specs.Demand3.{in_thirds, shown_in_thirds, dvi1980, character_mark, marks_of}
 use Rattle.dvi.proofs.Shown.{file_shows}
 

@@ -28,7 +28,7 @@ use Rattle.sheet.specs.Sheet.{Mark, page_mark}
 use Rattle.dvi.specs.Page.{Page, new_page, end_page, effect}
 use Rattle.dvi.specs.File.{between, inside, go_on, after_effect, in_page, begin_page, step}
 use Rattle.dvi.specs.Writer.{start_position, bop_bytes, Writing, item_bytes, writing_after, items_bytes, writing_after_all}
-use Rattle.dvi.specs.WriterLaws.{Small, small_next, writing_next}
+use Rattle.dvi.proofs.WriterLaws.{Small, small_next, writing_next}
 use Rattle.dvi.specs.Demand3.{character_mark, marks_of}
 use Rattle.dvi.proofs.Runs.{Goes, goes_nil, goes_append, goes_step}
 use Rattle.dvi.proofs.Pieces.{Stands}

@@ -16,7 +16,7 @@ use Rattle.integers.specs.Equality.{eq_z, eq_z_true}
 use Rattle.octets.specs.Octets.{bytes, signed_bytes, width_of}
 use Rattle.octets.specs.OctetsLaws.{by_cond, signed_bytes_pos}
 use Rattle.octets.specs.WordLaws.{width_holds, width_range, true_fits32}
-use Rattle.measure.specs.TargetLaws.{move_ends}
+use Rattle.measure.proofs.TargetLaws.{move_ends}
 use Rattle.dvi.specs.Command.{HORZCHAR, FONT, X4, Y4, FONTNUM, Command, horz_char, set_font, move_x, move_y, bare, takes, layouts, layout_of}
 use Rattle.sheet.specs.Sheet.{Mark, char_mark}
 use Rattle.dvi.specs.Page.{Numbers, Page, moved, marked, with_numbers, with_font, right_by, down_by, set_x, set_y, if_fits, go_to, char_here, set_still, effect}

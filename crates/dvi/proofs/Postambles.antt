@@ -17,7 +17,7 @@ use Rattle.dvi.specs.Postamble.{all223, trailer, at_id, definitions, postamble}
 use Rattle.extents.specs.FontMarks.{uses, used_fonts}
 use Rattle.extents.specs.Extents.{largest}
 use Rattle.dvi.specs.Writer.{x_target_of, y_target_of, name_of, definition, definition_bytes, trailer_bytes, postamble_bytes}
-use Rattle.dvi.specs.WriterLaws.{definitions_append}
+use Rattle.dvi.proofs.WriterLaws.{definitions_append}
 
 module _ (pst : ℕ) where
   -- no character of a name is a quote

@@ -17,7 +17,7 @@ use Rattle.dvi.specs.Page.{Page, moved, marked, effect}
 use Rattle.sheet.specs.Shown.{shows_first}
 use Rattle.dvi.specs.File.{State, inside, go_on, after_effect, in_page, step, follow, run_as, marks_alone, run}
 use Rattle.sheet.specs.ShownLaws.{shows_first_nil, shows_first_append}
-use Rattle.dvi.specs.FileLaws.{run_pass}
+use Rattle.dvi.proofs.FileLaws.{run_pass}
 
 -- from state q at offset `at` the bytes bs show ms and lead to state r
 pub record Goes (ws : List ℤ) (at : ℕ) (q : State) (bs : List ℕ) (ms : List Mark) (r : State) : Type 0 where

@@ -19,7 +19,7 @@ use Rattle.dvi.specs.Page.{new_page}
 use Rattle.sheet.specs.Shown.{shows, shows_first}
 use Rattle.dvi.specs.File.{between, end_file, step, follow, run_as, run, read_as, read_dvi}
 use Rattle.dvi.specs.Writer.{bop_bytes, first_writing, items_bytes, writing_after_all, pages_bytes, postamble_bytes, dvi_file}
-use Rattle.dvi.specs.WriterLaws.{items_bytes_most, Small, small_first, writing_small, length_pages}
+use Rattle.dvi.proofs.WriterLaws.{items_bytes_most, Small, small_first, writing_small, length_pages}
 use Rattle.dvi.specs.Demand3.{marks_of}
 use Rattle.dvi.proofs.Runs.{Goes, goes_append}
 use Rattle.dvi.proofs.Characters.{on_new}

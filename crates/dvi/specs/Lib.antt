@@ -1,17 +1,12 @@
 -- The DVI file of 1980 (002): what it is, what it shows, the sheet that this makes, and the file of a list of items.
 pub mod Command
 pub mod Page
-pub mod PageLaws
 pub mod Postamble
 pub mod File
-pub mod FileLaws
 pub mod Mark
 pub mod Sheet
-pub mod SheetLaws
 pub mod Writer
 pub mod WritingLaws
-pub mod WriterLaws
 pub mod FontOrNone
 pub mod Edition
-pub mod EditionLaws
 pub mod Demand3

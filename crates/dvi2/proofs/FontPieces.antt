@@ -18,7 +18,7 @@ use Rattle.galley_file.specs.declared.character.Character.{Character}
 use Rattle.dvi.specs.Page.{Page, with_font}
 use Rattle.extents.specs.FontMarks.{uses}
 use Rattle.dvi.specs.Writer.{Position, name_of}
-use Rattle.extents.specs.FontMarksLaws.{uses_more}
+use Rattle.extents.proofs.FontMarksLaws.{uses_more}
 use Rattle.dvi2.specs.Command.{FNTNUM0, FNT1, FNTDEF1, set_font, define_font, bare, last_layouts, layout_of, command, in_file, with_parameters, decode}
 use Rattle.dvi2.specs.Page.{inside, leads, is_defined, go_to, effect}
 use Rattle.dvi2.specs.Writer.{selects, font_units, definition, font_commands, font_change}

@@ -25,7 +25,7 @@ use Rattle.sheet.specs.Sheet.{Mark, page_mark}
 use Rattle.dvi.specs.Page.{Page, new_page}
 use Rattle.extents.specs.FontMarks.{uses}
 use Rattle.dvi.specs.Writer.{Position, start_position}
-use Rattle.dvi.specs.EditionLaws.{mark_at, marks_at}
+use Rattle.dvi.proofs.EditionLaws.{mark_at, marks_at}
 use Rattle.dvi2.specs.Command.{BOP, EOP, first_layouts, layout_of, with_parameters, decode}
 use Rattle.dvi2.specs.Page.{per_unit, between, inside, end_page, effect}
 use Rattle.dvi2.specs.File.{go_on, after_effect, in_page, begin_page, between_pages, step}

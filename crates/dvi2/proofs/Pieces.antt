@@ -15,7 +15,7 @@ use Rattle.integers.specs.Parts.{integers, dif_parts}
 use Rattle.integers.specs.Equality.{eq_z, eq_z_true}
 use Rattle.octets.specs.Octets.{number_from, signed, signed_bytes}
 use Rattle.octets.specs.OctetsLaws.{by_cond}
-use Rattle.measure.specs.TargetLaws.{move_ends}
+use Rattle.measure.proofs.TargetLaws.{move_ends}
 use Rattle.galley_file.specs.declared.character.Character.{Character}
 use Rattle.sheet.specs.Sheet.{char_mark}
 use Rattle.dvi.specs.Page.{Page, with_numbers, right_by, down_by}

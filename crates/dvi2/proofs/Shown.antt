@@ -21,7 +21,7 @@ use Rattle.sheet.specs.Sheet.{Mark, page_mark}
 use Rattle.dvi.specs.Page.{new_page}
 use Rattle.extents.specs.FontMarks.{uses}
 use Rattle.dvi.specs.Writer.{start_position}
-use Rattle.dvi.specs.EditionLaws.{marks_at}
+use Rattle.dvi.proofs.EditionLaws.{marks_at}
 use Rattle.dvi2.specs.Command.{EOP}
 use Rattle.dvi2.specs.Page.{between}
 use Rattle.dvi2.specs.File.{is_unit, preamble, between_pages, step, shows_first, follow, run, show_dvi2}

@@ -17,7 +17,7 @@ use Rattle.octets.specs.Octets.{bytes, signed_bytes, Holds}
 use Rattle.octets.specs.Octets as octets
 use Rattle.octets.specs.OctetsLaws.{by_cond, length_signed_bytes}
 use Rattle.octets.specs.WordLaws.{width_range, width_holds, width_least}
-use Rattle.octets.specs.TransducerLaws.{transduced_most, transduced_at}
+use Rattle.octets.proofs.TransducerLaws.{transduced_most, transduced_at}
 use Rattle.galley_file.specs.declared.character.Character.{Character}
 use Rattle.galley_file.specs.declared.item.Item.{Item}
 use Rattle.galley_file.specs.declared.item.Item.TheVariants.{Placed, Cut}
@@ -27,7 +27,7 @@ use Rattle.extents.specs.FontMarks.{uses, used_fonts}
 use Rattle.dvi.specs.Writer.{Position, name_of}
 use Rattle.dvi.specs.WritingLaws.{pieces_append, length_pieces, length_if, if_most, Offsets, Next}
 use Rattle.dvi.specs.WritingLaws as S
-use Rattle.dvi.specs.WriterLaws.{used_fonts_most}
+use Rattle.dvi.proofs.WriterLaws.{used_fonts_most}
 use Rattle.dvi2.specs.Command.{EOP, RIGHT1, DOWN1, POSTPOST}
 use Rattle.dvi2.specs.File.{max_dvi2}
 use Rattle.dvi2.specs.Writer.{h_of, v_of, parameter_width, selects, definition, font_commands, font_change, shortest, move, commands_of, unit_bytes, preamble_bytes, bop_bytes, Writing, first_writing, item_bytes, writing_after, items_bytes, writing_after_all, pages_bytes, definition_bytes, post_bytes, postamble_bytes, command_bytes, fillers, bytes223, dvi2_file}

@@ -13,15 +13,15 @@ use Rattle.galley_file.specs.declared.character.Character.{Character}
 use Rattle.galley_file.specs.declared.item.Item.{Item}
 use Rattle.galley_file.specs.Item.{characters_of}
 use Rattle.extents.specs.FontMarks.{uses, used_fonts, is_marked, FontsAre}
-use Rattle.extents.specs.FontMarksLaws.{marked_used}
+use Rattle.extents.proofs.FontMarksLaws.{marked_used}
 use Rattle.dvi2.specs.Writer.{definition, pages_bytes, command_bytes, fillers}
 use Rattle.dvi2.specs.WriterLaws.{length_file}
 use Rattle.dvi2_frame.specs.Frame.{post_post_of}
 use Rattle.dvi2_reading.specs.Reading.{State, closing, fill, closing_of, gives, bad, at_end, read_file}
 use Rattle.dvi2_reading.specs.SizeLaws.{definition_command, postpost_command, fill_command}
-use Rattle.dvi2_reading.specs.StepLaws.{ended_refuse}
+use Rattle.dvi2_reading.proofs.StepLaws.{ended_refuse}
 use Rattle.dvi2_reading.specs.Standing.{Standing}
-use Rattle.dvi2_reading.specs.StandingLaws.{standing_refuse, standing_end, sole_closing}
+use Rattle.dvi2_reading.proofs.StandingLaws.{standing_refuse, standing_end, sole_closing}
 use Rattle.dvi2_close.specs.declared.expect.Reading.{Reading}
 use Rattle.dvi2_close.specs.declared.expect.Reading.TheVariants.{To, Fault}
 use Rattle.dvi2_close.specs.Fonts.{used_from}

@@ -12,7 +12,7 @@ use lib.ListN.{length, drop, length-drop, length-append}
 use Rattle.dvi2.specs.Writer.{preamble_bytes}
 use Rattle.dvi2_reading.specs.Reading.{State, start, opened, in_page, new_page_state, first_bop, bad, read_file}
 use Rattle.dvi2_reading.specs.Standing.{Standing}
-use Rattle.dvi2_reading.specs.StandingLaws.{standing_start, Sole, sole_whole, sole_short, sole_other, sole_start, sole_opened}
+use Rattle.dvi2_reading.proofs.StandingLaws.{standing_start, Sole, sole_whole, sole_short, sole_other, sole_start, sole_opened}
 use Rattle.dvi2_page.specs.declared.matching.Match.{Match}
 use Rattle.dvi2_page.specs.declared.matching.Match.TheVariants.{Whole, Short, Other}
 use Rattle.dvi2_page.specs.Match.{compared}

@@ -11,7 +11,7 @@ use Rattle.galley_file.specs.CharacterLaws.{valid_parts, x_range, height_range}
 use Rattle.galley_file.specs.Galley.{AllValid}
 use Rattle.extents.specs.declared.Extents.{Extents}
 use Rattle.extents.specs.Extents.{largest, x_in, height_in, ExtentsAre}
-use Rattle.extents.specs.ExtentsLaws.{largest_target, largest_least, largest_most}
+use Rattle.extents.proofs.ExtentsLaws.{largest_target, largest_least, largest_most}
 use Rattle.dvi2.specs.Writer.{v_of, unit_bytes, preamble_bytes, post_bytes}
 use Rattle.dvi2_frame.specs.Frame.{Ranged, post_with, post_of, post_post_of}
 

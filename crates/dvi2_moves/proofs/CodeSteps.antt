@@ -32,8 +32,8 @@ use Rattle.dvi2_reading.specs.PageReading.{some_below, valid_in, is_downward, ac
 use Rattle.dvi2_reading.specs.Reading.{step, in_page, go, height_of, page_state_after, places, heights}
 use mir.Syntax.{w32}
 use mir.Val.{SFits}
-use Rattle.dvi2_reading.specs.PieceLaws.{between_mag, x_mag}
-use Rattle.dvi2_reading.specs.WayLaws.{font_there}
+use Rattle.dvi2_reading.proofs.PieceLaws.{between_mag, x_mag}
+use Rattle.dvi2_reading.proofs.WayLaws.{font_there}
 use Rattle.dvi2_state.specs.declared.page_state.PageState.{PageState}
 use Rattle.dvi.specs.FontOrNone.{font_or_none}
 use Rattle.dvi2_state.specs.declared.page_state.Stepped.TheVariants.{Bad, Short, Put}

@@ -19,10 +19,10 @@ use Rattle.dvi2.specs.Writer.{parameter_width, selects, definition, shortest}
 use Rattle.dvi2.specs.WriterLaws.{parameter_width_range, parameter_width_holds}
 use Rattle.dvi2_reading.specs.PageReading.{begins, PageCommand, ending, defining, selecting, across, downward, putting, in_bytes, PageState, may_come}
 use Rattle.dvi2_reading.specs.Reading.{in_page, page_state_after, may_begin_in, may_begin, refuse, short, go, step, next}
-use Rattle.dvi2_reading.specs.BytesLaws.{begins_is, begins_append}
-use Rattle.dvi2_reading.specs.CommandLaws.{MoveFits, page_next_lem, in_bytes_command}
+use Rattle.dvi2_reading.proofs.BytesLaws.{begins_is, begins_append}
+use Rattle.dvi2_reading.proofs.CommandLaws.{MoveFits, page_next_lem, in_bytes_command}
 use Rattle.dvi2_reading.specs.SizeLaws.{Command}
-use Rattle.dvi2_reading.specs.StepLaws.{Alike, begins_it, holds_it, step_go, step_short, page_refuse}
+use Rattle.dvi2_reading.proofs.StepLaws.{Alike, begins_it, holds_it, step_go, step_short, page_refuse}
 
 -- ---- opcodes
 

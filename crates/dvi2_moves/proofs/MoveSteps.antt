@@ -14,19 +14,19 @@ use Rattle.integers.specs.Equality.{eq_z}
 use Rattle.octets.specs.Octets.{Bytes, signed}
 use Rattle.octets.specs.FieldLaws.{both}
 use Rattle.measure.specs.Target.{entry_x}
-use Rattle.measure.specs.TargetLaws.{move_ends}
+use Rattle.measure.proofs.TargetLaws.{move_ends}
 use Rattle.galley_file.specs.Font.{size_index, is_double}
 use Rattle.dvi2.specs.Command.{RIGHT1, DOWN1}
 use Rattle.dvi2.specs.Writer.{parameter_width, shortest}
 use Rattle.dvi2_reading.specs.PageReading.{begins, across, downward, in_bytes, PageState, before_right, before_down, is_more, valid_in, is_downward, may_come, some_below, lowest}
 use Rattle.dvi2_reading.specs.Reading.{in_page, page_state_after, refuse, short, go, step, places, heights}
-use Rattle.dvi2_reading.specs.BytesLaws.{both_true, begins_is, some_found, found_some}
-use Rattle.dvi2_reading.specs.PieceLaws.{move_between, x_mag}
-use Rattle.dvi2_reading.specs.WayLaws.{font_there}
-use Rattle.dvi2_reading.specs.CharacterPath.{mag_dif, down_mag}
-use Rattle.dvi2_reading.specs.MayLaws.{way₃, way₄, as_such, counted, down_counted}
+use Rattle.dvi2_reading.proofs.BytesLaws.{both_true, begins_is, some_found, found_some}
+use Rattle.dvi2_reading.proofs.PieceLaws.{move_between, x_mag}
+use Rattle.dvi2_reading.proofs.WayLaws.{font_there}
+use Rattle.dvi2_reading.proofs.CharacterPath.{mag_dif, down_mag}
+use Rattle.dvi2_reading.proofs.MayLaws.{way₃, way₄, as_such, counted, down_counted}
 use Rattle.dvi2_state.specs.Page.{right_begins, down_begins}
-use Rattle.dvi2_reading.specs.StepLaws.{page_refuse}
+use Rattle.dvi2_reading.proofs.StepLaws.{page_refuse}
 use Rattle.dvi2_state.proofs.Searches.{false_right}
 use Rattle.dvi2_moves.proofs.CommandKinds.{move_right, move_down, no_truth, MoveCase, move_not, move_bad, move_go, move_early, move_short}
 

@@ -11,9 +11,9 @@ use Rattle.octets.specs.FieldLaws.{both}
 use Rattle.dvi2.specs.Command.{PUT1}
 use Rattle.dvi2_reading.specs.PageReading.{PageCommand, ending, defining, selecting, across, downward, putting, in_bytes, PageState, is_ready, before_put, is_more, valid_in, may_come}
 use Rattle.dvi2_reading.specs.Reading.{in_page, between, page_state_after, may_begin, refuse, short, go, step}
-use Rattle.dvi2_reading.specs.MayLaws.{way₅, as_such}
-use Rattle.dvi2_reading.specs.CommandLaws.{page_next_lem, in_bytes_command}
-use Rattle.dvi2_reading.specs.StepLaws.{Alike, begins_it, holds_it, step_go, step_short, page_refuse}
+use Rattle.dvi2_reading.proofs.MayLaws.{way₅, as_such}
+use Rattle.dvi2_reading.proofs.CommandLaws.{page_next_lem, in_bytes_command}
+use Rattle.dvi2_reading.proofs.StepLaws.{Alike, begins_it, holds_it, step_go, step_short, page_refuse}
 use Rattle.dvi2_moves.proofs.CommandKinds.{Kind, kind, no_truth}
 
 -- ---- eop, and no command

@@ -18,10 +18,10 @@ use Rattle.dvi2.specs.Command.{FNTNUM0, FNT1}
 use Rattle.dvi2.specs.Writer.{selects, definition}
 use Rattle.dvi2_reading.specs.PageReading.{PageCommand, ending, defining, selecting, across, downward, putting, in_bytes, PageState, is_ready, is_more, may_come}
 use Rattle.dvi2_reading.specs.Reading.{in_page, page_state_after, may_begin, refuse, short, go, step, next}
-use Rattle.dvi2_reading.specs.MayLaws.{way₁, way₂, as_such}
-use Rattle.dvi2_reading.specs.CommandLaws.{page_next_lem, in_bytes_command}
+use Rattle.dvi2_reading.proofs.MayLaws.{way₁, way₂, as_such}
+use Rattle.dvi2_reading.proofs.CommandLaws.{page_next_lem, in_bytes_command}
 use Rattle.dvi2_reading.specs.SizeLaws.{Command}
-use Rattle.dvi2_reading.specs.StepLaws.{Alike, begins_it, holds_it, step_go, step_short, page_refuse}
+use Rattle.dvi2_reading.proofs.StepLaws.{Alike, begins_it, holds_it, step_go, step_short, page_refuse}
 use Rattle.dvi2_page.specs.declared.matching.Match.TheVariants.{Whole, Short, Other}
 use Rattle.dvi2_page.specs.Match.{compared}
 use Rattle.dvi2_page.proofs.Matches.{whole_is, short_is, other_is}

@@ -18,7 +18,7 @@ use Rattle.dvi2.specs.Writer.{definition}
 use Rattle.dvi2_reading.specs.PageReading as Page
 use Rattle.dvi2_reading.specs.PageReading.{some_below, may_come, is_ready, defining}
 use Rattle.dvi2_reading.specs.Reading.{step, in_page, refuse, short, go, page_state_after}
-use Rattle.dvi2_reading.specs.BytesLaws.{some_found, found_some}
+use Rattle.dvi2_reading.proofs.BytesLaws.{some_found, found_some}
 use Rattle.dvi2_state.specs.declared.page_state.PageState.{PageState}
 use Rattle.dvi2_page.specs.declared.matching.Match.TheVariants.{Whole, Short, Other}
 use Rattle.dvi2_page.specs.Match.{compared}

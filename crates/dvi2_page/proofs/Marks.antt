@@ -11,7 +11,7 @@ use lib.Dec.{eqb}
 use Rattle.galley_file.specs.declared.item.Item.{Item}
 use Rattle.galley_file.specs.Item.{characters_of}
 use Rattle.extents.specs.FontMarks.{uses, is_marked}
-use Rattle.extents.specs.FontMarksLaws.{marked_used}
+use Rattle.extents.proofs.FontMarksLaws.{marked_used}
 use Rattle.dvi2_reading.specs.PageReading.{is_font, may_choose, ready, named}
 use Rattle.dvi2_reading.specs.PageReading as Page
 use Rattle.dvi.specs.FontOrNone.{font_or_none}

@@ -18,14 +18,14 @@ use Rattle.galley_file.specs.Item.{characters_of}
 use Rattle.dvi2_reading.specs.PageReading as Page
 use Rattle.dvi2_reading.specs.PageReading.{some_below, may_come, may_choose, selecting}
 use Rattle.dvi2_reading.specs.Reading.{step, in_page, refuse, short, go, page_state_after}
-use Rattle.dvi2_reading.specs.BytesLaws.{some_found, found_some}
+use Rattle.dvi2_reading.proofs.BytesLaws.{some_found, found_some}
 use Rattle.dvi2_state.specs.declared.page_state.PageState.{PageState}
 use Rattle.dvi.specs.FontOrNone.{font_or_none}
 use Rattle.dvi2_state.specs.Page.{stage_of, page_state_of, SoundPage}
 use Rattle.dvi2_page.specs.Fonts.{Known, chooses_high, is_free}
 use Rattle.dvi2_page.proofs.Choices.{low_bad, low_go, high_none, high_some, high_bad, high_go}
 use Rattle.extents.specs.FontMarks.{is_marked}
-use Rattle.extents.specs.FontMarksLaws.{marked_used}
+use Rattle.extents.proofs.FontMarksLaws.{marked_used}
 use Rattle.dvi2_page.proofs.Marks.{choose_big}
 use Rattle.dvi2_moves.proofs.CommandKinds.{no_truth}
 

@@ -23,7 +23,7 @@ use Rattle.dvi2_reading.specs.Reading.{in_page, new_page_state, gives, bad, at_e
 use Rattle.dvi2_reading.specs.PageReading as Page
 use Rattle.dvi2_reading.specs.Reached.{writing_of}
 use Rattle.dvi2_reading.specs.Standing.{Standing}
-use Rattle.dvi2_reading.specs.StandingLaws.{standing_end}
+use Rattle.dvi2_reading.proofs.StandingLaws.{standing_end}
 use Rattle.dvi2_state.specs.declared.page_state.PageState.{PageState}
 use Rattle.dvi2_state.specs.Page.{page_state_of}
 use Rattle.dvi2_turn.specs.declared.tally.Tally.{Tally}

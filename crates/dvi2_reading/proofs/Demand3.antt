@@ -18,14 +18,14 @@ use Rattle.galley_file.specs.GalleyLaws.{Accepted, accepted_is}
 use Rattle.galley_file.specs.Outcome.{check_outcome}
 use Rattle.galley_check.specs.ResultLaws.{result_made as checked-made}
 use Rattle.dvi.specs.Edition.{Within, Faithful, Demand3}
-use Rattle.dvi.specs.EditionLaws.{demanded}
+use Rattle.dvi.proofs.EditionLaws.{demanded}
 use Rattle.dvi2.specs.Writer.{dvi2_file}
 use Rattle.dvi2.specs.WriterLaws.{file_fits}
 use Rattle.dvi2.specs.Result.{dvi2_result}
 use Rattle.dvi2.proofs.Items.{across}
 use Rattle.dvi2.proofs.Shown.{file_shows, exact}
 use Rattle.dvi2_reading.specs.Reading.{read2_result}
-use Rattle.dvi2_reading.specs.ReadingLaws.{result_made}
+use Rattle.dvi2_reading.proofs.ReadingLaws.{result_made}
 use Rattle.dvi2_reading.specs.Demand3.{dvi_second, Written, Distinguished}
 
 given : (is : List Item) → Within dvi_second is → (room : ℕ) → read2_result (dvi2_file is) room ≡ if_room no_galley_room room (written (galley New is))

@@ -13,7 +13,7 @@ use Rattle.galley_file.specs.Item.{characters_of, cuts_of}
 use Rattle.galley_file.specs.ItemLaws.{characters_append, cuts_append, all_counted}
 use Rattle.extents.specs.declared.Extents.{Extents}
 use Rattle.extents.specs.Extents.{ExtentsAre, with_one_item, extents_of, no_extents, with_characters}
-use Rattle.extents.specs.ExtentsLaws.{with_item, extents_are}
+use Rattle.extents.proofs.ExtentsLaws.{with_item, extents_are}
 use Rattle.dvi2.specs.Writer.{bop_bytes, Writing, first_writing, writing_after, writing_after_all}
 use Rattle.dvi2.specs.WriterLaws.{writing_small}
 use Rattle.dvi2_frame.specs.Frame.{post_of}
@@ -21,7 +21,7 @@ use Rattle.dvi2_frame.specs.FrameLaws.{ranged, post_is as frame-post}
 use Rattle.dvi2_reading.specs.Beginning.{Writable}
 use Rattle.dvi2_reading.specs.Reading as R
 use Rattle.dvi2_reading.specs.Reached.{writing_of}
-use Rattle.dvi2_reading.specs.PieceLaws.{used_small}
+use Rattle.dvi2_reading.proofs.PieceLaws.{used_small}
 use Rattle.dvi2_page.specs.Fonts.{Known}
 use Rattle.dvi2_turn.specs.declared.tally.Tally.{Tally}
 use Rattle.dvi2_turn.specs.Tally.{TallyIs, TallyRanged}

@@ -19,7 +19,7 @@ use Rattle.dvi2_reading.specs.Reading as R
 use Rattle.dvi2_reading.specs.Reading.{in_page, between, closing, closing_of, new_page_state, character_of, further_bop}
 use Rattle.dvi2_reading.specs.Reached.{writing_of}
 use Rattle.dvi2_reading.specs.Standing.{Standing}
-use Rattle.dvi2_reading.specs.StandingLaws.{here, sole_post, sole_page}
+use Rattle.dvi2_reading.proofs.StandingLaws.{here, sole_post, sole_page}
 use Rattle.dvi2_state.specs.declared.page_state.PageState.{PageState}
 use Rattle.dvi2_state.specs.declared.page_state.Stage.TheVariants.{Ready}
 use Rattle.dvi2_state.specs.Page.{page_state_of, page_position}

@@ -9,7 +9,7 @@ use lib.ListN.{length, length-append}
 use Rattle.octets.specs.Answer.{accepted}
 use Rattle.measure.specs.Place.{height_end}
 use Rattle.octets.specs.Transducer.{transduced}
-use Rattle.octets.specs.TransducerLaws.{transduced_more}
+use Rattle.octets.proofs.TransducerLaws.{transduced_more}
 use Rattle.galley_file.specs.declared.form.Form.TheVariants.{New}
 use Rattle.galley_file.specs.declared.item.Item.{Item}
 use Rattle.galley_file.specs.Form.{max_galley}

@@ -11,7 +11,7 @@ use Rattle.octets.specs.OctetsLaws.{by_cond}
 use Rattle.galley_file.specs.declared.item.Item.{Item}
 use Rattle.galley_file.specs.Item.{characters_of}
 use Rattle.extents.specs.FontMarks.{used_fonts, is_marked, marked_fonts}
-use Rattle.extents.specs.FontMarksLaws.{fonts_marked}
+use Rattle.extents.proofs.FontMarksLaws.{fonts_marked}
 use Rattle.dvi2.specs.Writer.{first_writing, writing_after_all, pages_bytes, definition_bytes, postamble_bytes, fillers, bytes223}
 use Rattle.dvi2.specs.WriterLaws.{length_definitions, definitions_append, length_223}
 use Rattle.dvi2_writer.specs.declared.writing.Writing.{Writing}

@@ -16,7 +16,7 @@ use Rattle.galley_file.specs.Item.{characters_of}
 use Rattle.galley_file.specs.Galley.{max_items, AllValid, items_of}
 use Rattle.galley_file.specs.Outcome.{check_outcome}
 use Rattle.galley_check.specs.ResultLaws.{result_refused, result_made}
-use Rattle.dvi.specs.WriterLaws.{used_fonts_most}
+use Rattle.dvi.proofs.WriterLaws.{used_fonts_most}
 use Rattle.dvi2.specs.Writer.{first_writing, writing_after_all, pages_bytes, postamble_bytes, command_bytes, fillers, bytes223, dvi2_file}
 use Rattle.dvi2.specs.WriterLaws.{length_pages, items_bytes_most, length_postamble}
 use Rattle.dvi2_writer.specs.declared.writing.Writing.{Writing}

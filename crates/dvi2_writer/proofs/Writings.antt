@@ -15,11 +15,11 @@ use Rattle.galley_file.specs.ItemLaws.{characters_append}
 use Rattle.galley_file.specs.Character.{valid}
 use Rattle.galley_file.specs.CharacterLaws.{valid_parts}
 use Rattle.extents.specs.FontMarks.{is_marked, uses}
-use Rattle.extents.specs.FontMarksLaws.{marked_used}
+use Rattle.extents.proofs.FontMarksLaws.{marked_used}
 use Rattle.extents.specs.declared.Extents.{Extents}
 use Rattle.extents.specs.Extents.{ExtentsAre, no_extents}
 use Rattle.dvi.specs.Writer.{start_position}
-use Rattle.extents.specs.ExtentsLaws.{extents_none, extents_more}
+use Rattle.extents.proofs.ExtentsLaws.{extents_none, extents_more}
 use Rattle.dvi2.specs.Writer.{commands_of, Writing as W, first_writing, item_bytes, writing_after, writing_after_all}
 use Rattle.dvi2.specs.WriterLaws.{writing_next, writing_behind}
 use Rattle.dvi2_writer.specs.declared.writing.Writing.{Writing}

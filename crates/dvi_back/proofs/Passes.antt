@@ -32,7 +32,7 @@ use Rattle.dvi_step.specs.declared.State.{State}
 use Rattle.octets.specs.declared.pass.Reading.{Reading}
 use Rattle.octets.specs.declared.pass.Reading.TheVariants.{Needs}
 use Rattle.dvi_galley.specs.Back.{item_shown, Made, nothing, made, broken, pages_of, with_one_item, with_mark, makes, made_result, shown_galley}
-use Rattle.dvi_galley.specs.BackLaws.{makes_append}
+use Rattle.dvi_galley.proofs.BackLaws.{makes_append}
 use Rattle.dvi_galley.specs.Taken.{taken_of}
 use Rattle.dvi_back.specs.Tally.{tally_of, pages_in, place_in, added_by, end_of, tally_reading}
 use Rattle.dvi_galley.specs.declared.item.Taken.{Taken}

@@ -24,7 +24,7 @@ use Rattle.dvi_brackets.specs.Brackets as B
 use Rattle.dvi_brackets.specs.Reading.{InFile, GoodItem, RoomyItem, ItemDone, run_marks, GoodRun, RoomyRun, RunDone}
 use Rattle.dvi_brackets.specs.declared.Item.TheVariants as I
 use Rattle.dvi_brackets.specs.declared.Run.TheVariants as R
-use Rattle.dvi_brackets.specs.BracketsLaws.{first_none, first_first, run_none, run_pop, run_bad, run_end, run_past, SoundItem, item_sound}
+use Rattle.dvi_brackets.proofs.BracketsLaws.{first_none, first_first, run_none, run_pop, run_bad, run_end, run_past, SoundItem, item_sound}
 
 -- nothing more is put
 pub put_over : {w : Bool} {before : List ℕ} {to : ℕ} {xs later : List ℕ} {i : ℕ} {ys latest : List ℕ} {j : ℕ} → Put w before to xs later i → Put w later i ys latest j → ys ≡ [] → Put w before to xs latest i

@@ -22,7 +22,7 @@ use Rattle.dvi_brackets.specs.Reading.{GoodItem, RoomyItem, ItemDone, run_marks,
 use Rattle.dvi_brackets.specs.declared.Item.{Item}
 use Rattle.dvi_brackets.specs.declared.Run.{Run}
 use Rattle.dvi_brackets.specs.declared.Run.TheVariants as R
-use Rattle.dvi_brackets.specs.BracketsLaws.{SoundRun}
+use Rattle.dvi_brackets.proofs.BracketsLaws.{SoundRun}
 use Rattle.dvi_brackets.proofs.Going.{item_bad, item_past}
 
 -- ---- by the first byte

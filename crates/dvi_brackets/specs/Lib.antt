@@ -1,10 +1,4 @@
 -- PUSH and POP of a DVI file of 1980 read as brackets (document 02): the definition, that it is the reading with a stack, and the tree of a well-bracketed run.
 pub mod Brackets
-pub mod BracketsLaws
-pub mod Inner
-pub mod Clean
-pub mod RunAgreement
-pub mod Agreement
 pub mod Tree
-pub mod TreeLaws
 pub mod Reading

@@ -17,7 +17,7 @@ use Rattle.galley_file.specs.declared.character.Character.{Character}
 use Rattle.dvi.specs.Command.{X4, Y4}
 use Rattle.dvi.specs.Writer as W
 use Rattle.dvi.specs.Writer.{x_target_of, y_target_of, font_change, shortest, move, commands_of}
-use Rattle.dvi.specs.WriterLaws.{length_move}
+use Rattle.dvi.proofs.WriterLaws.{length_move}
 use Rattle.dvi_characters.specs.declared.position.Position.{Position}
 use Rattle.dvi_characters.specs.Position.{position_of, OnPage, PositionAt}
 use Rattle.dvi_characters.specs.PositionLaws.{x_at_lem, y_at_lem, on_page_at}

@@ -5,7 +5,7 @@ use Rattle.std.proofs.Math.Path.{ap}
 use Rattle.std.proofs.Common.{subst, ◌∙◌}
 use Rattle.integers.specs.Parts.{integers}
 use Rattle.measure.specs.Place.{low_end}
-use Rattle.measure.specs.TargetLaws.{target_least, target_greatest, y_parts}
+use Rattle.measure.proofs.TargetLaws.{target_least, target_greatest, y_parts}
 use Rattle.galley_file.specs.declared.character.Character.{Character}
 use Rattle.galley_file.specs.declared.item.Item.{Item}
 use Rattle.galley_file.specs.Character.{valid}

@@ -12,7 +12,7 @@ use Rattle.octets.specs.Octets.{bytes, signed_bytes}
 use Rattle.extents.specs.declared.Extents.{Extents}
 use Rattle.extents.specs.FontMarks.{marked_fonts}
 use Rattle.dvi.specs.Writer.{definition_bytes, trailer_bytes}
-use Rattle.dvi.specs.WriterLaws.{definitions_append}
+use Rattle.dvi.proofs.WriterLaws.{definitions_append}
 use Rattle.dvi_frame.specs.Postamble.{marked_font, head_bytes, postamble_of}
 
 module _ (low high : ℕ) where

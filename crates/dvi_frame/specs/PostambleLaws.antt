@@ -6,7 +6,7 @@ use Rattle.integers.specs.Parts.{integers}
 use Rattle.octets.specs.Octets.{bytes, signed_bytes}
 use Rattle.measure.specs.Place.{low_end}
 use Rattle.measure.specs.Target.{x_target, y_target}
-use Rattle.measure.specs.TargetLaws.{target_parts, y_parts}
+use Rattle.measure.proofs.TargetLaws.{target_parts, y_parts}
 use Rattle.galley_file.specs.declared.character.Character.{Character}
 use Rattle.galley_file.specs.declared.item.Item.{Item}
 use Rattle.galley_file.specs.CharacterLaws.{valid_parts, x_range, height_range}
@@ -14,8 +14,8 @@ use Rattle.galley_file.specs.Item.{characters_of}
 use Rattle.galley_file.specs.Galley.{AllValid}
 use Rattle.extents.specs.declared.Extents.{Extents}
 use Rattle.extents.specs.Extents.{largest, x_in, height_in, ExtentsAre}
-use Rattle.extents.specs.ExtentsLaws.{largest_target, largest_least, largest_most}
-use Rattle.extents.specs.FontMarksLaws.{fonts_marked}
+use Rattle.extents.proofs.ExtentsLaws.{largest_target, largest_least, largest_most}
+use Rattle.extents.proofs.FontMarksLaws.{fonts_marked}
 use Rattle.dvi.specs.Writer.{x_target_of, y_target_of, postamble_bytes}
 use Rattle.dvi_frame.specs.Postamble.{head_bytes, postamble_of, HeldExtents}
 

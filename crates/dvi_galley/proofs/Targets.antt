@@ -12,9 +12,9 @@ use mir.Syntax.{w32}
 use mir.Val.{SFits}
 use Rattle.integers.specs.Parts.{integers, up, dn, sum_parts, dif_parts, scale_parts, abs_parts, range_parts}
 use Rattle.measure.specs.Target.{x_target, entry_x}
-use Rattle.measure.specs.TargetLaws.{target_parts, target_least, target_greatest}
+use Rattle.measure.proofs.TargetLaws.{target_parts, target_least, target_greatest}
 use Rattle.dvi_galley.specs.Target.{x_of_target, height_of_target}
-use Rattle.dvi_galley.specs.TargetLaws.{x_of_target_x_target, x_of_target_none}
+use Rattle.dvi_galley.proofs.TargetLaws.{x_of_target_x_target, x_of_target_none}
 
 -- ---- across
 

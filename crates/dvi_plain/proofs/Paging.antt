@@ -21,10 +21,10 @@ use Rattle.sheet.specs.ShownLaws.{shows_first_nil, shows_first_append, shown_roo
 use Rattle.sheet.specs.Filled.{Filled, filled_start, filled_more}
 use Rattle.dvi.specs.Page.{max_stack, new_page}
 use Rattle.dvi.specs.File.{State, between, inside, Step, refuse, go_on, finish, read_dvi}
-use Rattle.dvi.specs.FileLaws.{SoundStep, step_sound, step_here}
+use Rattle.dvi.proofs.FileLaws.{SoundStep, step_sound, step_here}
 use Rattle.dvi_brackets.specs.Brackets.{Run, bad_run, to_pop, to_eop, run, page_then, step_then, pages, read_brackets}
-use Rattle.dvi_brackets.specs.BracketsLaws.{run_pass, SoundRun, run_sound}
-use Rattle.dvi_brackets.specs.Agreement.{Begins, between_begins, agreement}
+use Rattle.dvi_brackets.proofs.BracketsLaws.{run_pass, SoundRun, run_sound}
+use Rattle.dvi_brackets.proofs.Agreement.{Begins, between_begins, agreement}
 use Rattle.dvi_brackets.specs.Reading.{run_marks, RoomyRun}
 use Rattle.dvi_plain.specs.Page.{bop_bytes, page_run, PageRead}
 

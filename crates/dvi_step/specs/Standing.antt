@@ -14,7 +14,7 @@ use Rattle.dvi.specs.File as F
 use Rattle.sheet.specs.Shown.{refused_at, shows, shows_first}
 use Rattle.dvi.specs.File.{refuse, go_on, finish, run_as, read_as}
 use Rattle.sheet.specs.ShownLaws.{shows_first_nil, shows_first_append}
-use Rattle.dvi.specs.FileLaws.{Low, SoundStep, step_sound, step_here, run_next, run_refuse, run_finish, run_end}
+use Rattle.dvi.proofs.FileLaws.{Low, SoundStep, step_sound, step_here, run_next, run_refuse, run_finish, run_end}
 use Rattle.dvi_page.specs.Stack.{stack_size}
 use Rattle.dvi_page.specs.StackLaws.{stack_length}
 use Rattle.dvi_step.specs.Step.{state_of, depth_of}

@@ -10,7 +10,7 @@ use Rattle.octets.specs.Answer.{accepted}
 use Rattle.octets.specs.Octets.{bytes, signed_bytes}
 use Rattle.octets.specs.Write.{Wrote, wrote_none, then, named}
 use Rattle.octets.specs.Transducer.{transduced}
-use Rattle.octets.specs.TransducerLaws.{transduced_more, transduced_part}
+use Rattle.octets.proofs.TransducerLaws.{transduced_more, transduced_part}
 use Rattle.galley_file.specs.declared.form.Form.TheVariants.{New}
 use Rattle.galley_file.specs.declared.item.Item.{Item}
 use Rattle.galley_file.specs.declared.item.Item.TheVariants.{Placed, Cut}
@@ -21,9 +21,9 @@ use Rattle.galley_file.specs.Walk.{Midway, Onward, midway_end, midway_next}
 use Rattle.galley_check.specs.Low.{low_outcome}
 use Rattle.extents.specs.declared.Extents.{Extents}
 use Rattle.extents.specs.Extents.{no_extents, with_characters, extents_of, with_one_item}
-use Rattle.extents.specs.ExtentsLaws.{with_item}
+use Rattle.extents.proofs.ExtentsLaws.{with_item}
 use Rattle.dvi.specs.Writer.{start_position, bop_bytes, Writing, first_writing, item_bytes, writing_after, items_bytes, writing_after_all}
-use Rattle.dvi.specs.WriterLaws.{items_bytes_most, writing_small}
+use Rattle.dvi.proofs.WriterLaws.{items_bytes_most, writing_small}
 use Rattle.dvi.specs.Writer as P
 use Rattle.dvi_characters.specs.declared.position.Position.{Position}
 use Rattle.dvi_writer.specs.declared.writing.Writing.{Writing as CodeWriting}

@@ -18,13 +18,13 @@ use Rattle.galley_file.specs.Galley.{AllValid, items_of}
 use Rattle.galley_check.specs.Low.{low_outcome}
 use Rattle.galley_check.specs.LowLaws.{low_made, low_refused}
 use Rattle.dvi.specs.Writer.{first_writing, writing_after_all, pages_bytes, postamble_bytes, dvi_file}
-use Rattle.dvi.specs.WriterLaws.{length_file}
+use Rattle.dvi.proofs.WriterLaws.{length_file}
 use Rattle.measure.specs.Place.{low_end}
 use Rattle.extents.specs.declared.Extents.{Extents}
 use Rattle.extents.specs.Extents.{ExtentsAre, extents_of}
-use Rattle.extents.specs.ExtentsLaws.{extents_are}
+use Rattle.extents.proofs.ExtentsLaws.{extents_are}
 use Rattle.extents.specs.FontMarks.{FontsAre}
-use Rattle.extents.specs.FontMarksLaws.{fonts_count}
+use Rattle.extents.proofs.FontMarksLaws.{fonts_count}
 use Rattle.dvi_writer.specs.declared.plan.Plan.{Plan}
 use Rattle.dvi_writer.specs.Result.{dvi_result}
 use Rattle.dvi_writer.specs.Plan.{PlanIs}

@@ -20,7 +20,7 @@ use Rattle.galley_file.specs.Galley.{AllValid, more, fields}
 use Rattle.galley_file.specs.GalleyLaws.{fields_append, fields_one}
 use Rattle.extents.specs.declared.Extents.{Extents}
 use Rattle.extents.specs.Extents.{with_characters, with_one_item}
-use Rattle.extents.specs.ExtentsLaws.{with_item}
+use Rattle.extents.proofs.ExtentsLaws.{with_item}
 use Rattle.extents.specs.Fields.{field_items, FieldsOf}
 
 pub record ExtentsAt (s : List ℕ) (first e : Extents) (at : ℕ) : Type 0 where

@@ -1,1 +1,4 @@
 mod FieldRuns
+pub mod FontMarksLaws
+pub mod ExtentsLaws
+pub mod FieldsLaws

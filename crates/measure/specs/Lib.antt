@@ -2,4 +2,3 @@
 pub mod Place
 pub mod PlaceLaws
 pub mod Target
-pub mod TargetLaws

@@ -7,7 +7,6 @@ pub mod PutIfRoom
 pub mod PutIfRoomLaws
 pub mod Space
 pub mod Transducer
-pub mod TransducerLaws
 pub mod Field
 pub mod FieldLaws
 pub mod Answer

@@ -12,7 +12,7 @@ use Rattle.octets.specs.Answer.{accepted, refused, refusal, written, if_room, Gi
 use Rattle.octets.specs.AnswerLaws.{room_refused, room_short, room_enough, gives}
 use Rattle.measure.specs.Place.{height_end}
 use Rattle.octets.specs.Transducer.{transduced}
-use Rattle.octets.specs.TransducerLaws.{transduced_append, transduced_more}
+use Rattle.octets.proofs.TransducerLaws.{transduced_append, transduced_more}
 use Rattle.galley_file.specs.declared.form.Form.TheVariants.{New}
 use Rattle.galley_file.specs.declared.item.Item.{Item}
 use Rattle.galley_file.specs.Form.{max_galley}
@@ -27,7 +27,7 @@ use Rattle.typesetter.specs.declared.machine.State.{State}
 use Rattle.typesetter.specs.Sound.{Sound}
 use Rattle.tape.specs.Tape.{max_tape}
 use Rattle.punch_codes.specs.Codes.{start_codes, begun, item_codes, state_after}
-use Rattle.punch_codes.specs.CodesLaws.{begun_sound, after_sound, item_most}
+use Rattle.punch_codes.proofs.CodesLaws.{begun_sound, after_sound, item_most}
 use Rattle.punch.specs.Punch.{items_codes, state_after_all, punched, if_short, punch_result}
 use Rattle.octets.specs.Write.{sets_start, Put, put_named, put_none, put_then, put_length}
 use Rattle.octets.specs.Space.{Space}

@@ -1,3 +1,2 @@
 -- Punching a tape from a galley (document 02, "Punching a tape").
 pub mod Punch
-pub mod PunchLaws

@@ -1,2 +1,5 @@
 mod Sends
 mod Items
+pub mod CodesLaws
+pub mod ReadyLaws
+pub mod SettingLaws

@@ -1,6 +1,3 @@
 -- The codes of an item on a punched tape (document 02, "Punching a tape").
 pub mod Codes
 pub mod Reach
-pub mod SettingLaws
-pub mod ReadyLaws
-pub mod CodesLaws

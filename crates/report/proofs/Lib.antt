@@ -1,1 +1,4 @@
 mod Entries
+pub mod AmountLaws
+pub mod HeightLaws
+pub mod SumsLaws

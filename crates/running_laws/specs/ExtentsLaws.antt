@@ -19,7 +19,7 @@ use Rattle.galley_file.specs.Galley.{AllValid, nil, more, fields}
 use Rattle.galley_file.specs.GalleyLaws.{fields_append}
 use Rattle.extents.specs.declared.Extents.{Extents}
 use Rattle.extents.specs.Extents.{ExtentsAre, with_characters, extents_of}
-use Rattle.extents.specs.ExtentsLaws.{extents_append, extents_are}
+use Rattle.extents.proofs.ExtentsLaws.{extents_append, extents_are}
 use Rattle.typesetter.specs.declared.code.Machine.{Machine}
 use Rattle.tape.specs.Tape.{machine_of}
 use Rattle.running.specs.declared.Phase.TheVariants.{AtRest}

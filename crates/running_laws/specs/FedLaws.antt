@@ -19,7 +19,7 @@ use Rattle.galley_file.specs.ItemLaws.{all_counted, characters_append}
 use Rattle.galley_file.specs.Galley.{fields}
 use Rattle.galley_file.specs.GalleyLaws.{fields_append}
 use Rattle.extents.specs.Extents.{with_characters, extents_of}
-use Rattle.extents.specs.ExtentsLaws.{extents_append}
+use Rattle.extents.proofs.ExtentsLaws.{extents_append}
 use Rattle.typesetter.specs.declared.code.Machine.{Machine}
 use Rattle.typesetter.specs.declared.machine.State.{State}
 use Rattle.typesetter.specs.Machine.{start}

@@ -15,7 +15,7 @@ use Rattle.octets.specs.Answer.{Result, refusal, written, outcome, number_of, pl
 use Rattle.octets.specs.Field.{end_field}
 use Rattle.octets.specs.Pass.{bytes_of}
 use Rattle.octets.specs.Transducer.{transduced}
-use Rattle.octets.specs.TransducerLaws.{transduced_append}
+use Rattle.octets.proofs.TransducerLaws.{transduced_append}
 use Rattle.galley_file.specs.declared.form.Form.TheVariants.{New}
 use Rattle.galley_file.specs.Item.{characters_of}
 use Rattle.galley_file.specs.Galley.{fields, galley}

@@ -2,10 +2,5 @@
 pub mod State
 pub mod Effect
 pub mod File
-pub mod FileLaws
-pub mod RunLaws
-pub mod PagedLaws
-pub mod PlacedLaws
 pub mod Sheet
-pub mod SheetLaws
 pub mod Cases

@@ -13,7 +13,7 @@ use Rattle.sheet.specs.ShownLaws.{shows_first_nil, shows_first_append}
 use Rattle.xgp_code.specs.Measure.{in_dots}
 use Rattle.xgp.specs.State.{start, with_x}
 use Rattle.xgp.specs.File.{refuse, go_on, run, read_xgp}
-use Rattle.xgp.specs.FileLaws.{due, Few, SoundStep, step_sound, step_here, run_next, run_refuse, run_end}
+use Rattle.xgp.proofs.FileLaws.{due, Few, SoundStep, step_sound, step_here, run_next, run_refuse, run_end}
 use Rattle.xgp.specs.declared.state.State.{State}
 use Rattle.xgp_step.specs.Stretch.{Ran}
 

@@ -15,7 +15,7 @@ use Rattle.sheet.specs.ShownLaws.{shows_first_nil, shows_first_append}
 use Rattle.xgp_code.specs.Measure.{in_dots}
 use Rattle.xgp.specs.State.{with_x, y_in, width_in}
 use Rattle.xgp.specs.File.{go_on, step, run}
-use Rattle.xgp.specs.FileLaws.{run_next}
+use Rattle.xgp.proofs.FileLaws.{run_next}
 use Rattle.xgp.proofs.Quicks.{set_quickly}
 use Rattle.xgp.specs.declared.state.State.{State}
 use Rattle.xgp_step.specs.Stretch.{Ran}

@@ -10,7 +10,7 @@ use mir.Syntax.{w64}
 use Rattle.integers.specs.Bits.{plain}
 use Rattle.sheet.specs.Sheet.{Mark}
 use Rattle.dvi.specs.File.{go_on, PlacedMark, placed_at}
-use Rattle.dvi.specs.FileLaws.{step_here}
+use Rattle.dvi.proofs.FileLaws.{step_here}
 use Rattle.dvi.specs.Mark.{mark_of}
 use Rattle.dvi_step.specs.Step.{state_of, step_of}
 use Rattle.dvi_step.specs.Standing.{Standing, standing_start, standing_next, standing_refused, standing_finished, standing_ended}

@@ -18,7 +18,7 @@ use Rattle.dvi_brackets.specs.Brackets.{page_end, run, item_here}
 use Rattle.dvi_brackets.specs.Reading.{InFile, item_marks, RoomyItem, ItemDone, RoomyRun, RunDone}
 use Rattle.dvi_brackets.specs.declared.Item.{Item}
 use Rattle.dvi_brackets.specs.declared.Run.{Run}
-use Rattle.dvi_brackets.specs.BracketsLaws.{part, run_sound}
+use Rattle.dvi_brackets.proofs.BracketsLaws.{part, run_sound}
 use Rattle.dvi_brackets.proofs.Going.{put_over, item_bad, run_refused, run_popped, run_eop, Going, going_start, going_within, going_over, some_left, no_pop_lem, going_pop, going_bad, going_end, past_inside, going_past, going_room}
 use Rattle.dvi_brackets.proofs.Groups.{here_command, here_deep, here_inner, leave_room, leaves_at, leave_done}
 use Rattle.dvi_brackets.proofs.+read_item_read_run.Goals as goal

@@ -9,7 +9,7 @@ use Rattle.dvi_command.specs.Command.{decoded_of}
 use Rattle.dvi_page.specs.Page.{page_of, effect_of}
 use Rattle.dvi_command.specs.declared.Decoded.{Decoded}
 use Rattle.dvi_brackets.specs.Brackets.{Item, effect_item, command_item}
-use Rattle.dvi_brackets.specs.Inner.{InnerDecoded, inner_decoded}
+use Rattle.dvi_brackets.proofs.Inner.{InnerDecoded, inner_decoded}
 use Rattle.dvi_brackets.specs.Reading.{RoomyItem, ItemDone}
 use Rattle.dvi_brackets.proofs.Going.{item_bad}
 use Rattle.dvi_brackets.proofs.command_item.Goals as goal

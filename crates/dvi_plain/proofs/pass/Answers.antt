@@ -14,7 +14,7 @@ use Rattle.sheet.specs.Shown.{shown_result}
 use Rattle.sheet.specs.ShownLaws.{shown_room}
 use Rattle.sheet.specs.Filled.{filled_refused, filled_finished}
 use Rattle.dvi.specs.File.{between}
-use Rattle.dvi.specs.FileLaws.{step_here}
+use Rattle.dvi.proofs.FileLaws.{step_here}
 use Rattle.dvi.specs.Mark.{mark_of}
 use Rattle.dvi_step.specs.Step.{step_of}
 use Rattle.dvi_step.specs.declared.Stepped.{Stepped}

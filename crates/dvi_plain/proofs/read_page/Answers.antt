@@ -15,7 +15,7 @@ use Rattle.dvi.specs.Page.{max_stack, new_page}
 use Rattle.dvi.specs.Mark.{mark_of}
 use Rattle.dvi_brackets.specs.Brackets as B
 use Rattle.dvi_brackets.specs.Brackets.{page_then}
-use Rattle.dvi_brackets.specs.BracketsLaws.{part}
+use Rattle.dvi_brackets.proofs.BracketsLaws.{part}
 use Rattle.dvi_brackets.specs.Reading.{run_marks, bracket_run, RoomyRun, RunDone}
 use Rattle.dvi_brackets.specs.declared.Run.{Run}
 use Rattle.dvi_plain.specs.Page.{bop_bytes, page_run}

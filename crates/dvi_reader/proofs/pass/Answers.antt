@@ -10,7 +10,7 @@ use lib.IntN.{ℤ}
 use lib.ListN.{length, length-append}
 use Rattle.sheet.specs.Sheet.{Mark, mark_fields}
 use Rattle.dvi.specs.File.{go_on, marks_alone}
-use Rattle.dvi.specs.FileLaws.{step_here}
+use Rattle.dvi.proofs.FileLaws.{step_here}
 use Rattle.sheet.specs.SheetLaws.{field_size, length_mark_field, one_field, mark_fields_append}
 use Rattle.sheet.specs.ShownLaws.{shown_room}
 use Rattle.dvi.specs.Mark.{mark_of}

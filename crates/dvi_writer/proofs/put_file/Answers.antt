@@ -3,7 +3,7 @@
 use native.Mathlib.Omega.{arith}
 use Rattle.octets.specs.Write.{length_wrote}
 use Rattle.dvi.specs.Writer.{first_writing}
-use Rattle.dvi.specs.WriterLaws.{items_bytes_most, length_pages, length_file}
+use Rattle.dvi.proofs.WriterLaws.{items_bytes_most, length_pages, length_file}
 use Rattle.galley_file.specs.declared.form.Form.TheVariants.{New}
 use Rattle.galley_file.specs.Galley.{items_of}
 use Rattle.dvi_writer.proofs.Galleys.{few, all_low}

@@ -6,7 +6,7 @@ use native.Mathlib.Omega.{arith}
 use lib.ListN.{length}
 use Rattle.octets.specs.AnswerLaws.{gives}
 use Rattle.dvi.specs.Writer.{first_writing, dvi_file}
-use Rattle.dvi.specs.WriterLaws.{items_bytes_most}
+use Rattle.dvi.proofs.WriterLaws.{items_bytes_most}
 use Rattle.galley_file.specs.declared.form.Form.TheVariants.{New}
 use Rattle.galley_file.specs.Galley.{items_of}
 use Rattle.dvi_writer.proofs.Galleys.{few, all_low}

@@ -5,7 +5,7 @@ use lib.ListN.{length}
 use Rattle.octets.specs.Octets.{Bytes}
 use Rattle.octets.specs.Answer.{outcome_of}
 use Rattle.octets.specs.AnswerLaws.{gives}
-use Rattle.punch.specs.PunchLaws.{round_trip}
+use Rattle.punch.proofs.PunchLaws.{round_trip}
 use Rattle.punch.proofs.Passes.{punch_refused}
 use Rattle.punch.proofs.punch_tape.Goals as goal
 

@@ -13,7 +13,7 @@ use Rattle.galley_file.specs.Item.{characters_of}
 use Rattle.galley_file.specs.Galley.{fields}
 use Rattle.extents.specs.Extents.{with_characters}
 use Rattle.extents.specs.Fields.{field_items, FieldsOf}
-use Rattle.extents.specs.FieldsLaws.{fields_of}
+use Rattle.extents.proofs.FieldsLaws.{fields_of}
 use Rattle.tape.specs.Tape.{run}
 use Rattle.tape.specs.RunLaws.{run_valid}
 use Rattle.running.specs.RunningLaws.{sound_tape}

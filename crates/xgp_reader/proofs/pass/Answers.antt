@@ -8,7 +8,7 @@ use Rattle.sheet.specs.ShownLaws.{shown_room}
 use Rattle.sheet.specs.Filled.{Filled, filled_start, filled_still, filled_more, filled_refused, filled_finished}
 use Rattle.xgp.specs.State.{with_x, page_marks, set_marks}
 use Rattle.xgp.specs.File.{Step, go_on}
-use Rattle.xgp.specs.FileLaws.{due, length_page_marks, step_here}
+use Rattle.xgp.proofs.FileLaws.{due, length_page_marks, step_here}
 use Rattle.xgp.specs.declared.state.State.{State}
 use Rattle.xgp_step.specs.Step.{step_of}
 use Rattle.xgp_step.specs.declared.stretch.Stretch.{Stretch}

@@ -1,7 +1,7 @@
 use Rattle.std.proofs.Common.{◌+◌, ◌-◌, List, length}
 use Rattle.sheet.specs.Sheet.{Mark}
 use Rattle.sheet.specs.Filled.{Filled}
-use Rattle.xgp.specs.FileLaws.{due}
+use Rattle.xgp.proofs.FileLaws.{due}
 use Rattle.xgp_reader.proofs.Passes.{Standing}
 use Rattle.xgp_reader.proofs.pass.Given as goal
 

@@ -13,7 +13,7 @@ use Rattle.sheet.specs.Readable.{max_file, font_chars}
 use Rattle.sheet.specs.ReadableLaws.{call_refused, call_passed}
 use Rattle.xgp.specs.File.{read_xgp}
 use Rattle.xgp.specs.Sheet.{four_fonts, xgp_result}
-use Rattle.xgp.specs.SheetLaws.{some_negative, readable}
+use Rattle.xgp.proofs.SheetLaws.{some_negative, readable}
 use Rattle.xgp_reader.proofs.read_xgp.Goals as goal
 use Rattle.xgp_reader.proofs.read_xgp.Goals.{After-has_negative, After-pass-found}
 

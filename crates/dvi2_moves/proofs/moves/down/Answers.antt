@@ -16,7 +16,7 @@ use Rattle.dvi2.specs.Writer.{parameter_width}
 use Rattle.dvi2_reading.specs.PageReading.{is_downward}
 use Rattle.dvi2_reading.specs.Reading.{height_of, page_state_after, in_page, go}
 use Rattle.dvi2_reading.specs.PageReading as Page
-use Rattle.dvi2_reading.specs.PieceLaws.{thrice}
+use Rattle.dvi2_reading.proofs.PieceLaws.{thrice}
 use Rattle.dvi2_state.specs.declared.page_state.Stepped.TheVariants.{Bad}
 use Rattle.dvi2_state.specs.Page.{StepsAs}
 use Rattle.dvi2_moves.proofs.CommandKinds.{no_truth}

@@ -5,7 +5,7 @@ use Prim.Native.Nat.{ℕ}
 use native.Mathlib.Omega.{arith}
 use Rattle.galley_file.specs.Item.{characters_of}
 use Rattle.dvi2_reading.specs.PageReading.{some_below}
-use Rattle.dvi2_reading.specs.BytesLaws.{found_some}
+use Rattle.dvi2_reading.proofs.BytesLaws.{found_some}
 use Rattle.dvi.specs.FontOrNone.{font_or_none}
 use Rattle.dvi2_state.specs.Page.{stage_of}
 use Rattle.dvi2_page.specs.Fonts.{chooses_high}

@@ -5,7 +5,7 @@ use Prim.Native.Nat.{ℕ}
 use native.Mathlib.Omega.{arith}
 use Rattle.galley_file.specs.Item.{characters_of}
 use Rattle.dvi2_reading.specs.PageReading.{some_below}
-use Rattle.dvi2_reading.specs.BytesLaws.{found_some}
+use Rattle.dvi2_reading.proofs.BytesLaws.{found_some}
 use Rattle.dvi2_page.specs.Fonts.{is_free}
 use Rattle.dvi2_state.proofs.Searches.{some_next, some_none}
 use Rattle.dvi2_page.proofs.Selects.{used_not_free, unused_free}

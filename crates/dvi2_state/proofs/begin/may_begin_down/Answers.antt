@@ -10,7 +10,7 @@ use Rattle.integers.specs.Parts.{integers}
 use Rattle.integers.specs.Bits.{plain_pos}
 use Rattle.dvi2_reading.specs.PageReading.{some_below}
 use Rattle.dvi2_reading.specs.Reading.{heights}
-use Rattle.dvi2_reading.specs.BytesLaws.{found_some}
+use Rattle.dvi2_reading.proofs.BytesLaws.{found_some}
 use Rattle.dvi2_state.specs.Page.{page_position, down_begins}
 use Rattle.dvi2_state.proofs.Searches.{some_next, some_none, count_fits}
 use Rattle.dvi2_state.proofs.begin.may_begin_down.Goals as goal

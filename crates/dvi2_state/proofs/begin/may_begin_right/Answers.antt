@@ -12,7 +12,7 @@ use Rattle.integers.specs.Bits.{plain, plain_pos}
 use Rattle.measure.specs.Target.{entry_x}
 use Rattle.dvi2_reading.specs.PageReading.{some_below}
 use Rattle.dvi2_reading.specs.Reading.{places}
-use Rattle.dvi2_reading.specs.BytesLaws.{found_some}
+use Rattle.dvi2_reading.proofs.BytesLaws.{found_some}
 use Rattle.dvi2_state.specs.Page.{page_position, right_begins}
 use Rattle.dvi2_state.proofs.Searches.{some_next, some_none, count_fits, place_between, place_fits}
 use Rattle.dvi2_state.proofs.begin.may_begin_right.Goals as goal

@@ -5,7 +5,7 @@ use mathlib.Core.List.{[], ◌∷◌, ◌++◌}
 use native.Mathlib.Omega.{arith}
 use Rattle.galley_file.specs.declared.item.Item.TheVariants.{Cut}
 use Rattle.dvi2_reading.specs.Reading.{in_page, between, new_page_state, at_end}
-use Rattle.dvi2_reading.specs.StandingLaws.{standing_refuse, standing_end, full_refuse}
+use Rattle.dvi2_reading.proofs.StandingLaws.{standing_refuse, standing_end, full_refuse}
 use Rattle.dvi2_close.specs.Reading.{Ended}
 use Rattle.dvi2_close.proofs.Expected.{reads_to_standing, reads_to_fault}
 use Rattle.dvi2_turn.proofs.Tallies.{count_is}

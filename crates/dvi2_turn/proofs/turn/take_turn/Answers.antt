@@ -5,7 +5,7 @@ use Prim.Native.Nat.{◌+◌}
 use native.Mathlib.Omega.{arith}
 use Rattle.dvi2_reading.specs.Reading.{in_page, between}
 use Rattle.dvi2_reading.specs.Standing.{Standing}
-use Rattle.dvi2_reading.specs.StandingLaws.{standing_go, standing_refuse, standing_short}
+use Rattle.dvi2_reading.proofs.StandingLaws.{standing_go, standing_refuse, standing_short}
 use Rattle.dvi2_state.specs.Page.{page_state_of, step_of}
 use Rattle.dvi2_turn.proofs.Stands.{sound, is_down}
 use Rattle.dvi2_turn.proofs.Tallies.{known, count_is, tally_ranged}

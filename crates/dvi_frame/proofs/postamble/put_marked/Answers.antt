@@ -5,7 +5,7 @@ use mathlib.Core.List.{[], ◌∷◌, flatten, append-nil}
 use native.Mathlib.Omega.{arith}
 use Rattle.octets.specs.Write.{named, wrote_none}
 use Rattle.dvi.specs.Writer.{definition}
-use Rattle.dvi.specs.WriterLaws.{length_definitions}
+use Rattle.dvi.proofs.WriterLaws.{length_definitions}
 use Rattle.dvi_frame.specs.Postamble.{marked_font}
 use Rattle.dvi_frame.proofs.postamble.put_marked.Goals as goal
 

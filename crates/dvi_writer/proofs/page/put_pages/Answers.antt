@@ -9,7 +9,7 @@ use lib.ListN.{length}
 use Rattle.octets.specs.Octets.{bytes, signed_bytes}
 use Rattle.octets.specs.Write.{Wrote, then, length_wrote}
 use Rattle.dvi.specs.Writer.{bop_bytes, Writing, pages_bytes}
-use Rattle.dvi.specs.WriterLaws.{length_pages}
+use Rattle.dvi.proofs.WriterLaws.{length_pages}
 use Rattle.galley_file.specs.declared.form.Form.TheVariants.{New}
 use Rattle.galley_file.specs.Galley.{items_of}
 use Rattle.dvi_writer.specs.Writing.{writing_of}

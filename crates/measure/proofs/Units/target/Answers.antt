@@ -11,7 +11,7 @@ use mir.Val.{SFits, to_z, of_z}
 use Rattle.integers.specs.Parts.{integers, up, dn, dif_parts, abs_parts, range_parts, non_neg_by}
 use Rattle.integers.specs.Bits.{plain}
 use Rattle.measure.specs.Target.{x_target, entry_x}
-use Rattle.measure.specs.TargetLaws.{target_parts, target_entry}
+use Rattle.measure.proofs.TargetLaws.{target_parts, target_entry}
 use Rattle.measure.proofs.Units.target.Goals as goal
 use Rattle.measure.proofs.Units.target.Goals.{After-struct_told-2-1}
 

@@ -8,7 +8,7 @@ use Rattle.typesetter.specs.Sound.{Sound}
 use Rattle.punch_codes.specs.Codes.{flash_for, setting_codes, moving_codes}
 use Rattle.octets.specs.Write.{put_named, put_then}
 use Rattle.octets.specs.Space.{space_named, space_first, space_then}
-use Rattle.punch_codes.specs.CodesLaws.{set_sound, set_small}
+use Rattle.punch_codes.proofs.CodesLaws.{set_sound, set_small}
 use Rattle.punch_codes.proofs.Items.{character_codes}
 use Rattle.punch_codes.proofs.item.put_character.Goals as goal
 

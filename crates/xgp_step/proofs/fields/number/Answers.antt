@@ -2,7 +2,7 @@
 -- Assumes nothing.
 use mathlib.Core.Path.{ap}
 use native.Mathlib.Omega.{arith}
-use Rattle.xgp.specs.FileLaws.{due, length_set_marks}
+use Rattle.xgp.proofs.FileLaws.{due, length_set_marks}
 use Rattle.xgp_step.proofs.fields.number.Goals as goal
 
 pub returns-then-s : goal.returns-then-s

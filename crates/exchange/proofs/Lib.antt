@@ -1,0 +1,4 @@
+pub mod AlikeLaws
+pub mod ExchangeLaws
+pub mod SettingLaws
+pub mod SwapLaws
