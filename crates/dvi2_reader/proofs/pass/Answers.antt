@@ -1,12 +1,9 @@
 -- `dvi2_reader::pass` meets its contract: the items so far are read, tallied and written. The measure is what is left of the file.
 -- Assumes nothing.
 use mathlib.Core.Path.{subst, ◌∙◌}
-use Prim.Native.Nat.{◌-◌}
 use native.Mathlib.Omega.{arith}
-use borrow.Author.Rules.{rules}
-use lib.ListN.{length}
 use Rattle.dvi2_turn.specs.Turn.{Turned}
-use Rattle.dvi2_reader.proofs.Passes.{Going, going_start, going_ranged, going_room, going_turning, going_on, going_valid, going_least, going_set, going_whole, going_end}
+use Rattle.dvi2_reader.proofs.Passes.{going_start, going_ranged, going_room, going_turning, going_on, going_valid, going_least, going_set, going_whole, going_end}
 use Rattle.dvi2_reader.proofs.pass.Goals as goal
 
 pub loop-at-init : goal.loop-at-init
@@ -56,9 +53,8 @@ pub with_item-t-requires : goal.with_item-t-requires
 with_item-t-requires c =
     let g = c.loop-at.invariant in
     let t = going_ranged _ _ _ _ _ _ _ g in
-    let v = c.r-in-Set-1.given.0 in
     let y = subst (Turned _ _ _) c.in-Set.is (c.take_turn-r.ensures g.items g.tally g.standing) in
-    ((omega (arith, t.few), omega (arith, t.few_cuts)), (going_least _ _ _ _ _ _ _ g v.0 v.1.0 v.1.1.0 y.1.1 y.1.0, going_valid _ _ _ _ _ _ _ g v.0 v.1.0 v.1.1.0 y.1.1))
+    ((omega (arith, t.few), omega (arith, t.few_cuts)), (going_least _ _ _ _ _ _ _ g c.in-Set.i c.in-Set.g c.in-Set.next y.1.1 y.1.0, going_valid _ _ _ _ _ _ _ g c.in-Set.i c.in-Set.g c.in-Set.next y.1.1))
 
 pub loop-at-smaller : goal.loop-at-smaller
 loop-at-smaller c =
@@ -70,8 +66,7 @@ pub loop-at-preserved : goal.loop-at-preserved
 loop-at-preserved c =
     let g = c.loop-at.invariant in
     let y = subst (Turned _ _ _) c.in-Set.is (c.take_turn-r.ensures g.items g.tally g.standing) in
-    let v = c.r-in-Set-1.given.0 in
-    going_set _ _ _ _ _ _ _ g v.0 v.1.0 v.1.1.0 y.1.1 _ (c.with_item-t.ensures g.items g.tally y.1.0) _ _ c.put_item-to.ensures
+    going_set _ _ _ _ _ _ _ g c.in-Set.i c.in-Set.g c.in-Set.next y.1.1 _ (c.with_item-t.ensures g.items g.tally y.1.0) _ _ c.put_item-to.ensures
 
 pub shape_of-out : goal.shape_of-out
 shape_of-out c = c.loop-at.invariant.puts.same_length

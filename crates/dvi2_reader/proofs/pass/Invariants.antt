@@ -1,10 +1,6 @@
-use mathlib.Core.Path.{subst, ◌∙◌}
 use Prim.Native.Nat.{◌-◌}
-use native.Mathlib.Omega.{arith}
-use borrow.Author.Rules.{rules}
 use lib.ListN.{length}
-use Rattle.dvi2_turn.specs.Turn.{Turned}
-use Rattle.dvi2_reader.proofs.Passes.{Going, going_start, going_ranged, going_room, going_turning, going_on, going_valid, going_least, going_set, going_whole, going_end}
+use Rattle.dvi2_reader.proofs.Passes.{Going}
 use Rattle.dvi2_reader.proofs.pass.Given as goal
 
 abbrev pub invariant-loop-at : goal.invariant-loop-at

@@ -2,7 +2,6 @@
 -- Assumes nothing.
 use mathlib.Core.Path.{refl}
 use native.Mathlib.Omega.{arith}
-use borrow.Author.Rules.{rules}
 use Rattle.octets.specs.Octets.{bytes}
 use Rattle.octets.specs.Field.{field, end_field}
 use Rattle.octets.specs.PutIfRoomLaws.{put_if_room_written, put_if_room_counted}

@@ -1,7 +1,6 @@
 -- `dvi2_reader::read_dvi2` meets its contract: the limit first; then the start of the file, and its pages.
 -- Assumes nothing.
 use mathlib.Core.List.{[]}
-use borrow.Author.Rules.{rules}
 use Rattle.dvi2_reading.specs.Reading.{in_page, new_page_state}
 use Rattle.dvi2_close.proofs.Expected.{reads_to_standing, reads_to_fault}
 use Rattle.dvi2_reader.proofs.Results.{long_gives, fault_gives}

@@ -1,7 +1,6 @@
 -- `dvi2_reader::read_pages` meets its contract: the first pass gives the length, and the second writes.
 -- Assumes nothing.
 use mathlib.Core.Path.{subst}
-use borrow.Author.Rules.{rules}
 use Rattle.dvi2_reader.specs.Pass.{Passed}
 use Rattle.dvi2_reader.proofs.Results.{fault_gives, short_gives, whole_gives}
 use Rattle.dvi2_reader.proofs.read_pages.Goals as goal
