@@ -13,6 +13,7 @@ import sys
 MOVED = {
     "octets": "TransducerLaws",
     "measure": "TargetLaws",
+    "galley_items": "HereLaws",
     "extents": "FontMarksLaws ExtentsLaws FieldsLaws",
     "dvi": "WriterLaws PageLaws FileLaws SheetLaws EditionLaws",
     "dvi2_reading": "BeginningLaws BytesLaws CharacterPath CommandLaws LiveLaws MayLaws PageFontLaws PageLaws PageMoveLaws Path PathLaws"

@@ -1,3 +1,2 @@
 -- The items of a galley, one by one.
 pub mod Here
-pub mod HereLaws

@@ -31,18 +31,18 @@ met (suc k) g at =
       | no_item number place ↦ []
     ]
 
--- by what stands at each place of g
-module _ (g : List ℕ) (here_is : (at : ℕ) → here_outcome g at ≡ or_malformed at (next_item New (drop at g))) where
+module _ (g : List ℕ) where
   here_next : (at : ℕ) (i : Item) → next_item New (drop at g) ≡ some i → here_outcome g at ≡ is_item i
-  here_next at i e = here_is at ∙ ap (or_malformed at) e
+  unfolding here_outcome
+  here_next at i e = ap (or_malformed at) e
 
   -- past all items there is End
   here_end : (done : List Item) (at : ℕ) → Walk New g done [] at → here_outcome g at ≡ no_item galley_malformed at
-  unfolding starts_end
+  unfolding here_outcome starts_end
   here_end done at w =
       let s = (last New w.left (drop at g) at w.before w.holds).starts in
       let t = (starts (both _ _ s).0).tag_is in
-      here_is at ∙ ap (or_malformed at) (next_none New (drop at g) (λ e. omega (arith, t, e)) (λ e. omega (arith, t, e)))
+      ap (or_malformed at) (next_none New (drop at g) (λ e. omega (arith, t, e)) (λ e. omega (arith, t, e)))
 
   met_rest : (rest done : List Item) (at k : ℕ) → length rest ≤ k → Walk New g done rest at → met k g at ≡ rest
   unfolding met
@@ -53,6 +53,10 @@ module _ (g : List ℕ) (here_is : (at : ℕ) → here_outcome g at ≡ or_malfo
       let n = (first New w.left (drop at g) at w.before i rest w.holds).next in
       rw (here_next at i n, met) (ap (λ (is : List Item). i ∷ is) (met_rest rest (done ++ (i ∷ [])) (at + item_size New i) k (omega arith) (walk_step New g done i rest at w).walk))
 
+  -- as many as may be asked for
+  pub one_by_one : (count k : ℕ) → accepted count ≡ check_outcome New g → length (items_of New g) ≤ k → met k g 0 ≡ items_of New g
+  one_by_one count k e h = met_rest (items_of New g) [] 0 k h (walk_start New g (items_of New g) (read_as New g count e))
+
   walk_through : (rest done : List Item) (at : ℕ) → Walk New g done rest at → here_outcome g (length g - 7) ≡ no_item galley_malformed (length g - 7)
   walk_through [] done at w =
       let l = (last New w.left (drop at g) at w.before w.holds).long in
@@ -60,12 +64,5 @@ module _ (g : List ℕ) (here_is : (at : ℕ) → here_outcome g at ≡ or_malfo
       ap (λ (n : ℕ). here_outcome g n) (sym z) ∙ here_end done at w ∙ ap (no_item galley_malformed) z
   walk_through (i ∷ rest) done at w = walk_through rest (done ++ (i ∷ [])) (at + item_size New i) (walk_step New g done i rest at w).walk
 
-module _ (g : List ℕ) where
-  -- as many as may be asked for
-  pub one_by_one : (count k : ℕ) → accepted count ≡ check_outcome New g → length (items_of New g) ≤ k → met k g 0 ≡ items_of New g
-  unfolding here_outcome
-  one_by_one count k e h = met_rest g (λ at. refl) (items_of New g) [] 0 k h (walk_start New g (items_of New g) (read_as New g count e))
-
   pub none_at_end : (count : ℕ) → accepted count ≡ check_outcome New g → here_outcome g (length g - 7) ≡ no_item galley_malformed (length g - 7)
-  unfolding here_outcome
-  none_at_end count e = walk_through g (λ at. refl) (items_of New g) [] 0 (walk_start New g (items_of New g) (read_as New g count e))
+  none_at_end count e = walk_through (items_of New g) [] 0 (walk_start New g (items_of New g) (read_as New g count e))
