@@ -16,7 +16,6 @@ use Rattle.octets.specs.Answer.{accepted, written, if_room, no_galley_room}
 use Rattle.measure.specs.Place.{height_end, low_end}
 use Rattle.galley_file.specs.declared.item.Item.{Item}
 use Rattle.galley_file.specs.declared.item.Item.TheVariants.{Placed, Cut}
-use Rattle.galley_file.specs.Character.{valid}
 use Rattle.galley_file.specs.Item.{cuts_of}
 use Rattle.galley_file.specs.ItemLaws.{cuts_append}
 use Rattle.galley_file.specs.declared.form.Form.TheVariants.{New}

@@ -2,7 +2,6 @@
 -- Assumes nothing.
 use mathlib.Core.Path.{◌≡◌, sym, ap, subst, ◌∙◌}
 use mathlib.Core.Option.{Option, none, some}
-use borrow.Author.Rules.{rules}
 use lib.IntN.{ℤ}
 use Rattle.integers.specs.Bits.{plain}
 use Rattle.dvi_galley.specs.Target.{x_of_target, height_of_target}

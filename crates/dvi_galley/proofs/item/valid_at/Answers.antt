@@ -2,7 +2,6 @@
 -- Assumes nothing.
 use mathlib.Core.Path.{◌≡◌, sym, ◌∙◌}
 use mathlib.Core.Bool.{false}
-use borrow.Author.Rules.{rules}
 use lib.IntN.{pos}
 use lib.Signed.{lt_z}
 use Rattle.integers.specs.Parts.{integers, abs_parts, range_parts, non_neg_by}
@@ -36,4 +35,4 @@ returns-then-valid_but_height c =
 pub returns : goal.returns
 returns c =
     let a = c.args in
-    character_not a.x a.h a.ch c.requires a.font (natural c.before.before.before) (sym c.if-valid_but_height.false ∙ rw (plain c.ranges.font) at c.valid_but_height.ensures)
+    character_not a.x a.h a.ch c.requires a.font (natural (goal.at.returns c).Else-font-lt0) (sym c.if-valid_but_height.false ∙ rw (plain c.ranges.font) at c.valid_but_height.ensures)

@@ -54,4 +54,4 @@ returns-then-n-eq0 c =
 
 pub returns : goal.returns
 returns c =
-    (height_missing (t c.before) (natural c.before) (rw (plain (t-fits c.before)) at c.if-n-eq0.false), tt)
+    (height_missing (t (goal.at.returns c).Else-z-lt0) (natural (goal.at.returns c).Else-z-lt0) (rw (plain (t-fits (goal.at.returns c).Else-z-lt0)) at c.if-n-eq0.false), tt)

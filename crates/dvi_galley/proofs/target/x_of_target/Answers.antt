@@ -81,10 +81,10 @@ overflow_add-x c =
 
 pub target-there-requires : goal.target-there-requires
 target-there-requires c =
-    rw (plain (t-fits (goal.at.target-there-requires c).Else-z-2), plain (thrice (goal.at.target-there-requires c).Else-z-2), plain (sum (goal.at.target-there-requires c).Else-z-2), plain_pos {w = w32} (k-fits (goal.at.target-there-requires c).Else-z-2), plain (x_fits (goal.at.target-there-requires c).Else-z-2)) (
-      (omega (integers, sum_parts (pos (k (goal.at.target-there-requires c).Else-z-2)) (negsuc 54)), omega (integers, index_below (t (goal.at.target-there-requires c).Else-z-2) (low (goal.at.target-there-requires c).Else-z-2) (high (goal.at.target-there-requires c).Else-z-2), sum_parts (pos (k (goal.at.target-there-requires c).Else-z-2)) (negsuc 54))),
-      search rules,
-    )
+    let p = (goal.at.target-there-requires c).Else-z-2 in
+    let s = sum_parts (pos (k p)) (negsuc 54) in
+    rw (plain (t-fits p), plain (thrice p), plain (sum p), plain_pos {w = w32} (k-fits p), plain (x_fits p))
+    (record { negsuc_bound = (omega (integers, s), omega (integers, index_below (t p) (low p) (high p), s)); targets_value = search rules })
 
 -- the target there
 there-is : (c : After-target-there) → c.target-there.result.0 ≡ x_target (entry_x (k c.before.before.before))
@@ -103,4 +103,4 @@ returns-then-found-z c =
 
 pub returns : goal.returns
 returns c =
-    sym (index_missing (t c.before.before.before.before.before) (low c.before.before.before.before.before) (high c.before.before.before.before.before) (λ q. c.if-found-z.false (ap (of_z w32) (there-is c.before.before ∙ q))))
+    sym (index_missing (t (goal.at.returns c).Else-z-2) (low (goal.at.returns c).Else-z-2) (high (goal.at.returns c).Else-z-2) (λ q. c.if-found-z.false (ap (of_z w32) (there-is (goal.at.returns c).After-target-there ∙ q))))
