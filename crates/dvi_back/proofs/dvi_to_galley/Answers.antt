@@ -3,7 +3,6 @@
 use mathlib.Core.Path.{◌≡◌, refl, sym}
 use mathlib.Core.Bool.{true, true≢false}
 use Prim.Native.Nat.{◌≤◌}
-use borrow.Author.Rules.{rules}
 use lib.ListN.{length}
 use Rattle.octets.specs.Answer.{if_room, no_galley_room}
 use Rattle.octets.specs.AnswerLaws.{gives}
@@ -14,7 +13,7 @@ use Rattle.dvi.specs.File.{read_placed}
 use Rattle.dvi.specs.Sheet.{whole_fonts}
 use Rattle.dvi_galley.specs.Back.{shown_galley, back_result}
 use Rattle.dvi_back.proofs.dvi_to_galley.Goals as goal
-use Rattle.dvi_back.proofs.dvi_to_galley.Goals.{After-pass-arg-1}
+use Rattle.dvi_back.proofs.dvi_to_galley.Goals.{After-pass-found}
 
 pub returns-then-number-ne0 : goal.returns-then-number-ne0
 unfolding back_result
@@ -23,7 +22,7 @@ returns-then-number-ne0 c =
     gives (call_refused a.dvi.now (whole_fonts a.widths.now) c.call_refusal-number.ensures _ c.if-number-ne0.true) refl refl
 
 -- the tests of the whole call are passed
-module _ (c : After-pass-arg-1) where
+module _ (c : After-pass-found) where
   passed : (length c.args.dvi.now ≤ max_file) × (whole_fonts c.args.widths.now ≡ true)
   passed = call_passed c.args.dvi.now (whole_fonts c.args.widths.now) c.call_refusal-number.ensures c.if-number-ne0.false
 
@@ -33,17 +32,17 @@ module _ (c : After-pass-arg-1) where
   reads = readable c.args.dvi.now (whole_fonts c.args.widths.now) _ passed.0 passed.1
 
 pub pass-found-requires : goal.pass-found-requires
-pass-found-requires c = record { dvi_len_bound = (passed c).0; roomy = λ w. absurd (true≢false (sym w)) }
+pass-found-requires c = record { dvi_len_bound = (call_passed c.args.dvi.now (whole_fonts c.args.widths.now) c.call_refusal-number.ensures c.if-number-ne0.false).0; roomy = λ w. absurd (true≢false (sym w)) }
 
 pub returns-in_default : goal.returns-in_default
 returns-in_default c =
-    pass_refused no_galley_room c.answered-given.result c.pass-found.ensures c.answered-given.ensures (reads (goal.at.returns-in_default c).After-pass-arg-1) c.in_default.is
+    pass_refused no_galley_room c.answered-given.result c.pass-found.ensures c.answered-given.ensures (reads (goal.at.returns-in_default c).After-pass-found) c.in_default.is
 
 pub pass-requires : goal.pass-requires
 pass-requires c =
-    record { dvi_len_bound = (passed c).0; roomy = λ _. pass_roomy no_galley_room c.answered-given.result c.pass-found.ensures c.answered-given.ensures c.in-Accepted.is }
+    record { dvi_len_bound = (passed (goal.at.pass-requires c).After-pass-found).0; roomy = λ _. pass_roomy no_galley_room c.answered-given.result c.pass-found.ensures c.answered-given.ensures c.in-Accepted.is }
 
 pub returns : goal.returns
 returns c =
     let second = c.pass.ensures in
-    pass_whole no_galley_room c.answered-given.result c.pass-found.ensures c.answered-given.ensures (reads c.before.before.before.before.before.before.before.before.before.before) c.in-Accepted.is second
+    pass_whole no_galley_room c.answered-given.result c.pass-found.ensures c.answered-given.ensures (reads (goal.at.returns c).After-pass-found) c.in-Accepted.is second

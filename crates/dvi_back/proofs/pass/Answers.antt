@@ -4,9 +4,8 @@
 use mathlib.Core.Path.{◌≡◌, refl, sym, ap, subst, ◌∙◌}
 use mathlib.Core.Bool.{true}
 use mathlib.Core.List.{List, [], ◌∷◌, ◌++◌}
-use Prim.Native.Nat.{ℕ, ◌+◌, ◌-◌}
+use Prim.Native.Nat.{ℕ, ◌+◌}
 use native.Mathlib.Omega.{arith}
-use borrow.Author.Rules.{rules}
 use lib.IntN.{ℤ}
 use lib.ListN.{length}
 use mir.Syntax.{w64}
@@ -20,13 +19,14 @@ use Rattle.dvi_step.specs.Standing.{Standing, standing_start, standing_next, sta
 use Rattle.dvi_step.specs.declared.State.{State}
 use Rattle.dvi_step.specs.declared.Stepped.{Stepped}
 use Rattle.octets.specs.PassLaws.{passed_refused}
-use Rattle.dvi_galley.specs.Back.{Made, nothing, with_one_item, makes, shown_galley}
+use Rattle.dvi_galley.specs.Back.{Made, nothing, with_one_item, item_shown, makes, shown_galley}
 use Rattle.dvi_galley.specs.Taken.{taken_of}
+use Rattle.dvi_galley.specs.declared.item.Taken.{Taken}
 use Rattle.dvi_back.specs.Tally.{pages_in}
 use Rattle.dvi_back.specs.declared.tally.Tally.{Tally}
 use Rattle.dvi_back.proofs.Passes.{Fits, standing_fits, Tallied, tallied_start, tallied_still, tallied_more, tallied_named, tallied_unwritten, marked, more_room, end_room, passed_finished}
 use Rattle.dvi_back.proofs.pass.Goals as goal
-use Rattle.dvi_back.proofs.pass.Goals.{After-step-r, In-Go, In-Show, After-item_of-i, After-with_item-g}
+use Rattle.dvi_back.proofs.pass.Goals.{After-step-r}
 
 -- what one step says of the file
 module _ (c : After-step-r) where
@@ -58,27 +58,17 @@ module _ (c : After-step-r) where
   further : (t : State) (ms : List Mark) (n : ℕ) {r : Stepped} → c.step-r.result ≡ r → step_of r entries ≡ go_on (state_of t entries) ms n → Further t ms n
   further t ms n e f = standing_next standing c.loop-at-test.true entries t ms n (c.step-r.auto.entries ∙ standing.whole) (stepped e ∙ f)
 
-goes : (c : In-Go) → let g = c.r-in-Go-1.given.0 in Further c.before.before.before.before g.0 [] g.1.0
-goes c = further (record { before = c.before.before.before.before.before; type_inv = record { dvi = c.type_inv.dvi } }) c.in-Go.t [] c.in-Go.n c.in-Go.is refl
+  -- the item that a mark shows
+  module _ (t : State) (m : Mark) (n : ℕ) (s : Further t (m ∷ []) n) (i : Taken) (f : taken_of i ≡ item_shown (pages_in counts) m) where
+    abbrev made-next : Made
+    made-next = with_one_item (makes nothing marks) place (taken_of i)
 
-showing : (c : In-Show)
-    → let g = c.r-in-Show-1.given.0 in Further c.before.before.before.before g.0 (mark_of g.1.0 ∷ []) g.1.1.0
-showing c =
-    further (record { before = c.before.before.before.before.before; type_inv = record { dvi = c.type_inv.dvi } }) c.in-Show.t (mark_of c.in-Show.m ∷ []) c.in-Show.n c.in-Show.is refl
+    made-is : makes nothing (marks ++ placed_at place (m ∷ [])) ≡ made-next
+    made-is = marked marks place m counts i tallied.counted f
 
--- the item that the mark shows
-module _ (c : After-item_of-i) where
-  abbrev made-next : Made
-  made-next = with_one_item (makes nothing (marks here)) (place here) (taken_of c.item_of-i.result)
-
-  made-is : makes nothing (marks here ++ placed_at (place here) (mark_of c.in-Show.m ∷ [])) ≡ made-next
-  made-is =
-      marked (marks here) (place here) (mark_of c.in-Show.m) (counts here) c.item_of-i.result (tallied here).counted
-      (c.item_of-i.ensures (pages_in (counts here)) (plain {w = w64} (record { sfits = c.next_page.type_inv }) ∙ c.next_page.ensures))
-
-  -- with its field there is room, if writing
-  next_fits : c.args.writing ≡ true → Fits (length c.args.out.now) made-next
-  next_fits w = subst (Fits (length c.args.out.now)) made-is (standing_fits (showing told) (length c.args.out.now) (c.requires.roomy w))
+    -- with its field there is room, if writing
+    next_fits : c.args.writing ≡ true → Fits (length c.args.out.now) made-next
+    next_fits w = subst (Fits (length c.args.out.now)) made-is (standing_fits s (length c.args.out.now) (c.requires.roomy w))
 
 pub loop-at-init : goal.loop-at-init
 unfolding makes
@@ -101,43 +91,69 @@ returns-in-Refuse c =
     passed_refused (ap shown_galley e) c.requires.roomy (tallied_unwritten (tallied (goal.at.returns-in-Refuse c).After-step-r))
 
 pub overflow_add-at : goal.overflow_add-at
-overflow_add-at c = record { fits = omega (arith, (goes c).within, c.requires.dvi_len_bound) }
+overflow_add-at c =
+    let k = (goal.at.overflow_add-at c).After-step-r in
+    let s = further k c.in-Go.t [] c.in-Go.n c.in-Go.is refl in
+    record { fits = omega (arith, s.within, c.requires.dvi_len_bound) }
 
 pub overflow_add-at-in-Go : goal.overflow_add-at-in-Go
-overflow_add-at-in-Go c = record { fits = omega (arith, (goes c).within, c.requires.dvi_len_bound) }
+overflow_add-at-in-Go c =
+    let k = (goal.at.overflow_add-at-in-Go c).After-step-r in
+    let s = further k c.in-Go.t [] c.in-Go.n c.in-Go.is refl in
+    record { fits = omega (arith, s.within, c.requires.dvi_len_bound) }
 
 pub loop-at-smaller-in-Go : goal.loop-at-smaller-in-Go
-loop-at-smaller-in-Go c = omega (arith, (goes c).within, c.loop-at-test.true)
+loop-at-smaller-in-Go c =
+    let k = (goal.at.loop-at-smaller-in-Go c).After-step-r in
+    let s = further k c.in-Go.t [] c.in-Go.n c.in-Go.is refl in
+    omega (arith, s.within, c.loop-at-test.true)
 
 pub loop-at-preserved-in-Go : goal.loop-at-preserved-in-Go
-loop-at-preserved-in-Go c = (_, (goes c, tallied_still (marks (goal.at.loop-at-preserved-in-Go c).After-step-r) (place (goal.at.loop-at-preserved-in-Go c).After-step-r) (tallied (goal.at.loop-at-preserved-in-Go c).After-step-r)))
+loop-at-preserved-in-Go c =
+    let k = (goal.at.loop-at-preserved-in-Go c).After-step-r in
+    let s = further k c.in-Go.t [] c.in-Go.n c.in-Go.is refl in
+    (_, (s, tallied_still (marks k) (place k) (tallied k)))
 
 pub show_item-requires : goal.show_item-requires
-show_item-requires c κs w =
-    omega (arith, more_room (length c.args.out.now) (makes nothing (marks (goal.at.show_item-requires c).After-step-r)) (counts (goal.at.show_item-requires c).After-step-r) (place (goal.at.show_item-requires c).After-step-r) c.item_of-i.result (tallied (goal.at.show_item-requires c).After-step-r).counted (next_fits (goal.at.show_item-requires c).After-item_of-i w), (tallied (goal.at.show_item-requires c).After-step-r).same)
-
-abbrev item : After-with_item-g → After-item_of-i
-item c = c.before.before.before.before.before
+show_item-requires c =
+    λ w.
+    let k = (goal.at.show_item-requires c).After-step-r in
+    let s = further k c.in-Show.t (mark_of c.in-Show.m ∷ []) c.in-Show.n c.in-Show.is refl in
+    let f = c.item_of-i.ensures (pages_in (counts k)) (plain {w = w64} (record { sfits = c.next_page.type_inv }) ∙ c.next_page.ensures) in
+    omega (arith, more_room (length c.args.out.now) (makes nothing (marks k)) (counts k) (place k) c.item_of-i.result (tallied k).counted (next_fits k c.in-Show.t (mark_of c.in-Show.m) c.in-Show.n s c.item_of-i.result f w), (tallied k).same)
 
 pub overflow_add-at-in-Show : goal.overflow_add-at-in-Show
-overflow_add-at-in-Show c = record { fits = omega (arith, (showing (told (item c))).within, (start (here (item c))).pre.0) }
+overflow_add-at-in-Show c =
+    let k = (goal.at.overflow_add-at-in-Show c).After-step-r in
+    let s = further k c.in-Show.t (mark_of c.in-Show.m ∷ []) c.in-Show.n c.in-Show.is refl in
+    record { fits = omega (arith, s.within, c.requires.dvi_len_bound) }
 
 pub overflow_add-at-in-Show-2 : goal.overflow_add-at-in-Show-2
-overflow_add-at-in-Show-2 c = record { fits = omega (arith, (showing (told (item c))).within, (start (here (item c))).pre.0) }
+overflow_add-at-in-Show-2 c =
+    let k = (goal.at.overflow_add-at-in-Show-2 c).After-step-r in
+    let s = further k c.in-Show.t (mark_of c.in-Show.m ∷ []) c.in-Show.n c.in-Show.is refl in
+    record { fits = omega (arith, s.within, c.requires.dvi_len_bound) }
 
 pub loop-at-smaller : goal.loop-at-smaller
-loop-at-smaller c = omega (arith, (showing (told (item c))).within, (here (item c)).before.before.loop-test.taken)
+loop-at-smaller c =
+    let k = (goal.at.loop-at-smaller c).After-step-r in
+    let s = further k c.in-Show.t (mark_of c.in-Show.m ∷ []) c.in-Show.n c.in-Show.is refl in
+    omega (arith, s.within, c.loop-at-test.true)
 
 pub loop-at-preserved : goal.loop-at-preserved
 loop-at-preserved c =
-    let i = item c in
-    let s = c.show_item in
-    let counted = c.with_item-g.ensures (makes nothing (marks i)) (tallied i).counted in
-    let t = tallied_more (tallied i) (length i.args.out.now) (place i) i.item_of-i.result s.ensures s.auto.out (next_fits i) counted in
-    (_, (showing (told i), tallied_named (sym (made-is i)) t))
+    let k = (goal.at.loop-at-preserved c).After-step-r in
+    let s = further k c.in-Show.t (mark_of c.in-Show.m ∷ []) c.in-Show.n c.in-Show.is refl in
+    let f = c.item_of-i.ensures (pages_in (counts k)) (plain {w = w64} (record { sfits = c.next_page.type_inv }) ∙ c.next_page.ensures) in
+    let i = c.item_of-i.result in
+    let counted = c.with_item-g.ensures (makes nothing (marks k)) (tallied k).counted in
+    let t =
+    tallied_more (tallied k) (length c.args.out.now) (place k) i c.show_item.ensures c.show_item.auto.out
+    (next_fits k c.in-Show.t (mark_of c.in-Show.m) c.in-Show.n s i f) counted in
+    (_, (s, tallied_named (sym (made-is k c.in-Show.t (mark_of c.in-Show.m) c.in-Show.n s i f)) t))
 
 pub finish-requires : goal.finish-requires
-finish-requires c κs w =
+finish-requires c w =
     let room = length c.args.out.now in
     omega (arith, end_room room (makes nothing (marks (goal.at.finish-requires c).After-step-r)) (counts (goal.at.finish-requires c).After-step-r) (tallied (goal.at.finish-requires c).After-step-r).counted (standing_fits (standing (goal.at.finish-requires c).After-step-r) room (c.requires.roomy w)), (tallied (goal.at.finish-requires c).After-step-r).same)
 

@@ -3,7 +3,6 @@
 use mathlib.Core.Path.{sym, ap, ◌∙◌}
 use Prim.Native.Nat.{ℕ, ◌+◌}
 use native.Mathlib.Omega.{arith}
-use borrow.Author.Rules.{rules}
 use lib.ListN.{length}
 use Rattle.octets.specs.Field.{end_field}
 use Rattle.octets.specs.FieldLaws.{length_end}
@@ -14,7 +13,7 @@ use Rattle.dvi_back.specs.declared.tally.Tally.{Tally}
 use Rattle.dvi_back.proofs.tally.finish.Goals as goal
 
 pub show_end-requires : goal.show_end-requires
-show_end-requires c κs w =
+show_end-requires c w =
     omega (arith, c.requires w, ap place_in c.in-Items.is, ap (λ (k : Tally). length (end_of k)) c.in-Items.is, length_end c.in-Items.characters, c.place-to.ensures.0)
 
 pub returns-in-Nothing : goal.returns-in-Nothing

@@ -1,7 +1,6 @@
 -- `dvi_back::tally::first_item` meets its contract, case by case.
 -- Assumes nothing.
 use mathlib.Core.Path.{sym, ap, ◌∙◌}
-use borrow.Author.Rules.{rules}
 use Rattle.galley_file.specs.Item.{cuts_of, characters_of}
 use Rattle.dvi_galley.specs.Back.{nothing, with_one_item}
 use Rattle.dvi_galley.specs.Taken.{taken_of}

@@ -8,7 +8,6 @@ use Rattle.dvi_back.specs.Tally.{tally_of}
 use Rattle.dvi_galley.specs.declared.item.Taken.{Taken}
 use Rattle.dvi_galley.specs.declared.item.Taken.TheVariants.{Is}
 use Rattle.dvi_back.proofs.Items.{full_item, no_item, character_item, cut_item}
-use borrow.Author.Rules.{rules}
 use Rattle.dvi_back.proofs.tally.next_item.Goals as goal
 
 -- src/tally.rt:60:21

@@ -2,7 +2,6 @@
 -- Assumes nothing.
 use mathlib.Core.Path.{sym, ap, ◌∙◌}
 use native.Mathlib.Omega.{arith}
-use borrow.Author.Rules.{rules}
 use lib.ListN.{length}
 use Rattle.octets.specs.Write.{put_if, put_if_none}
 use Rattle.dvi_back.specs.Tally.{place_in, field_of, added_by}
@@ -10,7 +9,7 @@ use Rattle.dvi_back.specs.declared.tally.Tally.{Tally}
 use Rattle.dvi_back.proofs.tally.show_item.Goals as goal
 
 pub show_taken-requires : goal.show_taken-requires
-show_taken-requires c κs w =
+show_taken-requires c w =
     let e = c.in-Items.is in
     omega (arith, c.requires w, ap place_in e, ap (λ (k : Tally). length (added_by k c.args.i)) e, c.place.ensures.0)
 

@@ -1,7 +1,6 @@
 -- `dvi_back::tally::with_item` meets its contract, case by case.
 -- Assumes nothing.
 use mathlib.Core.Path.{sym, ap, ◌∙◌}
-use borrow.Author.Rules.{rules}
 use Rattle.dvi_galley.specs.Back.{Made, with_one_item}
 use Rattle.dvi_galley.specs.Taken.{taken_of}
 use Rattle.dvi_back.specs.Tally.{tally_of}
