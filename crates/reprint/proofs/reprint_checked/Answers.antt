@@ -69,7 +69,7 @@ pub slice_bounds-read_dvi-end : goal.slice_bounds-read_dvi-end
 slice_bounds-read_dvi-end c = omega (arith, part-fits c)
 
 pub slice_bounds-read_dvi-end-in-Accepted : goal.slice_bounds-read_dvi-end-in-Accepted
-slice_bounds-read_dvi-end-in-Accepted c = sym (length-take-le _ _ (slice_bounds-read_dvi-end c.before))
+slice_bounds-read_dvi-end-in-Accepted c = sym (length-take-le _ _ (part-fits (goal.at.slice_bounds-read_dvi-end-in-Accepted c).In-Accepted))
 
 pub returns-in-Refused : goal.returns-in-Refused
 returns-in-Refused c =
