@@ -1,7 +1,6 @@
 -- `reprint::file_length` meets its contract: accepted or refused, the writer names the file's length.
 -- Assumes nothing.
 use mathlib.Core.Path.{sym, ap, ◌∙◌}
-use borrow.Author.Rules.{rules}
 use lib.ListN.{length}
 use Rattle.octets.specs.Octets.{Bytes}
 use Rattle.octets.specs.Answer.{outcome_of}
@@ -12,7 +11,7 @@ pub returns-in-Refused : goal.returns-in-Refused
 returns-in-Refused c =
     let a = c.args in
     let g = a.galley.now in
-    let k : Bytes g = λ i. (c.shared_slice_known-1.given i).fits in
+    let k : Bytes g = λ i. (c.type_inv.galley i).fits in
     let e = sym c.requires in
     let q = sym (ap outcome_of c.in-Refused.is) ∙ c.write_dvi-written.ensures.outcome_is in
     (refused_file g a.count k e 1 _ _ q).1.0 ∙ ap length (same_file g a.count k e)
@@ -21,7 +20,7 @@ pub returns-in-Accepted : goal.returns-in-Accepted
 returns-in-Accepted c =
     let a = c.args in
     let g = a.galley.now in
-    let k : Bytes g = λ i. (c.shared_slice_known-1.given i).fits in
+    let k : Bytes g = λ i. (c.type_inv.galley i).fits in
     let e = sym c.requires in
     let q = sym (ap outcome_of c.in-Accepted.is) ∙ c.write_dvi-written.ensures.outcome_is in
     accepted_file g a.count k e 1 _ q ∙ ap length (same_file g a.count k e)

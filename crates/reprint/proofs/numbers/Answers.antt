@@ -1,7 +1,6 @@
 -- `reprint::numbers` meets its contract: each arm is given which answer it is.
 -- Assumes nothing.
 use mathlib.Core.Path.{sym, ap}
-use borrow.Author.Rules.{rules}
 use Rattle.reprint.specs.declared.Lengths.{Lengths}
 use Rattle.reprint.specs.Reprint.{file_outcome, sheet_outcome, both_numbers}
 use Rattle.reprint.proofs.numbers.Goals as goal

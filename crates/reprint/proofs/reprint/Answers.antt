@@ -1,7 +1,6 @@
 -- `reprint::reprint` meets its contract: the table of widths decides first, then the check; what the call gives is the reprint, so demand 3 holds of it.
 -- Assumes nothing.
 use mathlib.Core.Path.{sym, ap, ◌∙◌}
-use borrow.Author.Rules.{rules}
 use lib.ListN.{length}
 use Rattle.octets.specs.Octets.{Bytes}
 use Rattle.octets.specs.Answer.{outcome_of}
@@ -13,7 +12,7 @@ pub returns-then-widths-ne0 : goal.returns-then-widths-ne0
 returns-then-widths-ne0 c =
     let a = c.args in
     let g = a.galley.now in
-    let k : Bytes g = λ i. (c.shared_slice_known-1.given i).fits in
+    let k : Bytes g = λ i. (c.type_inv.galley i).fits in
     claims g a.widths.now a.dvi.now a.sheet.now k
     (refuses g a.widths.now a.dvi.now a.sheet.now (not_whole g a.widths.now (length a.dvi.now) (length a.sheet.now) c.if-widths-ne0.true))
 
@@ -25,7 +24,7 @@ pub returns-in-Refused : goal.returns-in-Refused
 returns-in-Refused c =
     let a = c.args in
     let g = a.galley.now in
-    let k : Bytes g = λ i. (c.shared_slice_known-1.given i).fits in
+    let k : Bytes g = λ i. (c.type_inv.galley i).fits in
     let q = sym (sym (ap outcome_of c.in-Refused.is) ∙ c.check_low-checked.ensures) in
     claims g a.widths.now a.dvi.now a.sheet.now k
     (refuses g a.widths.now a.dvi.now a.sheet.now (refused_galley g a.widths.now c.if-widths-ne0.false (length a.dvi.now) (length a.sheet.now) _ _ q))
@@ -34,5 +33,5 @@ pub returns-in-Accepted : goal.returns-in-Accepted
 returns-in-Accepted c =
     let a = c.args in
     let g = a.galley.now in
-    let k : Bytes g = λ i. (c.shared_slice_known-1.given i).fits in
+    let k : Bytes g = λ i. (c.type_inv.galley i).fits in
     claims g a.widths.now a.dvi.now a.sheet.now k c.reprint_checked.ensures

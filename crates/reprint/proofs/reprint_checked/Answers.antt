@@ -4,7 +4,6 @@
 use mathlib.Core.Path.{◌≡◌, sym, ap, ◌∙◌}
 use Prim.Native.Nat.{◌≤◌, ◌<◌}
 use native.Mathlib.Omega.{arith}
-use borrow.Author.Rules.{rules}
 use lib.ListN.{length}
 use lib.Seq.{length-take-le}
 use Rattle.octets.specs.Octets.{Bytes}
@@ -26,7 +25,7 @@ pub returns-then-dvi-length : goal.returns-then-dvi-length
 returns-then-dvi-length c =
     let a = c.args in
     let g = a.galley.now in
-    let k : Bytes g = λ i. (c.shared_slice_known-1.given i).fits in
+    let k : Bytes g = λ i. (c.type_inv.galley i).fits in
     let e = sym c.requires.0 in
     let w = c.requires.1 in
     let l = c.file_length-length.ensures ∙ sym (ap length (same_file g a.count k e)) in
@@ -38,7 +37,7 @@ pub returns-then-sheet-needed : goal.returns-then-sheet-needed
 returns-then-sheet-needed c =
     let a = c.args in
     let g = a.galley.now in
-    let k : Bytes g = λ i. (c.shared_slice_known-1.given i).fits in
+    let k : Bytes g = λ i. (c.type_inv.galley i).fits in
     let e = sym c.requires.0 in
     let w = c.requires.1 in
     let l = c.file_length-length.ensures ∙ sym (ap length (same_file g a.count k e)) in
@@ -55,7 +54,7 @@ part-fits : (c : In-Accepted) → c.in-Accepted.length ≤ length c.write_dvi-wr
 part-fits c =
     let a = c.args in
     let g = a.galley.now in
-    let k : Bytes g = λ i. (c.shared_slice_known-1.given i).fits in
+    let k : Bytes g = λ i. (c.type_inv.galley i).fits in
     let e = sym c.requires.0 in
     let l = accepted_file g a.count k e (length a.dvi.now) _ (accepted-by c) in
     let h = file_fits g a.count k e a.dvi.now _ (accepted-by c) in
@@ -75,7 +74,7 @@ pub returns-in-Refused : goal.returns-in-Refused
 returns-in-Refused c =
     let a = c.args in
     let g = a.galley.now in
-    let k : Bytes g = λ i. (c.shared_slice_known-1.given i).fits in
+    let k : Bytes g = λ i. (c.type_inv.galley i).fits in
     let e = sym c.requires.0 in
     let w = c.requires.1 in
     let r = c.write_dvi-written in
@@ -86,7 +85,7 @@ pub returns-in-Accepted : goal.returns-in-Accepted
 returns-in-Accepted c =
     let a = c.args in
     let g = a.galley.now in
-    let k : Bytes g = λ i. (c.shared_slice_known-1.given i).fits in
+    let k : Bytes g = λ i. (c.type_inv.galley i).fits in
     let e = sym c.requires.0 in
     let w = c.requires.1 in
     let r = c.write_dvi-written in
