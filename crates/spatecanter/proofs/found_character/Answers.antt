@@ -14,13 +14,12 @@ use Rattle.spatecanter.proofs.found_character.Goals as goal
 
 pub returns-in-Placed : goal.returns-in-Placed
 returns-in-Placed c =
-    let k = c.f-1 in
-    let g = k.given.0.0 in
+    let g = c.in-Placed.c in
     let x : SFits w32 g.x.0 = search rules in
     let h : SFits w32 g.height.0 = search rules in
     let f : SFits w32 (pos g.font) = omega integers in
     let d : SFits w32 (pos g.code) = omega integers in
-    rw (plain x, plain h, plain_pos f, plain_pos d) (sym (ap (λ (f : Found). found_numbers (found_of f)) k.given.1))
+    rw (plain x, plain h, plain_pos f, plain_pos d) (sym (ap (λ (f : Found). found_numbers (found_of f)) c.in-Placed.is))
 
 pub returns-in-Refused : goal.returns-in-Refused
 returns-in-Refused c = sym (ap (λ (f : Found). found_numbers (found_of f)) c.in-Refused.is)
