@@ -33,8 +33,8 @@ chmod +x host/target/release/spatecanter
 /// The tools that the scripts and the stand-ins call.
 const TOOLS: [&str; 36] = [
     "ar", "as", "awk", "bash", "cat", "cc", "chmod", "cp", "cut", "dirname", "env", "find", "flock", "grep",
-    "head", "install", "ld", "ln", "mkdir", "mktemp", "mv", "nm", "nproc", "printf", "readlink", "rm", "rmdir",
-    "sed", "sleep", "sort", "tail", "touch", "uniq", "wc", "sh", "xargs",
+    "head", "install", "ld", "ln", "mkdir", "mktemp", "mv", "nm", "nproc", "printf", "readlink", "rm",
+    "rmdir", "sed", "sleep", "sort", "tail", "touch", "uniq", "wc", "sh", "xargs",
 ];
 
 /// A repository in small, outside of this one, whose crates are all that `rt` should find here.
@@ -160,7 +160,8 @@ fn the_library_is_joined_of_all_export_crates() {
     let calls = repository.calls();
     let mut calls: Vec<&str> = calls.lines().collect();
     calls[1..3].sort();
-    let in_order = ["rt check base", "rt check left", "rt check right", "rt lib second", "rt lib spatecanter"];
+    let in_order =
+        ["rt check base", "rt check left", "rt check right", "rt lib second", "rt lib spatecanter"];
     assert_eq!(calls, in_order);
     let members = Command::new("ar").arg("t").arg(repository.archive()).output().unwrap();
     assert_eq!(out(&members), "second.object.o\nspatecanter.object.o\n");
