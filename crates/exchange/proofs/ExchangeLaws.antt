@@ -5,22 +5,21 @@
 --     switches_exchanged      the codes of two different switches of a machine
 -- All come from one law of runs, `reordered_alike`: the two runs are the same, or both are refused.
 -- Assumes nothing.
-use Rattle.std.specs.Prelude.{◌≡◌, refl, Bool, true, false, cond, List, [], ◌∷◌, ◌++◌, ◌↔◌, ℕ, ◌+◌, ◌-◌, ◌%◌, ◌≤◌, ◌<◌, ltb, length}
+use Rattle.std.specs.Prelude.{◌≡◌, refl, Bool, true, false, cond, List, [], ◌∷◌, ◌++◌, ◌↔◌, ℕ, ◌+◌, ◌≤◌, ◌<◌, ltb, length}
 use Rattle.std.proofs.Common.{sym, ap, subst, ◌∙◌, suc-ne-zero, arith, length-append}
 use Rattle.std.proofs.Math.Option.{some}
 use Rattle.octets.specs.Answer.{refusal, written, if_room, tape_too_long, no_galley_room}
 use Rattle.typesetter.specs.declared.code.Machine.{Machine}
-use Rattle.typesetter.specs.declared.code.Instruction.TheVariants.{Lead, Escape}
 use Rattle.typesetter.specs.declared.code.Code.TheVariants.{Instructs}
 use Rattle.typesetter.specs.declared.machine.State.{State}
 use Rattle.typesetter.specs.Code.{code_of}
 use Rattle.typesetter.specs.Machine.{start}
-use Rattle.typesetter.specs.CodeLaws.{code_escape, code_lead}
 use Rattle.tape.specs.declared.Ending.{Ending}
 use Rattle.tape.specs.Tape.{max_tape, Run, run, closing, read_result, machine_of, on_machine, tape_result}
 use Rattle.tape.specs.RunLaws.{go_on, run_append, run_machine}
-use Rattle.exchange.specs.Exchange.{Mode, turn, Switch, rail_switch, mag_switch, tilt_switch, half_switch, switch_code, moded, escape_lead, settings, either, Exchangeable, instructions, ignored_first, ignored_second, Reordered, unchanged, exchanged, further, Accepted}
+use Rattle.exchange.specs.Exchange.{Mode, turn, Switch, rail_switch, mag_switch, tilt_switch, half_switch, switch_code, moded, settings, either, Exchangeable, instructions, ignored_first, ignored_second, Reordered, unchanged, exchanged, further, Accepted}
 use Rattle.exchange.proofs.AlikeLaws.{Alike, same, refused, alike_then, alike_after, alike_before}
+use Rattle.exchange.proofs.EscapeLaws.{escape_and_lead}
 use Rattle.exchange.proofs.SwapLaws.{swap}
 
 -- ---- whole tapes
@@ -102,10 +101,6 @@ pub exchange_accepted : (kind : Machine) (machine : ℕ) → machine_of machine 
 exchange_accepted kind machine named xs a b ys x = reordered_accepted kind machine named (exchanged xs ys x)
 
 -- ---- the codes that the request names
-
-pub escape_and_lead : (machine : Machine) (a b : ℕ) → 0x80 ≤ a → a < 0xFF → 0x60 ≤ b → b < 0x80 → Exchangeable machine a b
-escape_and_lead machine a b la ha lb hb =
-    instructions {o = Escape (127 - a % 128)} {p = Lead (31 - b % 32)} (code_escape machine a (omega arith) (omega arith)) (code_lead machine b (omega arith) (omega arith)) escape_lead
 
 switch_code_lem : (machine : Machine) {m : Mode} (p : Switch machine m) (u : Bool) → code_of machine (switch_code p u) ≡ Instructs (turn m u)
 unfolding code_of

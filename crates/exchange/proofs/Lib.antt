@@ -1,4 +1,5 @@
 pub mod AlikeLaws
+pub mod EscapeLaws
 pub mod ExchangeLaws
 pub mod SettingLaws
 pub mod SwapLaws
