@@ -118,7 +118,7 @@ punched_only is js v w e =
 -- ---- galleys
 
 -- "reading the punched tape gives exactly the galley"
-pub reads_back : (g tape : List ℕ) (room : ℕ) → Bytes g → punch_result g room ≡ written tape → (more_Room : ℕ) → length g ≤ more_Room → tape_result tape 8 more_Room ≡ written g
+pub reads_back : (g tape : List ℕ) (room : ℕ) → Bytes g → punch_result g room ≡ written tape → (more_room : ℕ) → length g ≤ more_room → tape_result tape 8 more_room ≡ written g
 unfolding punch_result
 reads_back g tape room b e space enough =
     let m = result_written New (λ is. if_short (punched is)) g tape b (room_made no_tape_room room _ tape e) in

@@ -20,7 +20,7 @@ use Rattle.dvi.specs.Sheet.{sheet_result}
 use Rattle.dvi.specs.Writer.{dvi_file}
 use Rattle.dvi.specs.Edition.{Faithful, Within}
 use Rattle.dvi.specs.Demand3.{marks_of, dvi1980}
-use Rattle.dvi.proofs.Demand3.{demand3, sheet_size_lem as type_size}
+use Rattle.dvi.proofs.Demand3.{demand3, sheet_size_lem as size_is}
 use Rattle.dvi.proofs.Shown.{file_shows}
 use Rattle.dvi_writer.specs.Result.{dvi_result}
 use Rattle.reprint.specs.Reprint.{Reprint, stopped, reprinted, sheet_of, file_of, reprint_result, of_file, of_sheet, sheet_size, GivesBoth, ReprintedWhenever, Distinguished}
@@ -83,7 +83,7 @@ module _ (g : List ℕ) (count : ℕ) (b : Bytes g) (e : low_outcome g ≡ accep
       shown_sheet = sheet (page_mark (pos 1) ∷ marks_of 1 found.items)
 
       pub sheet_size_lem : length shown_sheet ≡ sheet_size found.items
-      sheet_size_lem = type_size found.items
+      sheet_size_lem = size_is found.items
 
       -- the reader's result
       pub sheet_written : (room : ℕ) → sheet_result file widths room ≡ if_room no_sheet_room room (written shown_sheet)
@@ -129,10 +129,10 @@ reprints g widths dvi out b o count is c read_as v w f s =
       faithful = t;
       marks = marks_of 1 a.items;
       shown = file_shows widths (low g count b e) (few g count b e);
-      reader_accepts = t.read_back (length out) ∙ room_enough no_sheet_room (length out) (sheet (page_mark (pos 1) ∷ marks_of 1 a.items)) (omega (arith, fits, type_size a.items));
+      reader_accepts = t.read_back (length out) ∙ room_enough no_sheet_room (length out) (sheet (page_mark (pos 1) ∷ marks_of 1 a.items)) (omega (arith, fits, size_is a.items));
       sheet_is = o.sheet_given.buffer_is ∙ ap (λ (r : Reprint). buffer_after out (of_sheet r)) done;
       file_length = o.file_given.outcome_is ∙ ap (λ (r : Reprint). outcome (of_file r)) done;
-      sheet_length = o.sheet_given.outcome_is ∙ ap (λ (r : Reprint). outcome (of_sheet r)) done ∙ ap accepted (type_size a.items);
+      sheet_length = o.sheet_given.outcome_is ∙ ap (λ (r : Reprint). outcome (of_sheet r)) done ∙ ap accepted (size_is a.items);
     }
 
 -- two such galleys, and what their files show
