@@ -59,7 +59,7 @@ impl Repository {
         }
         repository.write(
             "crates.txt",
-            "base:\nleft: base\nright: base\nspatecanter: left base # the first\nsecond: right base\n",
+            "base:\nleft: base\nright: base\nspatecanter staticlib: left base # the first\nsecond staticlib: right base\n",
         );
         for (name, text) in [
             ("base", ""),
