@@ -1,85 +1,30 @@
--- A galley written in another form: the items behind are written, and how long the whole is.
+-- A galley written in another form: how long it is, and what the two operations give.
 -- Assumes nothing.
-use mathlib.Core.Path.{◌≡◌, refl, sym, ap, subst, ◌∙◌}
-use mathlib.Core.List.{List, [], ◌∷◌, ◌++◌}
+use mathlib.Core.Path.{◌≡◌, sym, ap, ◌∙◌}
+use mathlib.Core.List.{List}
 use Prim.Native.Nat.{ℕ, ◌+◌, ◌-◌, ◌*◌, ◌≤◌, ◌<◌}
 use native.Mathlib.Omega.{arith}
-use lib.ListN.{length, length-append}
+use lib.ListN.{length}
 use lib.Seq.{sets}
 use Rattle.octets.specs.Answer.{accepted, refused, refusal, written, if_room, Gives, no_converted_room}
 use Rattle.octets.specs.AnswerLaws.{room_short, room_enough, gives}
 use Rattle.octets.specs.Field.{end_field}
-use Rattle.octets.specs.Write.{Wrote, wrote_none, then, named, sets_start}
+use Rattle.octets.specs.Write.{Wrote, then, named, sets_start}
 use Rattle.galley_file.specs.declared.form.Form.{Form}
 use Rattle.galley_file.specs.declared.form.Form.TheVariants.{Old, New}
-use Rattle.galley_file.specs.declared.item.Item.{Item}
 use Rattle.galley_file.specs.Form.{character_size}
-use Rattle.galley_file.specs.Item.{item_field, item_size, item_at, WholeAt, characters_of, cuts_of}
-use Rattle.galley_file.specs.ItemLaws.{length_item_field, all_counted}
+use Rattle.galley_file.specs.Item.{characters_of, cuts_of}
+use Rattle.galley_file.specs.ItemLaws.{all_counted}
 use Rattle.galley_file.specs.Galley.{max_items, fields, galley, read_galley, items_of}
-use Rattle.galley_file.specs.GalleyLaws.{checked, read_as, length_fields, fields_append, fields_one, length_galley}
+use Rattle.galley_file.specs.GalleyLaws.{checked, read_as, length_fields, length_galley}
 use Rattle.galley_file.specs.ReadingLaws.{reading_length}
 use Rattle.galley_file.specs.Outcome.{check_outcome}
 use Rattle.galley_check.specs.ResultLaws.{result_refused, result_made}
-use Rattle.galley_file.specs.Walk.{Midway, Onward, midway_start, midway_inside, midway_end, midway_next, midway_whole}
 use Rattle.galley_check.specs.Low.{low_outcome}
 use Rattle.galley_check.specs.LowLaws.{low_made, low_refused}
 use Rattle.conversion.specs.Conversion.{new_result, old_result, form_result}
 
 module _ (from to : Form) (g : List ℕ) where
-  -- the galley up to `at`: the items behind are written
-  pub record Converted (at : ℕ) (first out : List ℕ) (next : ℕ) : Type 0 where
-    pub done : List Item
-    pub midway : Midway from g (items_of from g) done at
-    pub same : length out ≡ length first
-    pub wrote : Wrote first 0 (fields to done) out next
-
-  pub converted_start : (count : ℕ) → accepted count ≡ check_outcome from g → (first : List ℕ) → Converted 0 first first 0
-  unfolding fields
-  converted_start count e first = record { done = []; midway = midway_start from g (items_of from g) (read_as from g count e); same = refl; wrote = wrote_none first 0 }
-
-  module _ (at : ℕ) (first out : List ℕ) (next : ℕ) (c : Converted at first out next) where
-    pub converted_inside : at ≤ length g
-    converted_inside = midway_inside from g (items_of from g) c.done at c.midway
-
-    pub converted_whole : at + 7 < length g → WholeAt from g at
-    converted_whole h = midway_whole from g (items_of from g) c.done at c.midway h
-
-    -- the item i comes next
-    module _ (h : at + 7 < length g) (i : Item) (e : i ≡ item_at from g at) where
-      onward : Onward from g (items_of from g) c.done at i
-      onward = subst (Onward from g (items_of from g) c.done at) (sym e) (midway_next from g (items_of from g) c.done at c.midway h)
-
-      pub converted_size : at + item_size from i + 7 ≤ length g
-      converted_size = onward.room
-
-      longer : fields to (c.done ++ (i ∷ [])) ≡ fields to c.done ++ item_field to i
-      longer = fields_append to c.done (i ∷ []) ∙ ap (λ (l : List ℕ). fields to c.done ++ l) (fields_one to i)
-
-      pub converted_room : length (fields to (items_of from g)) ≤ length first → next + item_size to i ≤ length out
-      converted_room room =
-          let r = onward.next.rest in
-          let d = c.done ++ (i ∷ []) in
-          omega (
-            arith,
-            room,
-            c.same,
-            c.wrote.next_is,
-            ap (λ (l : List Item). length (fields to l)) onward.next.all,
-            ap length (fields_append to d r),
-            length-append (fields to d) (fields to r),
-            ap length longer,
-            length-append (fields to c.done) (item_field to i),
-            length_item_field to i,
-          )
-
-      pub converted_next : (out' : List ℕ) (next' : ℕ) → length out' ≡ length out → Wrote out next (item_field to i) out' next' → Converted (at + item_size from i) first out' next'
-      converted_next out' next' l w =
-          record { done = c.done ++ (i ∷ []); midway = onward.next; same = l ∙ c.same; wrote = named (sym longer) (then c.wrote w) }
-
-    pub converted_end : length g ≤ at + 7 → Wrote first 0 (fields to (items_of from g)) out next
-    converted_end h = named (ap (fields to) (sym (midway_end from g (items_of from g) c.done at c.midway h))) c.wrote
-
   -- ---- how long it is
 
   module _ (count : ℕ) (e : accepted count ≡ check_outcome from g) where

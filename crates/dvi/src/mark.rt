@@ -8,6 +8,11 @@ ghost use Rattle.dvi.specs.Mark.{mark_of};
 
 use measure::Rsu;
 
+// The kinds of rules.
+pub const VERTICAL: u8 = 0;
+
+pub const HORIZONTAL: u8 = 1;
+
 // The start of a page, a character, a rule.
 #[derive(Clone, Copy)]
 pub enum Mark {
@@ -19,6 +24,7 @@ pub enum Mark {
         font: i32,
     },
     Rule {
+        // A number, as show_mark and sheet::show_rule give the field of any: an enum would ask more of their callers.
         kind: u8,
         x: Rsu,
         y: Rsu,

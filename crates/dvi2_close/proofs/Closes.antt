@@ -9,6 +9,7 @@ use native.Mathlib.Numerals.{add-one}
 use native.Mathlib.Omega.{arith}
 use lib.ListN.{length, take, drop, length-append}
 use lib.Seq.{length-take-le}
+use Rattle.std.specs.Prelude.{Result, Ok, Err}
 use Rattle.galley_file.specs.declared.character.Character.{Character}
 use Rattle.galley_file.specs.declared.item.Item.{Item}
 use Rattle.galley_file.specs.Item.{characters_of}
@@ -22,8 +23,7 @@ use Rattle.dvi2_reading.specs.SizeLaws.{definition_command, postpost_command, fi
 use Rattle.dvi2_reading.proofs.StepLaws.{ended_refuse}
 use Rattle.dvi2_reading.specs.Standing.{Standing}
 use Rattle.dvi2_reading.proofs.StandingLaws.{standing_refuse, standing_end, sole_closing}
-use Rattle.dvi2_close.specs.declared.expect.Reading.{Reading}
-use Rattle.dvi2_close.specs.declared.expect.Reading.TheVariants.{To, Fault}
+use Rattle.dvi2_close.specs.declared.expect.NotOurs.{NotOurs}
 use Rattle.dvi2_close.specs.Fonts.{used_from}
 use Rattle.dvi2_close.specs.Reading.{expected, Inside, ReadsTo}
 use Rattle.dvi2_close.proofs.Expected.{expect_reads_to, expect_inside, reads_to_standing, reads_to_fault, inside_to}
@@ -60,24 +60,24 @@ module _ (s : List ℕ) (is : List Item) (es : List (List ℕ)) where
   defining_last n at e k = subst (λ (m : ℕ). Standing s (Defining 120 m) at) e k
 
   module _ (low high : ℕ) (k : FontsAre low high cs) where
-    defining_one : (f n to : ℕ) → f < 120 → Standing s (Defining f (suc n)) to → ReadsTo s (Defining (suc f) n) (cond (is_marked low high f) (expected s to (definition f)) (To to))
+    defining_one : (f n to : ℕ) → f < 120 → Standing s (Defining f (suc n)) to → ReadsTo s (Defining (suc f) n) (cond (is_marked low high f) (expected s to (definition f)) (Ok to))
     unfolding used_from
     defining_one f n to l st = go (is_marked low high f) refl
       where
         Before : Bool → Type 0
         Before b = Standing s (closing is (map definition (cond b (f ∷ []) [] ++ used_from (suc f) n cs) ++ es)) to
 
-        go : (t : Bool) → is_marked low high f ≡ t → ReadsTo s (Defining (suc f) n) (cond t (expected s to (definition f)) (To to))
+        go : (t : Bool) → is_marked low high f ≡ t → ReadsTo s (Defining (suc f) n) (cond t (expected s to (definition f)) (Ok to))
         go true e =
             let b : Before true = subst Before (sym (marked_used low high cs k f l) ∙ e) st in
             expect_reads_to s _ (Defining (suc f) n) to (definition f) b (sole_closing (drop to s) is (definition f) (map definition (used_from (suc f) n cs) ++ es) (definition_command f))
         go false e = subst Before (sym (marked_used low high cs k f l) ∙ e) st
 
     pub defining_next : (f to : ℕ) → f < 120 → Standing s (Defining f (120 - f)) to
-        → ReadsTo s (Defining (f + 1) (120 - (f + 1))) (cond (is_marked low high f) (expected s to (definition f)) (To to))
+        → ReadsTo s (Defining (f + 1) (120 - (f + 1))) (cond (is_marked low high f) (expected s to (definition f)) (Ok to))
     defining_next f to l st =
         let m : 120 - f ≡ suc (120 - (f + 1)) = omega arith in
-        subst (λ (g : ℕ). ReadsTo s (Defining g (120 - (f + 1))) (cond (is_marked low high f) (expected s to (definition f)) (To to))) (sym (add-one f))
+        subst (λ (g : ℕ). ReadsTo s (Defining g (120 - (f + 1))) (cond (is_marked low high f) (expected s to (definition f)) (Ok to))) (sym (add-one f))
         (defining_one f (120 - (f + 1)) to l (subst (λ (j : ℕ). Standing s (Defining f j) to) m st))
 
 -- what a loop over the fonts knows: from `at` on, the fonts below f are defined before `to`
@@ -95,22 +95,22 @@ defined_end s at low high f to d e is es k st =
     let n : 120 - f ≡ 0 = omega arith in
     defining_last s is es (120 - f) to n (subst (λ (g : ℕ). Standing s (Defining s is es g (120 - f)) to) e (d is es k st))
 
-module _ (s : List ℕ) (at low high f to : ℕ) (d : Defined s at low high f to) (l : f < 120) (r : Reading) (q : r ≡ cond (is_marked low high f) (expected s to (definition f)) (To to)) where
+module _ (s : List ℕ) (at low high f to : ℕ) (d : Defined s at low high f to) (l : f < 120) (r : Result ℕ NotOurs) (q : r ≡ cond (is_marked low high f) (expected s to (definition f)) (Ok to)) where
   defined_reads_to : (is : List Item) (es : List (List ℕ)) → FontsAre low high (characters_of is) → Standing s (closing is (map definition (used_fonts 120 (characters_of is)) ++ es)) at
       → ReadsTo s (Defining s is es (f + 1) (120 - (f + 1))) r
   defined_reads_to is es k st = subst (ReadsTo s (Defining s is es (f + 1) (120 - (f + 1)))) (sym q) (defining_next s is es low high k f to l (d is es k st))
 
-  pub defined_next : (next : ℕ) → r ≡ To next → Defined s at low high (f + 1) next
+  pub defined_next : (next : ℕ) → r ≡ Ok next → Defined s at low high (f + 1) next
   defined_next next h is es k st = reads_to_standing h (defined_reads_to is es k st)
 
-  pub defined_fault : (place : ℕ) → r ≡ Fault place → (is : List Item) (es : List (List ℕ)) → FontsAre low high (characters_of is)
-      → Standing s (closing is (map definition (used_fonts 120 (characters_of is)) ++ es)) at → read_file s ≡ bad place
-  defined_fault place h is es k st = reads_to_fault s (Defining s is es (f + 1) (120 - (f + 1))) h (defined_reads_to is es k st)
+  pub defined_fault : (w : NotOurs) → r ≡ Err w → (is : List Item) (es : List (List ℕ)) → FontsAre low high (characters_of is)
+      → Standing s (closing is (map definition (used_fonts 120 (characters_of is)) ++ es)) at → read_file s ≡ bad w.place
+  defined_fault w h is es k st = reads_to_fault s (Defining s is es (f + 1) (120 - (f + 1))) h (defined_reads_to is es k st)
 
-  pub defined_inside : (next : ℕ) → to ≤ length s → r ≡ To next → next ≤ length s
+  pub defined_inside : (next : ℕ) → to ≤ length s → r ≡ Ok next → next ≤ length s
   defined_inside next i h = inside_to h (subst (Inside (length s)) (sym q) (go (is_marked low high f)))
     where
-      go : (t : Bool) → Inside (length s) (cond t (expected s to (definition f)) (To to))
+      go : (t : Bool) → Inside (length s) (cond t (expected s to (definition f)) (Ok to))
       go true = expect_inside s to (definition f) i
       go false = i
 
@@ -150,18 +150,18 @@ filling_start s at n e is st = let m : fillers at ≡ n - 0 = omega arith in sub
 pub filling_end : (s : List ℕ) (at n k to : ℕ) → Filling s at n k to → n ≤ k → (is : List Item) → Standing s (closing is (fill (fillers at))) at → Standing s (closing is []) to
 filling_end s at n k to f l is st = filled s is (n - k) to (omega arith) (f is st)
 
-module _ (s : List ℕ) (at n k to : ℕ) (f : Filling s at n k to) (l : k < n) (e : List ℕ) (b : e ≡ 223 ∷ []) (r : Reading) (q : r ≡ expected s to e) where
+module _ (s : List ℕ) (at n k to : ℕ) (f : Filling s at n k to) (l : k < n) (r : Result ℕ NotOurs) (q : r ≡ expected s to (223 ∷ [])) where
   filling_reads_to : (is : List Item) → Standing s (closing is (fill (fillers at))) at → ReadsTo s (closing is (fill (n - (k + 1)))) r
   filling_reads_to is st =
       let m : n - k ≡ suc (n - (k + 1)) = omega arith in
-      subst (ReadsTo s (closing is (fill (n - (k + 1))))) (ap (expected s to) (sym b) ∙ sym q)
+      subst (ReadsTo s (closing is (fill (n - (k + 1))))) (sym q)
       (filler_reads_to s is (n - (k + 1)) to (subst (λ (j : ℕ). Standing s (closing is (fill j)) to) m (f is st)))
 
-  pub filling_next : (next : ℕ) → r ≡ To next → Filling s at n (k + 1) next
+  pub filling_next : (next : ℕ) → r ≡ Ok next → Filling s at n (k + 1) next
   filling_next next h is st = reads_to_standing h (filling_reads_to is st)
 
-  pub filling_fault : (place : ℕ) → r ≡ Fault place → (is : List Item) → Standing s (closing is (fill (fillers at))) at → read_file s ≡ bad place
-  filling_fault place h is st = reads_to_fault s (closing is (fill (n - (k + 1)))) h (filling_reads_to is st)
+  pub filling_fault : (w : NotOurs) → r ≡ Err w → (is : List Item) → Standing s (closing is (fill (fillers at))) at → read_file s ≡ bad w.place
+  filling_fault w h is st = reads_to_fault s (closing is (fill (n - (k + 1)))) h (filling_reads_to is st)
 
 -- they start after all commands
 pub fill_place : (s : List ℕ) (is : List Item) (at : ℕ) → Standing s (closing is (fill (fillers (length (command_bytes is))))) at → at ≡ length (command_bytes is)

@@ -1,7 +1,5 @@
 // The commands of a character: its font, the moves to its place, and put1.
-ghost use Rattle.std.specs.Prelude.{◌≡◌, true, ◌+◌, ◌≤◌, ◌<◌, length};
-ghost use Rattle.octets.specs.Octets.{signed_bytes};
-ghost use Rattle.octets.specs.Write.{Wrote};
+ghost use Rattle.std.specs.Prelude.{◌≡◌, true, ◌≤◌, ◌<◌};
 ghost use Rattle.measure.specs.Place.{height_end};
 ghost use Rattle.galley_file.specs.Character.{valid};
 ghost use Rattle.dvi2.specs.Writer.{parameter_width, move, commands_of};
@@ -9,7 +7,7 @@ ghost use Rattle.octets.specs.PutIfRoom.{PutIfRoom};
 ghost use Rattle.dvi2_commands.specs.Position.{position_of, OnPage};
 
 use crate::position::Position;
-use crate::{font, position, put};
+use crate::{font, put};
 use dvi2::opcode;
 use galley_file::character::Character;
 use octets::number;
@@ -19,24 +17,9 @@ pub fn parameter_width(z: i32) -> usize
     ensures { (result ≡ parameter_width z) × ((1 ≤ result) × (result ≤ 4)) }
 {
     if number::magnitude(z) < 128 {
-        return 1;
-    }
-    number::signed_width(z)
-}
-
-// Writes z in two's complement, in so many bytes.
-fn put_signed(out: &mut [u8], at: usize, width: usize, z: i32) -> usize
-    requires { (at + width ≤ length out.old) × ((1 ≤ width) × (width ≤ 4)) }
-    ensures { Wrote out.old at (signed_bytes width z) out.new result }
-{
-    if width == 1 {
-        number::put_signed1(out, at, z)
-    } else if width == 2 {
-        number::put_signed2(out, at, z)
-    } else if width == 3 {
-        number::put_signed3(out, at, z)
+        1
     } else {
-        number::put_signed4(out, at, z)
+        number::signed_width(z)
     }
 }
 
@@ -53,18 +36,20 @@ fn put_move(out: &mut [u8], at: usize, op: u8, m: i32) -> usize
         return at + 1 + width;
     }
     let to = number::put_byte(out, at, op + (width - 1) as u8);
-    put_signed(out, to, width, m)
+    number::put_signed(out, to, width, m)
 }
 
-// Writes the commands that set c after the position `last`; `known` says whether its font is defined.
-pub fn put_commands(out: &mut [u8], at: usize, known: bool, last: Position, c: Character) -> usize
-    requires { (at < 2147483648) × (OnPage (position_of last) × (valid height_end c ≡ true)) }
-    ensures { PutIfRoom out.old at (commands_of known (position_of last) c) out.new result }
-{
-    let right = position::right_to(last, c);
-    let down = position::down_to(last, c);
-    let mut to = font::put_font(out, at, known, last.font, c.font);
-    to = put_move(out, to, opcode::RIGHT1, right);
-    to = put_move(out, to, opcode::DOWN1, down);
-    put::put_two(out, to, opcode::PUT1, c.code)
+impl Position {
+    // Writes the commands that set c after this position; `known` says whether its font is defined.
+    pub fn put_commands(self, out: &mut [u8], at: usize, known: bool, c: Character) -> usize
+        requires { (at < 2147483648) × (OnPage (position_of self) × (valid height_end c ≡ true)) }
+        ensures { PutIfRoom out.old at (commands_of known (position_of self) c) out.new result }
+    {
+        let right = self.right_to(c);
+        let down = self.down_to(c);
+        let mut to = font::put_font(out, at, known, self.font, c.font);
+        to = put_move(out, to, opcode::RIGHT1, right);
+        to = put_move(out, to, opcode::DOWN1, down);
+        put::put_bytes(out, to, &[opcode::PUT1, c.code])
+    }
 }

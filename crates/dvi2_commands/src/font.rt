@@ -27,9 +27,10 @@ fn put_select(out: &mut [u8], at: usize, f: u8) -> usize
     ensures { PutIfRoom out.old at (selects f) out.new result }
 {
     if f < opcode::FNTNUMS {
-        return put::put_byte(out, at, opcode::FNTNUM0 + f);
+        put::put_bytes(out, at, &[opcode::FNTNUM0 + f])
+    } else {
+        put::put_bytes(out, at, &[opcode::FNT1, f])
     }
-    put::put_two(out, at, opcode::FNT1, f)
 }
 
 // Writes the checksum, 0, and the scaled and the design size.
@@ -64,11 +65,11 @@ pub fn put_font(out: &mut [u8], at: usize, known: bool, last: u8, f: u8) -> usiz
     ensures { PutIfRoom out.old at (font_change known (font_or_none last) f) out.new result }
 {
     if last == f {
-        return at;
+        at
+    } else if known {
+        put_select(out, at, f)
+    } else {
+        let to = put_definition(out, at, f);
+        put_select(out, to, f)
     }
-    if known {
-        return put_select(out, at, f);
-    }
-    let to = put_definition(out, at, f);
-    put_select(out, to, f)
 }

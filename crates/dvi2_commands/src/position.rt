@@ -18,43 +18,43 @@ pub struct Position {
     pub height: Quanta,
 }
 
-// The position at the start of a page.
-pub fn start_position() -> Position
-    ensures { PositionIs result start_position }
-{
-    Position {
-        font: font_byte::NO_FONT,
-        x: Units(0),
-        height: Quanta(0),
+impl Position {
+    // At the start of a page.
+    pub fn start() -> Self
+        ensures { PositionIs result start_position }
+    {
+        Position {
+            font: font_byte::NO_FONT,
+            x: Units(0),
+            height: Quanta(0),
+        }
     }
-}
 
-// The position after c.
-pub fn position_at(c: Character) -> Position
-    requires { valid height_end c ≡ true }
-    ensures { PositionIs result (position_at c) }
-{
-    let x = c.x;
-    let height = c.height;
-    Position {
-        font: c.font,
-        x: x,
-        height: height,
+    // At c.
+    pub fn at_character(c: Character) -> Self
+        requires { valid height_end c ≡ true }
+        ensures { PositionIs result (position_at c) }
+    {
+        Position {
+            font: c.font,
+            x: c.x,
+            height: c.height,
+        }
     }
-}
 
-// The move to the right from the position to c, in the file's units of 1/432 inch.
-pub fn right_to(last: Position, c: Character) -> i32
-    requires { OnPage (position_of last) × (valid height_end c ≡ true) }
-    ensures { result ≡ h_of c -ℤ (position_of last).x }
-{
-    c.x.0 - last.x.0
-}
+    // The move to the right from the position to c, in the file's units of 1/432 inch.
+    pub fn right_to(self, c: Character) -> i32
+        requires { OnPage (position_of self) × (valid height_end c ≡ true) }
+        ensures { result ≡ h_of c -ℤ (position_of self).x }
+    {
+        c.x.0 - self.x.0
+    }
 
-// The move down from the position to c, in the same units.
-pub fn down_to(last: Position, c: Character) -> i32
-    requires { OnPage (position_of last) × (valid height_end c ≡ true) }
-    ensures { result ≡ v_of c -ℤ (position_of last).y }
-{
-    measure::PER_QUANTUM * (c.height.0 - last.height.0)
+    // The move down from the position to c, in the same units.
+    pub fn down_to(self, c: Character) -> i32
+        requires { OnPage (position_of self) × (valid height_end c ≡ true) }
+        ensures { result ≡ v_of c -ℤ (position_of self).y }
+    {
+        measure::PER_QUANTUM * (c.height.0 - self.height.0)
+    }
 }

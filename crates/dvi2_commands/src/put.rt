@@ -1,28 +1,15 @@
 // Bytes that are written if they have room, and counted in any case.
-ghost use Rattle.std.specs.Prelude.{[], ◌∷◌, ◌<◌};
+ghost use Rattle.std.specs.Prelude.{◌<◌};
 ghost use Rattle.octets.specs.PutIfRoom.{PutIfRoom};
 
-use octets::number;
-
-// Writes a byte.
-pub fn put_byte(out: &mut [u8], at: usize, b: u8) -> usize
+// Writes bytes; gives the place after them.
+pub fn put_bytes(out: &mut [u8], at: usize, bytes: &[u8]) -> usize
     requires { at < 4294967296 }
-    ensures { PutIfRoom out.old at (b ∷ []) out.new result }
+    ensures { PutIfRoom out.old at bytes.now out.new result }
 {
-    if out.len() < at + 1 {
-        return at + 1;
+    let next = at + bytes.len();
+    if next <= out.len() {
+        out[at..next].copy_from_slice(bytes);
     }
-    number::put_byte(out, at, b)
-}
-
-// Writes two bytes.
-pub fn put_two(out: &mut [u8], at: usize, a: u8, b: u8) -> usize
-    requires { at < 4294967296 }
-    ensures { PutIfRoom out.old at (a ∷ b ∷ []) out.new result }
-{
-    if out.len() < at + 2 {
-        return at + 2;
-    }
-    let to = number::put_byte(out, at, a);
-    number::put_byte(out, to, b)
+    next
 }

@@ -25,6 +25,9 @@ pub const PRE_LENGTH: usize = 15;
 
 pub const BOP_LENGTH: usize = 45;
 
+// The bytes of the nine counts that are not used.
+const ZEROS: usize = 36;
+
 const POST_LENGTH: usize = 29;
 
 const POSTPOST_LENGTH: usize = 6;
@@ -52,25 +55,15 @@ pub fn put_preamble(out: &mut [u8]) -> usize
     number::put_byte(out, to, 0)
 }
 
-// Writes twelve zero bytes.
-fn put_zeros(out: &mut [u8], at: usize) -> usize
-    requires { at + 12 ≤ length out.old }
-    ensures { Wrote out.old at (bytes 12 0) out.new result }
-{
-    let mut to = number::put_nat4(out, at, 0);
-    to = number::put_nat4(out, to, 0);
-    number::put_nat4(out, to, 0)
-}
-
 // Writes the ten counts of a page: its number, and nine zeros.
 fn put_counts(out: &mut [u8], at: usize, page: u32) -> usize
     requires { at + 40 ≤ length out.old }
     ensures { Wrote out.old at (bytes 4 page ++ bytes 36 0) out.new result }
 {
-    let mut to = number::put_nat4(out, at, page);
-    to = put_zeros(out, to);
-    to = put_zeros(out, to);
-    put_zeros(out, to)
+    let zeros = number::put_nat4(out, at, page);
+    let to = zeros + ZEROS;
+    out[zeros..to].fill(0);
+    to
 }
 
 // Writes bop of a page, with the offset of the page before it.

@@ -4,7 +4,6 @@ use mathlib.Core.Path.{◌≡◌, refl, sym, ap, subst, ◌∙◌}
 use mathlib.Core.Bool.{Bool, true, false, cond}
 use mathlib.Core.List.{List, [], ◌∷◌, ◌++◌, append-nil}
 use Prim.Native.Nat.{ℕ, suc, ◌+◌, ◌-◌, ◌≤◌, ◌<◌}
-use native.Mathlib.Nat.{suc-ne-zero}
 use native.Mathlib.Omega.{arith}
 use borrow.Author.Tests.{ltb-true}
 use lib.Dec.{ltb}
@@ -21,6 +20,7 @@ use Rattle.dvi2_reading.specs.PageReading.{begins, PageCommand, ending, defining
 use Rattle.dvi2_reading.specs.Reading.{in_page, page_state_after, may_begin_in, may_begin, refuse, short, go, step, next}
 use Rattle.dvi2_reading.proofs.BytesLaws.{begins_is, begins_append}
 use Rattle.dvi2_reading.proofs.CommandLaws.{MoveFits, page_next_lem, in_bytes_command}
+use Rattle.dvi2_state.proofs.Searches.{no_truth}
 use Rattle.dvi2_reading.specs.SizeLaws.{Command}
 use Rattle.dvi2_reading.proofs.StepLaws.{Alike, begins_it, holds_it, step_go, step_short, page_refuse}
 
@@ -76,9 +76,6 @@ move_down b ps l h (selecting f) a = let k = kind (selecting f) b ps a in absurd
 move_down b ps l h (across m) a = let k = kind (across m) b ps a in absurd (omega arith)
 move_down b ps l h (downward m) a = record { by = m; is_move = refl }
 move_down b ps l h (putting c) a = let k = kind (putting c) b ps a in absurd (omega arith)
-
-pub no_truth : {X : Type 0} (t : Bool) → t ≡ true → t ≡ false → X
-no_truth t p q = let z : true ≡ false = sym p ∙ q in absurd (suc-ne-zero 0 cc)
 
 -- what a move of k bytes is about: its commands, and that these bytes can be no other
 pub record MoveCase (h : PageState) (b : ℕ) (ps : List ℕ) (k : ℕ) : Type 0 where

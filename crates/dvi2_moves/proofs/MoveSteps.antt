@@ -28,7 +28,8 @@ use Rattle.dvi2_reading.proofs.MayLaws.{way₃, way₄, as_such, counted, down_c
 use Rattle.dvi2_state.specs.Page.{right_begins, down_begins}
 use Rattle.dvi2_reading.proofs.StepLaws.{page_refuse}
 use Rattle.dvi2_state.proofs.Searches.{false_right}
-use Rattle.dvi2_moves.proofs.CommandKinds.{move_right, move_down, no_truth, MoveCase, move_not, move_bad, move_go, move_early, move_short}
+use Rattle.dvi2_moves.proofs.CommandKinds.{move_right, move_down, MoveCase, move_not, move_bad, move_go, move_early, move_short}
+use Rattle.dvi2_state.proofs.Searches.{no_truth}
 
 -- ---- moves right
 

@@ -14,7 +14,8 @@ use Rattle.dvi2_reading.specs.Reading.{in_page, between, page_state_after, may_b
 use Rattle.dvi2_reading.proofs.MayLaws.{way₅, as_such}
 use Rattle.dvi2_reading.proofs.CommandLaws.{page_next_lem, in_bytes_command}
 use Rattle.dvi2_reading.proofs.StepLaws.{Alike, begins_it, holds_it, step_go, step_short, page_refuse}
-use Rattle.dvi2_moves.proofs.CommandKinds.{Kind, kind, no_truth}
+use Rattle.dvi2_moves.proofs.CommandKinds.{Kind, kind}
+use Rattle.dvi2_state.proofs.Searches.{no_truth}
 
 -- ---- eop, and no command
 

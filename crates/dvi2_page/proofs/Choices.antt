@@ -9,6 +9,7 @@ use native.Mathlib.Omega.{arith}
 use borrow.Author.Tests.{lt-ltb, le-ltb, ltb-true, ltb-false}
 use lib.Dec.{ltb}
 use lib.ListN.{drop}
+use Rattle.std.specs.Prelude.{Ok, Err}
 use Rattle.octets.specs.FieldLaws.{both}
 use Rattle.octets.specs.Octets.{bytes}
 use Rattle.galley_file.specs.Item.{characters_of}
@@ -22,7 +23,7 @@ use Rattle.dvi2_reading.proofs.MayLaws.{way₁, way₂, as_such}
 use Rattle.dvi2_reading.proofs.CommandLaws.{page_next_lem, in_bytes_command}
 use Rattle.dvi2_reading.specs.SizeLaws.{Command}
 use Rattle.dvi2_reading.proofs.StepLaws.{Alike, begins_it, holds_it, step_go, step_short, page_refuse}
-use Rattle.dvi2_page.specs.declared.matching.Match.TheVariants.{Whole, Short, Other}
+use Rattle.dvi2_state.specs.declared.page_state.Wrong.TheVariants.{Bad, Short}
 use Rattle.dvi2_page.specs.Match.{compared}
 use Rattle.dvi2_page.proofs.Matches.{whole_is, short_is, other_is}
 use Rattle.dvi2_moves.proofs.CommandKinds.{Kind, head_is, kind}
@@ -160,17 +161,17 @@ module _ (h : PageState) (b : ℕ) (ps : List ℕ) where
       pub define_not : may_come h (defining f) ≡ false → step (in_page h) b ps ≡ refuse
       define_not n = define_this (λ m a. no_truth (may_come h (defining f)) m n)
 
-      pub define_other : compared (b ∷ ps) (definition f) ≡ Other → step (in_page h) b ps ≡ refuse
+      pub define_other : compared (b ∷ ps) (definition f) ≡ Err Bad → step (in_page h) b ps ≡ refuse
       define_other n = define_this (λ m a. other_is (b ∷ ps) (definition f) n a)
 
-      pub define_short : f < 120 → may_come h (defining f) ≡ true → compared (b ∷ ps) (definition f) ≡ Short → step (in_page h) b ps ≡ short
+      pub define_short : f < 120 → may_come h (defining f) ≡ true → compared (b ∷ ps) (definition f) ≡ Err Short → step (in_page h) b ps ≡ short
       unfolding in_bytes may_begin
       define_short u m n =
           let w = short_is (b ∷ ps) (definition f) n in
           step_short (in_page h) b ps w.more (subst Command w.whole_is (in_bytes_command (defining f))) w.some_more
           (way₁ h (b ∷ ps) f u (as_such h (b ∷ ps) (defining f) w.more w.whole_is m))
 
-      pub define_go : may_come h (defining f) ≡ true → compared (b ∷ ps) (definition f) ≡ Whole → step (in_page h) b ps ≡ go (page_state_after h (defining f)) 19
+      pub define_go : may_come h (defining f) ≡ true → compared (b ∷ ps) (definition f) ≡ Ok tt → step (in_page h) b ps ≡ go (page_state_after h (defining f)) 19
       unfolding in_bytes definition bytes name_of
       define_go m n =
           let w = whole_is (b ∷ ps) (definition f) n in

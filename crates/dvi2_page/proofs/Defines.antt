@@ -10,6 +10,7 @@ use borrow.Author.Tests.{lt-ltb, le-ltb}
 use lib.Dec.{ltb}
 use lib.ListN.{length, get_or, drop, drop_of_length-le}
 use lib.Seq.{drop-cons}
+use Rattle.std.specs.Prelude.{Ok, Err}
 use Rattle.galley_file.specs.declared.item.Item.{Item}
 use Rattle.galley_file.specs.Galley.{max_items}
 use Rattle.galley_file.specs.Item.{characters_of}
@@ -20,13 +21,14 @@ use Rattle.dvi2_reading.specs.PageReading.{some_below, may_come, is_ready, defin
 use Rattle.dvi2_reading.specs.Reading.{step, in_page, refuse, short, go, page_state_after}
 use Rattle.dvi2_reading.proofs.BytesLaws.{some_found, found_some}
 use Rattle.dvi2_state.specs.declared.page_state.PageState.{PageState}
-use Rattle.dvi2_page.specs.declared.matching.Match.TheVariants.{Whole, Short, Other}
+use Rattle.dvi2_state.specs.declared.page_state.Wrong.{Wrong}
+use Rattle.dvi2_state.specs.declared.page_state.Wrong.TheVariants.{Bad, Short}
 use Rattle.dvi2_page.specs.Match.{compared}
-use Rattle.dvi2_state.specs.Page.{stage_of, page_state_of}
+use Rattle.dvi2_state.specs.Page.{stage_of, page_state_of, StepIs}
 use Rattle.dvi2_page.specs.Fonts.{Known, is_free}
 use Rattle.dvi2_page.proofs.Choices.{define_none, define_some, define_not, define_other, define_short, define_go}
-use Rattle.dvi2_moves.proofs.CommandKinds.{no_truth}
-use Rattle.dvi2_page.proofs.Selects.{used_not_free, unused_free}
+use Rattle.dvi2_state.proofs.Searches.{no_truth}
+use Rattle.dvi2_page.proofs.Selects.{unmarked_free}
 
 module _ (S : List ℕ) (at : ℕ) (h : PageState) (is : List Item) (l : length is < max_items) (low high : ℕ) (k : Known low high is) (o : get_or S at 0 ≡ 243) where
   abbrev H : Page.PageState
@@ -79,20 +81,24 @@ module _ (S : List ℕ) (at : ℕ) (h : PageState) (is : List Item) (l : length 
       d_big b = sym (define_not H B P o f Q here (ready_is f ∙ ap (λ (t : Bool). t && not (uses f (characters_of is))) (le-ltb f 120 b)))
 
       pub d_used : f < 120 → is_marked low high f ≡ true → refuse ≡ step (in_page H) B P
-      d_used u m = sym (define_not H B P o f Q here (free_is f u ∙ used_not_free low high is k f u m))
+      d_used u m = sym (define_not H B P o f Q here (free_is f u ∙ sym (unmarked_free low high is k f u) ∙ ap not m))
 
       module _ (u : f < 120) (m : is_marked low high f ≡ false) where
         may : may_come H (defining f) ≡ true
-        may = free_is f u ∙ unused_free low high is k f u m
+        may = free_is f u ∙ sym (unmarked_free low high is k f u) ∙ ap not m
 
         whole : drop at S ≡ B ∷ P
         whole = drop-cons S at 0 (omega arith) ∙ ap (λ (j : ℕ). B ∷ drop j S) (sym (add-one at))
 
-        pub d_other : compared (drop at S) (definition f) ≡ Other → refuse ≡ step (in_page H) B P
+        pub d_other : compared (drop at S) (definition f) ≡ Err Bad → refuse ≡ step (in_page H) B P
         d_other c = sym (define_other H B P o f Q here (ap (λ (t : List ℕ). compared t (definition f)) (sym whole) ∙ c))
 
-        pub d_cut : compared (drop at S) (definition f) ≡ Short → short ≡ step (in_page H) B P
+        pub d_cut : compared (drop at S) (definition f) ≡ Err Short → short ≡ step (in_page H) B P
         d_cut c = sym (define_short H B P o f Q here u may (ap (λ (t : List ℕ). compared t (definition f)) (sym whole) ∙ c))
 
-        pub d_go : compared (drop at S) (definition f) ≡ Whole → go (page_state_after H (defining f)) 19 ≡ step (in_page H) B P
+        pub d_go : compared (drop at S) (definition f) ≡ Ok tt → go (page_state_after H (defining f)) 19 ≡ step (in_page H) B P
         d_go c = sym (define_go H B P o f Q here may (ap (λ (t : List ℕ). compared t (definition f)) (sym whole) ∙ c))
+
+        pub d_wrong : (w : Wrong) → compared (drop at S) (definition f) ≡ Err w → StepIs S at h is (Err w)
+        d_wrong Bad c = d_other c
+        d_wrong Short c = d_cut c

@@ -4,7 +4,7 @@ use mathlib.Core.Path.{◌≡◌, refl, sym, ap, ◌∙◌}
 use mathlib.Core.Bool.{Bool, true, false, not}
 use mathlib.Core.List.{List, [], ◌∷◌}
 use mathlib.Core.Option.{Option}
-use Prim.Native.Nat.{ℕ, zero, suc, ◌+◌, ◌-◌, ◌≤◌, ◌<◌}
+use Prim.Native.Nat.{ℕ, suc, ◌+◌, ◌-◌, ◌≤◌, ◌<◌}
 use native.Mathlib.Omega.{arith}
 use borrow.Author.Tests.{lt-ltb, le-leb, lt-leb, leb-true, leb-false}
 use lib.Dec.{leb}
@@ -27,13 +27,12 @@ use Rattle.dvi2_page.proofs.Choices.{low_bad, low_go, high_none, high_some, high
 use Rattle.extents.specs.FontMarks.{is_marked}
 use Rattle.extents.proofs.FontMarksLaws.{marked_used}
 use Rattle.dvi2_page.proofs.Marks.{choose_big}
-use Rattle.dvi2_moves.proofs.CommandKinds.{no_truth}
+use Rattle.dvi2_state.proofs.Searches.{no_truth}
 
 -- no font below 64
-pub none_low : (n : ℕ) (s : Page.Stage) (cs : List Character) (o : Option ℕ) → n ≤ 64 → some_below n (chooses_high s cs o) ≡ false
-unfolding some_below chooses_high
-none_low zero s cs o l = refl
-none_low (suc n) s cs o l = rw (lt-leb 64 n (omega arith)) (none_low n s cs o (omega arith))
+pub low_not : (s : Page.Stage) (cs : List Character) (o : Option ℕ) (f : ℕ) → f < 64 → chooses_high s cs o f ≡ false
+unfolding chooses_high
+low_not s cs o f l = rw (lt-leb 64 f l) refl
 
 pub chooses_high_lem : (s : Page.Stage) (cs : List Character) (o : Option ℕ) (f : ℕ) → 64 ≤ f → chooses_high s cs o f ≡ may_choose s cs o f
 unfolding chooses_high
@@ -98,10 +97,6 @@ module _ (S : List ℕ) (at : ℕ) (h : PageState) (sound : SoundPage h) (is : L
       pub s_high_go : 64 ≤ get_or S (at + 1) 0 → chooses (get_or S (at + 1) 0) ≡ true → go (page_state_after H (selecting (get_or S (at + 1) 0))) 1 ≡ step (in_page H) B P
       s_high_go a c = sym (high_go H B P o (get_or S (at + 1) 0) (drop (suc (at + 1)) S) next_here a (select_is (get_or S (at + 1) 0) ∙ c))
 
-pub used_not_free : (low high : ℕ) (is : List Item) → Known low high is → (f : ℕ) → f < 120 → is_marked low high f ≡ true → is_free (characters_of is) f ≡ false
+pub unmarked_free : (low high : ℕ) (is : List Item) → Known low high is → (f : ℕ) → f < 120 → not (is_marked low high f) ≡ is_free (characters_of is) f
 unfolding is_free
-used_not_free low high is k f l e = ap not (sym (marked_used low high (characters_of is) k.fonts f l) ∙ e)
-
-pub unused_free : (low high : ℕ) (is : List Item) → Known low high is → (f : ℕ) → f < 120 → is_marked low high f ≡ false → is_free (characters_of is) f ≡ true
-unfolding is_free
-unused_free low high is k f l e = ap not (sym (marked_used low high (characters_of is) k.fonts f l) ∙ e)
+unmarked_free low high is k f l = ap not (marked_used low high (characters_of is) k.fonts f l)

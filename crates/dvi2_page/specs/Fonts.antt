@@ -3,7 +3,7 @@
 --     StepsWith       a step is that of the command at a place, after any items of these marks to which one can be added
 --     chooses_high     a font from 64 on may be chosen
 --     is_free          a font is not used
-use Rattle.std.specs.Prelude.{ℕ, ◌<◌, ◌≡◌, Bool, true, not, ◌&&◌, List, leb, length}
+use Rattle.std.specs.Prelude.{ℕ, ◌<◌, ◌≡◌, Bool, true, not, ◌&&◌, List, leb, length, Result}
 use Rattle.std.proofs.Math.Option.{Option}
 use Rattle.galley_file.specs.declared.character.Character.{Character}
 use Rattle.galley_file.specs.declared.item.Item.{Item}
@@ -14,6 +14,7 @@ use Rattle.extents.specs.FontMarks.{uses, FontsAre}
 use Rattle.dvi2_reading.specs.PageReading as Page
 use Rattle.dvi2_state.specs.declared.page_state.PageState.{PageState}
 use Rattle.dvi2_state.specs.declared.page_state.Stepped.{Stepped}
+use Rattle.dvi2_state.specs.declared.page_state.Wrong.{Wrong}
 use Rattle.dvi2_state.specs.Page.{StepIs}
 
 -- the fonts of their characters, which are all among the 120
@@ -21,7 +22,7 @@ pub record Known (low high : ℕ) (is : List Item) : Type 0 where
   pub fonts : FontsAre low high (characters_of is)
   pub small : (f : ℕ) → uses f (characters_of is) ≡ true → f < 120
 
-abbrev pub StepsWith : List ℕ → ℕ → PageState → Fonts → Stepped → Type 0
+abbrev pub StepsWith : List ℕ → ℕ → PageState → Fonts → Result Stepped Wrong → Type 0
 StepsWith s at h used r = (is : List Item) → length is < max_items → Known used.low used.high is → StepIs s at h is r
 
 -- a font from 64 on that may be chosen

@@ -1,9 +1,9 @@
 -- How bytes compare with a command that they should start with.
-use Rattle.std.specs.Prelude.{ℕ, cond, List, [], ◌∷◌, eqb}
-use Rattle.dvi2_page.specs.declared.matching.Match.{Match}
-use Rattle.dvi2_page.specs.declared.matching.Match.TheVariants.{Whole, Short, Other}
+use Rattle.std.specs.Prelude.{ℕ, cond, List, [], ◌∷◌, eqb, Result, Ok, Err}
+use Rattle.dvi2_state.specs.declared.page_state.Wrong.{Wrong}
+use Rattle.dvi2_state.specs.declared.page_state.Wrong.TheVariants.{Bad, Short}
 
-unfoldable pub compared : List ℕ → List ℕ → Match
-compared s [] = Whole
-compared [] (e ∷ es) = Short
-compared (b ∷ s) (e ∷ es) = cond (eqb b e) (compared s es) Other
+unfoldable pub compared : List ℕ → List ℕ → Result (Unit {0}) Wrong
+compared s [] = Ok tt
+compared [] (e ∷ es) = Err Short
+compared (b ∷ s) (e ∷ es) = cond (eqb b e) (compared s es) (Err Bad)

@@ -11,19 +11,18 @@ ghost use Rattle.dvi2_page.specs.Fonts.{Known, StepsWith};
 
 use dvi2::opcode;
 use dvi2_moves::moves;
-use dvi2_state::page_state;
-use dvi2_state::page_state::{PageState, Stepped};
+use dvi2_state::page_state::{PageState, Stepped, Wrong};
 use extents::fonts::Fonts;
 use galley_file::item;
 
 // A command of a font.
-fn font_step(s: &[u8], at: usize, h: PageState, used: Fonts) -> Stepped
+fn font_step(s: &[u8], at: usize, h: PageState, used: Fonts) -> Result<Stepped, Wrong>
     requires { ((at < length s.now) × (161 ≤ get_or s.now at 0)) × SoundPage h }
     ensures { StepsWith s.now at h used result }
 {
     let op = s[at];
     if op < opcode::FNTNUM0 {
-        return Stepped::Bad;
+        return Err(Wrong::Bad);
     }
     if op < opcode::FNT1 {
         return fonts::select_low(s, at, h, used);
@@ -34,11 +33,11 @@ fn font_step(s: &[u8], at: usize, h: PageState, used: Fonts) -> Stepped
     if op == opcode::FNTDEF1 {
         return fonts::define(s, at, h, used);
     }
-    Stepped::Bad
+    Err(Wrong::Bad)
 }
 
 // A move, or put1.
-fn move_step(s: &[u8], at: usize, h: PageState) -> Stepped
+fn move_step(s: &[u8], at: usize, h: PageState) -> Result<Stepped, Wrong>
     requires { ((at < length s.now) × ((get_or s.now at 0 ≡ 140 → ⊥) × (get_or s.now at 0 ≤ 160))) × SoundPage h }
     ensures { StepsAs s.now at h result }
 {
@@ -47,32 +46,32 @@ fn move_step(s: &[u8], at: usize, h: PageState) -> Stepped
         return moves::put(s, at, h);
     }
     if op < opcode::RIGHT1 {
-        return Stepped::Bad;
+        return Err(Wrong::Bad);
     }
     if op <= opcode::RIGHT4 {
         return moves::right(s, at, (op - opcode::RIGHT1) as usize + 1, h);
     }
     if op < opcode::DOWN1 {
-        return Stepped::Bad;
+        return Err(Wrong::Bad);
     }
     moves::down(s, at, (op - opcode::DOWN1) as usize + 1, h)
 }
 
 // The command at `at`, after `count` items with these fonts.
-pub fn step(s: &[u8], at: usize, h: PageState, count: usize, used: Fonts) -> Stepped
+pub fn step(s: &[u8], at: usize, h: PageState, count: usize, used: Fonts) -> Result<Stepped, Wrong>
     requires { (at < length s.now) × SoundPage h }
     ensures { (is : List Item) → length is ≡ count → Known used.low used.high is → StepIs s.now at h is result }
 {
     let op = s[at];
     if op == opcode::EOP {
-        let stage = h.stage;
-        if page_state::is_ready(stage) {
-            return Stepped::End;
-        }
-        return Stepped::Bad;
+        return if h.stage.is_ready() {
+            Ok(Stepped::End)
+        } else {
+            Err(Wrong::Bad)
+        };
     }
     if item::MAX_ITEMS <= count {
-        return Stepped::Bad;
+        return Err(Wrong::Bad);
     }
     if op <= opcode::DOWN4 {
         return move_step(s, at, h);

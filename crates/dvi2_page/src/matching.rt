@@ -2,29 +2,19 @@
 ghost use Rattle.std.specs.Prelude.{◌≡◌, ◌≤◌, length, drop};
 ghost use Rattle.dvi2_page.specs.Match.{compared};
 
-#[derive(Clone, Copy)]
-pub enum Match {
-    // The command stands there.
-    Whole,
-    // The file ends inside it.
-    Short,
-    Other,
-}
+use dvi2_state::page_state::Wrong;
 
-// How s, from `at` on, compares with the command e.
-pub fn compare(s: &[u8], at: usize, e: &[u8]) -> Match
+// Whether the command e stands in s at `at`: if not, the file ends inside it, or another command stands there.
+pub fn compare(s: &[u8], at: usize, e: &[u8]) -> Result<(), Wrong>
     requires { at ≤ length s.now }
     ensures { result ≡ compared (drop at s.now) e.now }
 {
-    let mut i: usize = 0;
-    while i < e.len() {
-        if s.len() - at <= i {
-            return Match::Short;
-        }
-        if s[at + i] != e[i] {
-            return Match::Other;
-        }
-        i += 1;
+    let rest = &s[at..];
+    if rest.starts_with(e) {
+        Ok(())
+    } else if e.starts_with(rest) {
+        Err(Wrong::Short)
+    } else {
+        Err(Wrong::Bad)
     }
-    Match::Whole
 }

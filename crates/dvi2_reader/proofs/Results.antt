@@ -7,6 +7,7 @@ use native.Mathlib.Nat.{suc-ne-zero}
 use native.Mathlib.Omega.{arith}
 use borrow.Author.Tests.{lt-ltb, le-ltb}
 use lib.ListN.{length, drop}
+use Rattle.std.specs.Prelude.{Result, Ok, Err}
 use Rattle.octets.specs.Answer.{accepted, refused, Gives, refusal, written, if_room, file_too_long, no_galley_room, not_ours}
 use Rattle.octets.specs.AnswerLaws.{room_short, room_enough, gives as outcome-gives}
 use Rattle.octets.specs.PutIfRoom.{PutIfRoom}
@@ -16,8 +17,7 @@ use Rattle.galley_file.specs.declared.item.Item.{Item}
 use Rattle.galley_file.specs.Galley.{galley}
 use Rattle.dvi2.specs.File.{max_dvi2}
 use Rattle.dvi2_reading.specs.Reading.{gives, bad, read_file, galley_result, read2_result}
-use Rattle.dvi2_close.specs.declared.expect.Reading.{Reading}
-use Rattle.dvi2_close.specs.declared.expect.Reading.TheVariants.{To, Fault}
+use Rattle.dvi2_close.specs.declared.expect.NotOurs.{NotOurs}
 use Rattle.dvi2_reader.specs.Pass.{Given, Passed}
 
 items_same : {is js : List Item} → gives is ≡ gives js → is ≡ js
@@ -52,16 +52,20 @@ module _ (s : List ℕ) where
           ∙ ap (refusal no_galley_room) (sym needed_is))
           refl refl
 
+      -- what one pass has read is no fault to the next
+      pub no_fault : {X : Type 0} (w : NotOurs) → read_file s ≡ bad w.place → X
+      no_fault w p = let z : gives g.items ≡ bad w.place = sym g.read_as ∙ p in absurd (suc-ne-zero 0 cc)
+
       -- the second pass writes what the first has read
-      second_pass : (later : List ℕ) (r : Reading) → Passed s buffer later r → length (galley New g.items) ≤ length buffer
+      second_pass : (later : List ℕ) (r : Result ℕ NotOurs) → Passed s buffer later r → length (galley New g.items) ≤ length buffer
           → later ≡ galley New g.items ++ drop (length (galley New g.items)) buffer
-      second_pass later (To m) p h =
+      second_pass later (Ok m) p h =
           let q : p.items ≡ g.items = items_same (sym p.read_as ∙ g.read_as) in
           let w : PutIfRoom buffer 0 (galley New g.items) later m = subst (λ (js : List Item). PutIfRoom buffer 0 (galley New js) later m) q p.puts in
           w.buffer_is (omega (arith, h)) ∙ sets_start buffer (galley New g.items) h
-      second_pass later (Fault place) p h = let z : gives g.items ≡ bad place = sym g.read_as ∙ p in absurd (suc-ne-zero 0 cc)
+      second_pass later (Err w) p h = no_fault w p
 
-      pub whole_gives : (later : List ℕ) (r : Reading) → Passed s buffer later r → n ≤ length buffer → Gives (accepted n) (read2_result s) buffer later
+      pub whole_gives : (later : List ℕ) (r : Result ℕ NotOurs) → Passed s buffer later r → n ≤ length buffer → Gives (accepted n) (read2_result s) buffer later
       whole_gives later r p h =
           outcome-gives {r = written (galley New g.items)}
           (result_is (length buffer) g.items g.read_as ∙ room_enough no_galley_room (length buffer) (galley New g.items) (omega (arith, needed_is)))

@@ -12,14 +12,15 @@ ghost use Rattle.dvi2_reading.specs.Standing.{Standing};
 ghost use Rattle.dvi2_reader.specs.Pass.{Passed};
 
 use dvi2_close::expect;
-use dvi2_close::expect::Reading;
+use dvi2_close::expect::NotOurs;
+use dvi2_turn::tally::Tally;
+use dvi2_turn::turn;
 use dvi2_turn::turn::Turn;
-use dvi2_turn::{tally, turn};
 use galley_file::form::Form;
 use galley_file::item;
 use galley_file::item::Item;
-use octets::answer::Answer;
-use octets::{answer, field};
+use octets::field;
+use octets::refusal::{Answer, Reason};
 
 pub const MAX_DVI2: usize = 67_108_864;
 
@@ -30,9 +31,10 @@ fn put_item(out: &mut [u8], at: usize, i: Item) -> usize
 {
     let size = item::item_size(Form::New, i);
     if out.len() < at + size {
-        return at + size;
+        at + size
+    } else {
+        item::put_item(Form::New, out, at, i)
     }
-    item::put_item(Form::New, out, at, i)
 }
 
 // Writes End, if it has room.
@@ -41,42 +43,38 @@ fn put_end(out: &mut [u8], at: usize, count: usize) -> usize
     ensures { PutIfRoom out.old at (end_field count) out.new result }
 {
     if out.len() < at + field::END_FIELD {
-        return at + field::END_FIELD;
+        at + field::END_FIELD
+    } else {
+        field::put_end(out, at, count as u32)
     }
-    field::put_end(out, at, count as u32)
 }
 
 // One pass over a file whose first page starts at `first`: writes the galley as far as there is room; gives its length.
-fn pass(dvi: &[u8], first: usize, out: &mut [u8]) -> Reading
+fn pass(dvi: &[u8], first: usize, out: &mut [u8]) -> Result<usize, NotOurs>
     requires { (length dvi.now ≤ 67108864) × Standing dvi.now (in_page (new_page_state [])) first }
     ensures { Passed dvi.now out.old out.new result }
 {
     let mut at = first;
     let mut h = turn::new_page();
-    let mut t = tally::none();
+    let mut t = Tally::none();
     let mut to: usize = 0;
+    // A turn takes as many bytes as its commands have, so the place is no counter.
     while at < dvi.len() {
-        let r = turn::take_turn(dvi, at, h, t);
-        match r {
-            Turn::Bad(place) => {
-                return Reading::Fault(place);
-            }
-            Turn::Whole => {
-                return Reading::To(put_end(out, to, t.characters));
-            }
+        match turn::take_turn(dvi, at, h, t)? {
+            Turn::Whole => return Ok(put_end(out, to, t.characters)),
             Turn::On(g, next) => {
                 h = g;
                 at = next;
             }
             Turn::Set(i, g, next) => {
                 to = put_item(out, to, i);
-                t = tally::with_item(t, i, next);
+                t = t.with_item(i, next);
                 h = g;
                 at = next;
             }
         }
     }
-    Reading::Fault(dvi.len())
+    Err(NotOurs { place: dvi.len() })
 }
 
 // Reads a file whose first page starts at `first` into the lent galley buffer, if there is room.
@@ -85,17 +83,12 @@ fn read_pages(dvi: &[u8], first: usize, galley: &mut [u8]) -> Answer
     ensures { Gives (outcome_of result) (read2_result dvi.now) galley.old galley.new }
 {
     let mut scrap = [0u8; 1];
-    let found = pass(dvi, first, &mut scrap);
-    match found {
-        Reading::To(needed) => {
-            if galley.len() < needed {
-                return Answer::Refused(answer::NO_GALLEY_ROOM, needed);
-            }
-            pass(dvi, first, galley);
-            Answer::Accepted(needed)
-        }
-        Reading::Fault(place) => Answer::Refused(answer::NOT_OURS, place),
+    let needed = pass(dvi, first, &mut scrap)?;
+    if galley.len() < needed {
+        return Err(Reason::NoGalleyRoom.at(needed));
     }
+    pass(dvi, first, galley)?;
+    Ok(needed)
 }
 
 // Reads a file of the second edition into the lent galley buffer.
@@ -103,11 +96,8 @@ pub fn read_dvi2(dvi: &[u8], galley: &mut [u8]) -> Answer
     ensures { Gives (outcome_of result) (read2_result dvi.now) galley.old galley.new }
 {
     if MAX_DVI2 < dvi.len() {
-        return Answer::Refused(answer::FILE_TOO_LONG, 0);
+        return Err(Reason::FileTooLong.at(0));
     }
-    let began = expect::head(dvi);
-    match began {
-        Reading::To(first) => read_pages(dvi, first, galley),
-        Reading::Fault(place) => Answer::Refused(answer::NOT_OURS, place),
-    }
+    let first = expect::head(dvi)?;
+    read_pages(dvi, first, galley)
 }

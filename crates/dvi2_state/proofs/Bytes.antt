@@ -1,15 +1,17 @@
 -- What begins a move, byte by byte; and where a character of a font may stand.
 -- Assumes nothing.
 use mathlib.Core.Path.{◌≡◌, refl, sym, ap, ◌∙◌}
-use mathlib.Core.Bool.{Bool, true, false}
+use mathlib.Core.Bool.{Bool, false, ◌&&◌}
 use mathlib.Core.Option.{Option}
-use mathlib.Core.List.{List, ◌++◌, append-nil}
+use mathlib.Core.List.{List, [], ◌∷◌, ◌++◌, append-nil}
 use Prim.Native.Nat.{ℕ, zero, suc, ◌+◌, ◌-◌, ◌≤◌, ◌<◌}
 use native.Mathlib.Omega.{arith}
 use borrow.Author.Tests.{eq-eqb, ne_eqb}
+use lib.Dec.{eqb}
 use lib.IntN.{ℤ}
-use lib.ListN.{length, get_or, drop, drop_of_length-le}
-use lib.Seq.{sets, drop-cons}
+use lib.ListN.{length, get_or, take, drop, length-drop, drop_of_length-le}
+use lib.Seq.{sets, drop-cons, take_all}
+use Rattle.std.specs.List.{starts_with}
 use Rattle.octets.specs.Octets.{bytes, residue, signed_bytes}
 use Rattle.octets.specs.OctetsLaws.{word_bytes}
 use Rattle.octets.specs.Write.{sets_start}
@@ -19,24 +21,17 @@ use Rattle.galley_file.specs.Character.{valid_x}
 use Rattle.dvi2_reading.specs.PageReading.{begins, valid_in}
 use Rattle.dvi.specs.FontOrNone.{font_or_none, font_some}
 
--- ---- beginnings, byte by byte
+-- ---- beginnings
 
-module _ (s e : List ℕ) (i j : ℕ) (h : i < length s) where
-  pub begins_past : length e ≤ j → begins (drop i s) (drop j e) ≡ false
-  unfolding begins
-  begins_past l = rw (drop-cons s i 0 h, drop_of_length-le e {i = j} l)
+-- all bytes from k on
+pub tail_is : (xs : List ℕ) (k n : ℕ) → length xs ≡ n → take (n - k) (drop k xs) ≡ drop k xs
+tail_is xs k n e = take_all (n - k) (drop k xs) (omega (arith, length-drop k xs))
 
-  pub begins_other : j < length e → (get_or s i 0 ≡ get_or e j 0 → ⊥) → begins (drop i s) (drop j e) ≡ false
-  unfolding begins
-  begins_other l n = rw (drop-cons s i 0 h, drop-cons e j 0 l, ne_eqb (get_or s i 0) (get_or e j 0) n)
-
-  pub begins_more : j < length e → get_or s i 0 ≡ get_or e j 0 → begins (drop i s) (drop j e) ≡ begins (drop (suc i) s) (drop (suc j) e)
-  unfolding begins
-  begins_more l q = rw (drop-cons s i 0 h, drop-cons e j 0 l, eq-eqb (get_or s i 0) (get_or e j 0) q)
-
-pub begins_out : (s e : List ℕ) (i : ℕ) → length s ≤ i → begins (drop i s) e ≡ true
+pub starts_begins : (e s : List ℕ) → starts_with eqb e s ≡ begins s e
 unfolding begins
-begins_out s e i l = rw (drop_of_length-le s {i = i} l)
+starts_begins e [] = refl
+starts_begins [] (x ∷ s) = refl
+starts_begins (y ∷ e) (x ∷ s) = ap (λ (t : Bool). eqb x y && t) (starts_begins e s)
 
 -- ---- numbers
 
@@ -46,14 +41,6 @@ no_font x f e = rw (eq-eqb f 255 e)
 
 pub valid_font : (x : ℤ) (f i : ℕ) (d : Bool) → (f ≡ 255 → ⊥) → i ≡ size_index f → d ≡ is_double i → valid_x d x ≡ valid_in (font_or_none f) x
 valid_font x f i d n a b = ap (λ (t : Bool). valid_x t x) (b ∙ ap is_double a) ∙ sym (ap (λ (o : Option ℕ). valid_in o x) (font_some f n))
-
-pub four_left : (k : ℕ) → 1 ≤ k → k ≤ 4 → (k ≡ 1 → ⊥) → (k ≡ 2 → ⊥) → (k ≡ 3 → ⊥) → 4 ≡ k
-four_left zero l h a b c = absurd (omega arith)
-four_left (suc zero) l h a b c = absurd (a refl)
-four_left (suc (suc zero)) l h a b c = absurd (b refl)
-four_left (suc (suc (suc zero))) l h a b c = absurd (c refl)
-four_left (suc (suc (suc (suc zero)))) l h a b c = refl
-four_left (suc (suc (suc (suc (suc k))))) l h a b c = absurd (omega arith)
 
 -- ---- a move's bytes
 

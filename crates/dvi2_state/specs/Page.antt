@@ -2,12 +2,12 @@
 --     stage_of, page_state_of        a state of a page, after some items
 --     page_position                its position
 --     SoundPage                   its position is on the page, and its font is one of the 120
---     step_of                      a step
+--     step_of                     a step, or what is wrong with a command
 --     StepIs                      a step is that of the command at a place, after these items
 --     StepsAs                     and so it is after any items to which one can be added
 --     MayMove                     a move of some bytes stands at a place
 --     right_begins, down_begins     some bytes begin a move from a position to a place
-use Rattle.std.specs.Prelude.{ℕ, ◌+◌, ◌≤◌, ◌<◌, ◌≡◌, Bool, not, ◌&&◌, List, [], ◌∷◌, ◌++◌, ℤ, pos, ◌-ℤ◌, ◌*ℤ◌, length, get_or, drop}
+use Rattle.std.specs.Prelude.{ℕ, ◌+◌, ◌≤◌, ◌<◌, ◌≡◌, Bool, not, ◌&&◌, List, [], ◌∷◌, ◌++◌, ℤ, pos, ◌-ℤ◌, ◌*ℤ◌, length, get_or, drop, Result, Ok, Err}
 use Rattle.std.proofs.Math.Option.{some}
 use Rattle.integers.specs.Equality.{eq_z}
 use Rattle.galley_file.specs.declared.item.Item.{Item}
@@ -24,7 +24,9 @@ use Rattle.dvi2_state.specs.declared.page_state.Stage.{Stage}
 use Rattle.dvi2_state.specs.declared.page_state.Stage.TheVariants.{Ready, Named, Chosen, Moved, Lowered}
 use Rattle.dvi2_state.specs.declared.page_state.PageState.{PageState}
 use Rattle.dvi2_state.specs.declared.page_state.Stepped.{Stepped}
-use Rattle.dvi2_state.specs.declared.page_state.Stepped.TheVariants.{Bad, Short, End, Put, Go}
+use Rattle.dvi2_state.specs.declared.page_state.Stepped.TheVariants.{End, Put, Go}
+use Rattle.dvi2_state.specs.declared.page_state.Wrong.{Wrong}
+use Rattle.dvi2_state.specs.declared.page_state.Wrong.TheVariants.{Bad, Short}
 
 abbrev pub stage_of : Stage → Page.Stage
 stage_of Ready = Page.ready
@@ -44,18 +46,18 @@ pub record SoundPage (h : PageState) : Type 0 where
   pub on_page : OnPage (page_position h)
   pub font_valid : (f : ℕ) → font_or_none h.font ≡ some f → f < 120
 
-abbrev pub step_of : List Item → PageState → Stepped → R.Step
-step_of is h Bad = R.refuse
-step_of is h Short = R.short
-step_of is h End = R.go (R.between is) 0
-step_of is h (Put c) =
+abbrev pub step_of : List Item → PageState → Result Stepped Wrong → R.Step
+step_of is h (Err Bad) = R.refuse
+step_of is h (Err Short) = R.short
+step_of is h (Ok End) = R.go (R.between is) 0
+step_of is h (Ok (Put c)) =
     R.go (R.in_page (record { items = is ++ (Placed (R.character_of (page_position h) c) ∷ []); stage = Page.ready; position = page_position h })) 1
-step_of is h (Go g n) = R.go (R.in_page (page_state_of is g)) n
+step_of is h (Ok (Go g n)) = R.go (R.in_page (page_state_of is g)) n
 
-abbrev pub StepIs : List ℕ → ℕ → PageState → List Item → Stepped → Type 0
+abbrev pub StepIs : List ℕ → ℕ → PageState → List Item → Result Stepped Wrong → Type 0
 StepIs s at h is r = step_of is h r ≡ R.step (R.in_page (page_state_of is h)) (get_or s at 0) (drop (at + 1) s)
 
-abbrev pub StepsAs : List ℕ → ℕ → PageState → Stepped → Type 0
+abbrev pub StepsAs : List ℕ → ℕ → PageState → Result Stepped Wrong → Type 0
 StepsAs s at h r = (is : List Item) → length is < max_items → StepIs s at h is r
 
 -- a command with this opcode stands at a place: a move of k bytes, from a sound state

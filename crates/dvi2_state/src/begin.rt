@@ -8,7 +8,6 @@ ghost use Rattle.dvi2_reading.specs.PageReading as Page;
 ghost use Rattle.dvi2_reading.specs.Reading as R;
 ghost use Rattle.dvi2_state.specs.Page.{page_position, right_begins, down_begins};
 
-use crate::page_state;
 use crate::page_state::PageState;
 use dvi2::opcode;
 use dvi2_commands::command;
@@ -21,26 +20,6 @@ const PLACES: u32 = (measure::CARRIAGE_END.0 - measure::FIRST_X.0) as u32 + 1;
 // The heights, from 0 to HEIGHT_END.
 const HEIGHTS: u32 = measure::HEIGHT_END.0 as u32 + 1;
 
-// Whether s, from `at` to its end, begins what stands in e from `from` on.
-fn begins_from(s: &[u8], at: usize, e: &[u8], from: usize) -> bool
-    requires { (at ≤ length s.now) × (from ≤ length e.now) }
-    ensures { result ≡ Page.begins (drop at s.now) (drop from e.now) }
-{
-    let mut i = at;
-    let mut j = from;
-    while i < s.len() {
-        if e.len() <= j {
-            return false;
-        }
-        if s[i] != e[j] {
-            return false;
-        }
-        i += 1;
-        j += 1;
-    }
-    true
-}
-
 // Whether s, from `at` to its end, begins the move by m with the first opcode op.
 fn begins_move(s: &[u8], at: usize, op: u8, m: i32) -> bool
     requires { (at < length s.now) × (op ≤ 200) }
@@ -52,7 +31,7 @@ fn begins_move(s: &[u8], at: usize, op: u8, m: i32) -> bool
     }
     let mut e = [0u8; 4];
     number::put_signed4(&mut e, 0, m);
-    begins_from(s, at + 1, &e, 4 - w)
+    e[4 - w..].starts_with(&s[at + 1..])
 }
 
 // Whether s, from `at` to its end, begins a move right from the place of h to a place where a character of its font may stand.
@@ -61,13 +40,7 @@ fn right_begins(s: &[u8], at: usize, h: PageState, to: Units) -> bool
     ensures { result ≡ right_begins (drop at s.now) (page_position h) to.0 }
 {
     let m = to.0 - h.x.0;
-    if m == 0 {
-        return false;
-    }
-    if !page_state::valid_in(h.font, to) {
-        return false;
-    }
-    begins_move(s, at, opcode::RIGHT1, m)
+    m != 0 && h.valid_in(to) && begins_move(s, at, opcode::RIGHT1, m)
 }
 
 // The same of any such place.
@@ -75,26 +48,17 @@ pub fn may_begin_right(s: &[u8], at: usize, h: PageState) -> bool
     requires { (at < length s.now) × OnPage (page_position h) }
     ensures { result ≡ Page.some_below R.places (λ k. right_begins (drop at s.now) (page_position h) (entry_x k)) }
 {
-    let mut k: u32 = 0;
-    while k < PLACES {
-        if right_begins(s, at, h, Units(k as i32 - measure::DOUBLE_SHIFT.0)) {
-            return true;
-        }
-        k += 1;
-    }
-    false
+    (0..PLACES).any(|k| right_begins(s, at, h, Units(k as i32 - measure::DOUBLE_SHIFT.0)))
 }
 
 // Whether s, from `at` to its end, begins a move down from the place of h to another height.
+// It stays beside `right_begins`: another measure, three units to each quantum, and no test of the font; one function of both would take these three.
 fn down_begins(s: &[u8], at: usize, h: PageState, to: Quanta) -> bool
     requires { (at < length s.now) × (OnPage (page_position h) × ((pos 0 ≤ℤ to.0) × (to.0 ≤ℤ height_end))) }
     ensures { result ≡ down_begins (drop at s.now) (page_position h) (pos 3 *ℤ to.0) }
 {
     let m = measure::PER_QUANTUM * (to.0 - h.height.0);
-    if m == 0 {
-        return false;
-    }
-    begins_move(s, at, opcode::DOWN1, m)
+    m != 0 && begins_move(s, at, opcode::DOWN1, m)
 }
 
 // The same of any height.
@@ -102,12 +66,5 @@ pub fn may_begin_down(s: &[u8], at: usize, h: PageState) -> bool
     requires { (at < length s.now) × OnPage (page_position h) }
     ensures { result ≡ Page.some_below R.heights (λ k. down_begins (drop at s.now) (page_position h) (pos (3 * k))) }
 {
-    let mut k: u32 = 0;
-    while k < HEIGHTS {
-        if down_begins(s, at, h, Quanta(k as i32)) {
-            return true;
-        }
-        k += 1;
-    }
-    false
+    (0..HEIGHTS).any(|k| down_begins(s, at, h, Quanta(k as i32)))
 }

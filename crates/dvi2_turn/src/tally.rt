@@ -19,37 +19,37 @@ pub struct Tally {
     pub bop: usize,
 }
 
-// Of no item.
-pub fn none() -> Tally
-    ensures { TallyIs result [] }
-{
-    let extents = extents::none();
-    Tally {
-        characters: 0,
-        cuts: 0,
-        extents: extents,
-        bop: dvi2_frame::PRE_LENGTH,
+impl Tally {
+    // Of no item.
+    pub fn none() -> Tally
+        ensures { TallyIs result [] }
+    {
+        Tally {
+            characters: 0,
+            cuts: 0,
+            extents: extents::none(),
+            bop: dvi2_frame::PRE_LENGTH,
+        }
     }
-}
 
-// With one item more, after whose commands the file is at `at`.
-pub fn with_item(t: Tally, i: Item, at: usize) -> Tally
-    requires { ((t.characters < 2097152) × (t.cuts < 2097152)) × ((45 ≤ at) × (valid_item height_end i ≡ true)) }
-    ensures { (is : List ItemOf) → TallyIs t is → at ≡ (writing_of (is ++ (i ∷ []))).at → TallyIs result (is ++ (i ∷ [])) }
-{
-    let extents = extents::with_item(t.extents, i);
-    match i {
-        Item::Placed(_) => Tally {
-            characters: t.characters + 1,
-            cuts: t.cuts,
-            extents: extents,
-            bop: t.bop,
-        },
-        Item::Cut => Tally {
-            characters: t.characters,
-            cuts: t.cuts + 1,
-            extents: extents,
-            bop: at - dvi2_frame::BOP_LENGTH,
-        },
+    // With one item more, after whose commands the file is at `at`.
+    pub fn with_item(self, item: Item, at: usize) -> Tally
+        requires { ((self.characters < 2097152) × (self.cuts < 2097152)) × ((45 ≤ at) × (valid_item height_end item ≡ true)) }
+        ensures { (is : List ItemOf) → TallyIs self is → at ≡ (writing_of (is ++ (item ∷ []))).at → TallyIs result (is ++ (item ∷ [])) }
+    {
+        let extents = extents::with_item(self.extents, item);
+        match item {
+            Item::Placed(_) => Tally {
+                characters: self.characters + 1,
+                extents,
+                ..self
+            },
+            Item::Cut => Tally {
+                cuts: self.cuts + 1,
+                extents,
+                bop: at - dvi2_frame::BOP_LENGTH,
+                ..self
+            },
+        }
     }
 }

@@ -16,10 +16,9 @@ ghost use Rattle.dvi2_turn.specs.Turn.{Turning, Turned};
 use crate::tally::Tally;
 use dvi::font_byte;
 use dvi2::opcode;
-use dvi2_close::expect::Reading;
+use dvi2_close::expect::NotOurs;
 use dvi2_close::{close, expect};
-use dvi2_state::page_state;
-use dvi2_state::page_state::{PageState, Stage, Stepped};
+use dvi2_state::page_state::{PageState, Stage, Stepped, Wrong};
 use galley_file::character::Character;
 use galley_file::item;
 use galley_file::item::Item;
@@ -27,8 +26,6 @@ use measure::{Quanta, Units};
 
 #[derive(Clone, Copy)]
 pub enum Turn {
-    // No file goes on so.
-    Bad(usize),
     // The file is whole.
     Whole,
     // The state and the place after a command.
@@ -54,31 +51,26 @@ fn character(h: PageState, code: u8) -> Character
     requires { is_downward (page_position h).y ≡ true }
     ensures { (f : ℕ) → font_or_none h.font ≡ some f → result ≡ character_of (page_position h) code }
 {
-    let x = h.x;
-    let height = h.height;
     Character {
-        x: x,
-        height: height,
+        x: h.x,
+        height: h.height,
         font: h.font,
-        code: code,
+        code,
     }
 }
 
 // post, and the rest of the file.
-fn to_post(dvi: &[u8], at: usize, t: Tally) -> Reading
+fn to_post(dvi: &[u8], at: usize, t: Tally) -> Result<usize, NotOurs>
     requires { ((at < length dvi.now) × (get_or dvi.now at 0 ≡ 248)) × ((length dvi.now ≤ 67108864) × TallyRanged t) }
     ensures { (is : List ItemOf) → TallyIs t is → Standing dvi.now (between is) at → Ended dvi.now is result }
 {
     let e = dvi2_frame::post(t.bop as u32, t.extents, t.cuts as u32 + 1);
-    let r = expect::expect(dvi, at, &e);
-    match r {
-        Reading::To(to) => close::close(dvi, at, to, t.extents.fonts),
-        Reading::Fault(place) => Reading::Fault(place),
-    }
+    let to = expect::expect(dvi, at, &e)?;
+    close::close(dvi, at, to, t.extents.fonts)
 }
 
 // The bop of a further page.
-fn to_page(dvi: &[u8], at: usize, t: Tally) -> Reading
+fn to_page(dvi: &[u8], at: usize, t: Tally) -> Result<usize, NotOurs>
     requires { ((at < length dvi.now) × (get_or dvi.now at 0 ≡ 248 → ⊥)) × TallyRanged t }
     ensures { (is : List ItemOf) → TallyIs t is → length is < max_items → Standing dvi.now (between is) at → ReadsTo dvi.now (in_page (new_page_state (is ++ (Cut ∷ [])))) result }
 {
@@ -87,48 +79,44 @@ fn to_page(dvi: &[u8], at: usize, t: Tally) -> Reading
 }
 
 // After eop.
-fn ended(dvi: &[u8], at: usize, t: Tally) -> Turn
+fn ended(dvi: &[u8], at: usize, t: Tally) -> Result<Turn, NotOurs>
     requires { (length dvi.now ≤ 67108864) × TallyRanged t }
     ensures { (is : List ItemOf) → TallyIs t is → Standing dvi.now (between is) at → Turned dvi.now is at result }
 {
     if dvi.len() <= at {
-        return Turn::Bad(dvi.len());
+        return Err(NotOurs { place: dvi.len() });
     }
     if dvi[at] == opcode::POST {
-        let r = to_post(dvi, at, t);
-        return match r {
-            Reading::To(_) => Turn::Whole,
-            Reading::Fault(place) => Turn::Bad(place),
-        };
+        to_post(dvi, at, t)?;
+        return Ok(Turn::Whole);
     }
     if item::MAX_ITEMS <= t.characters + t.cuts {
-        return Turn::Bad(at);
+        return Err(NotOurs { place: at });
     }
-    let r = to_page(dvi, at, t);
-    match r {
-        Reading::To(to) => {
-            let h = new_page();
-            Turn::Set(Item::Cut, h, to)
-        }
-        Reading::Fault(place) => Turn::Bad(place),
-    }
+    let to = to_page(dvi, at, t)?;
+    Ok(Turn::Set(Item::Cut, new_page(), to))
 }
 
 // The command at `at`, and the bop or the rest of the file after an eop.
-pub fn take_turn(dvi: &[u8], at: usize, h: PageState, t: Tally) -> Turn
+pub fn take_turn(dvi: &[u8], at: usize, h: PageState, t: Tally) -> Result<Turn, NotOurs>
     requires { ((at < length dvi.now) × (length dvi.now ≤ 67108864)) × Turning dvi.now at h t }
     ensures { (is : List ItemOf) → TallyIs t is → Standing dvi.now (in_page (page_state_of is h)) at → Turned dvi.now is at result }
 {
-    let r = dvi2_page::step(dvi, at, h, t.characters + t.cuts, t.extents.fonts);
-    match r {
-        Stepped::Bad => Turn::Bad(at),
-        Stepped::Short => Turn::Bad(dvi.len()),
-        Stepped::End => ended(dvi, at + 1, t),
-        Stepped::Put(code) => {
+    match dvi2_page::step(dvi, at, h, t.characters + t.cuts, t.extents.fonts) {
+        Ok(Stepped::End) => ended(dvi, at + 1, t),
+        Ok(Stepped::Put(code)) => {
             let c = character(h, code);
-            let g = page_state::with_font(h, Stage::Ready, h.font);
-            Turn::Set(Item::Placed(c), g, at + 2)
+            Ok(Turn::Set(
+                Item::Placed(c),
+                PageState {
+                    stage: Stage::Ready,
+                    ..h
+                },
+                at + 2,
+            ))
         }
-        Stepped::Go(g, n) => Turn::On(g, at + 1 + n),
+        Ok(Stepped::Go(g, n)) => Ok(Turn::On(g, at + 1 + n)),
+        Err(Wrong::Bad) => Err(NotOurs { place: at }),
+        Err(Wrong::Short) => Err(NotOurs { place: dvi.len() }),
     }
 }

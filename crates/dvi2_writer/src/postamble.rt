@@ -29,10 +29,8 @@ fn put_definitions(out: &mut [u8], at: usize, fonts: Fonts) -> usize
     ensures { PutIfRoom out.old at (definition_bytes (marked_fonts 120 fonts.low fonts.high)) out.new result }
 {
     let mut to = at;
-    let mut f: u8 = 0;
-    while f < galley_file::font::FONTS {
+    for f in 0..galley_file::font::FONTS {
         to = put_marked(out, to, fonts, f);
-        f += 1;
     }
     to
 }
@@ -53,10 +51,6 @@ pub fn put_fillers(out: &mut [u8], at: usize) -> usize
     requires { at < 2147483648 }
     ensures { PutIfRoom out.old at (bytes223 (fillers at)) out.new result }
 {
-    let end = at + 4 + (4 - at % 4) % 4;
-    let mut to = at;
-    while to < end {
-        to = put::put_byte(out, to, opcode::FILLER);
-    }
-    to
+    let count = 4 + (4 - at % 4) % 4;
+    put::put_bytes(out, at, &[opcode::FILLER; 7][..count])
 }

@@ -4,9 +4,7 @@ ghost use Rattle.measure.specs.Place.{height_end};
 ghost use Rattle.galley_file.specs.Character.{valid};
 ghost use Rattle.dvi2_writer.specs.Writing.{WritingIs, Advanced};
 
-use dvi2_commands::position;
 use dvi2_commands::position::Position;
-use extents;
 use extents::Extents;
 use galley_file::character::Character;
 
@@ -28,33 +26,30 @@ pub struct Writing {
     pub at: usize,
 }
 
-// After the first bop.
-pub fn first_writing() -> Writing
-    ensures { WritingIs result [] }
-{
-    let position = position::start_position();
-    let extents = extents::none();
-    Writing {
-        position: position,
-        extents: extents,
-        page: 1,
-        bop: FIRST_BOP,
-        at: FIRST_COMMAND,
+impl Writing {
+    // After the first bop.
+    pub fn first() -> Self
+        ensures { WritingIs result [] }
+    {
+        Writing {
+            position: Position::start(),
+            extents: extents::none(),
+            page: 1,
+            bop: FIRST_BOP,
+            at: FIRST_COMMAND,
+        }
     }
-}
 
-// After c, whose commands end before `at`.
-pub fn after_character(p: Writing, c: Character, at: usize) -> Writing
-    requires { valid height_end c ≡ true }
-    ensures { Advanced p c at result }
-{
-    let position = position::position_at(c);
-    let extents = extents::with_character(p.extents, c);
-    Writing {
-        position: position,
-        extents: extents,
-        page: p.page,
-        bop: p.bop,
-        at: at,
+    // After c, whose commands end before `at`.
+    pub fn after_character(self, c: Character, at: usize) -> Self
+        requires { valid height_end c ≡ true }
+        ensures { Advanced self c at result }
+    {
+        Writing {
+            position: Position::at_character(c),
+            extents: extents::with_character(self.extents, c),
+            at,
+            ..self
+        }
     }
 }

@@ -12,11 +12,11 @@ use lib.Dec.{ltb}
 use lib.IntN.{ℤ}
 use lib.ListN.{length, drop, length-append}
 use lib.Seq.{sets}
-use Rattle.octets.specs.Answer.{Result, refusal, written}
+use Rattle.octets.specs.Answer.{Result, refusal, written, accepted, outcome, outcome_of}
 use Rattle.octets.specs.Field.{end_field}
 use Rattle.octets.specs.FieldLaws.{length_end}
 use Rattle.octets.specs.Write.{put_if, put_if_none, put_if_append}
-use Rattle.octets.specs.Pass.{reading_of, bytes_of, Roomy, Passed}
+use Rattle.octets.specs.Pass.{bytes_of, Roomy, Passed}
 use Rattle.galley_file.specs.declared.form.Form.TheVariants.{New}
 use Rattle.galley_file.specs.declared.item.Item.{Item}
 use Rattle.galley_file.specs.declared.item.Item.TheVariants.{Placed, Cut}
@@ -29,14 +29,13 @@ use Rattle.dvi.specs.File.{run_as, PlacedMark, placed_at, read_placed}
 use Rattle.dvi_step.specs.Step.{state_of}
 use Rattle.dvi_step.specs.Standing.{Standing}
 use Rattle.dvi_step.specs.declared.State.{State}
-use Rattle.octets.specs.declared.pass.Reading.{Reading}
-use Rattle.octets.specs.declared.pass.Reading.TheVariants.{Needs}
+use Rattle.std.specs.Prelude as P
+use Rattle.std.specs.Prelude.{Some, None, Result as ResultOf}
+use Rattle.octets.specs.declared.refusal.Refusal.{Refusal}
 use Rattle.dvi_galley.specs.Back.{item_shown, Made, nothing, made, broken, pages_of, with_one_item, with_mark, makes, made_result, shown_galley}
 use Rattle.dvi_galley.proofs.BackLaws.{makes_append}
 use Rattle.dvi_galley.specs.Taken.{taken_of}
 use Rattle.dvi_back.specs.Tally.{tally_of, pages_in, place_in, added_by, end_of, tally_reading}
-use Rattle.dvi_galley.specs.declared.item.Taken.{Taken}
-use Rattle.dvi_galley.specs.declared.item.Taken.TheVariants.{Is, Not}
 use Rattle.dvi_back.specs.declared.tally.Tally.{Tally}
 use Rattle.dvi_back.specs.declared.tally.Tally.TheVariants.{Nothing}
 
@@ -103,11 +102,11 @@ tallied_start w first = record { counted = refl; wrote = put_if_none w first 0; 
 place_made : (is : List Item) → place_in (tally_of (made is)) ≡ length (fields New is)
 place_made is = sym (length_fields New is)
 
-pub more_room : (room : ℕ) (b : Made) (g : Tally) (at : ℕ) (i : Taken) → g ≡ tally_of b → Fits room (with_one_item b at (taken_of i)) → place_in g + length (added_by g i) ≤ room
+pub more_room : (room : ℕ) (b : Made) (g : Tally) (at : ℕ) (i : P.Option Item) → g ≡ tally_of b → Fits room (with_one_item b at (taken_of i)) → place_in g + length (added_by g i) ≤ room
 unfolding with_one_item
 more_room room nothing g at i e f = subst (λ (k : Tally). place_in k + length (added_by k i) ≤ room) (sym e) (omega arith)
-more_room room (made is) g at Not e f = absurd f
-more_room room (made is) g at (Is j) e f = subst (λ (k : Tally). place_in k + length (added_by k (Is j)) ≤ room) (sym e) (go (ltb (length is) max_items) f)
+more_room room (made is) g at None e f = absurd f
+more_room room (made is) g at (Some j) e f = subst (λ (k : Tally). place_in k + length (added_by k (Some j)) ≤ room) (sym e) (go (ltb (length is) max_items) f)
   where
     go : (t : Bool) → Fits room (cond t (made (is ++ (j ∷ []))) (broken at)) → place_in (tally_of (made is)) + length (item_field New j) ≤ room
     go true f = omega (arith, f, length_more is j, place_made is)
@@ -120,24 +119,24 @@ end_room room (made is) g e f = subst (λ (k : Tally). place_in k + length (end_
 end_room room (broken place) g e f = absurd f
 
 -- what an item adds, where the pass writes: there the whole makes a galley
-write_more : (room : ℕ) (first out later : List ℕ) (b : Made) (g : Tally) (at : ℕ) (i : Taken) → g ≡ tally_of b → out ≡ sets first 0 (fields_of b) → later ≡ sets out (place_in g) (added_by g i)
+write_more : (room : ℕ) (first out later : List ℕ) (b : Made) (g : Tally) (at : ℕ) (i : P.Option Item) → g ≡ tally_of b → out ≡ sets first 0 (fields_of b) → later ≡ sets out (place_in g) (added_by g i)
     → Fits room (with_one_item b at (taken_of i)) → later ≡ sets first 0 (fields_of (with_one_item b at (taken_of i)))
 unfolding with_one_item fields
-write_more room first out later nothing g at Not e o l f = absurd f
-write_more room first out later nothing g at (Is (Placed c)) e o l f = absurd f
-write_more room first out later nothing g at (Is Cut) e o l f = l ∙ ap (λ (k : Tally). sets out (place_in k) (added_by k (Is Cut))) e ∙ o
-write_more room first out later (made is) g at Not e o l f = absurd f
-write_more room first out later (made is) g at (Is j) e o l f = go (ltb (length is) max_items) f
+write_more room first out later nothing g at None e o l f = absurd f
+write_more room first out later nothing g at (Some (Placed c)) e o l f = absurd f
+write_more room first out later nothing g at (Some Cut) e o l f = l ∙ ap (λ (k : Tally). sets out (place_in k) (added_by k (Some Cut))) e ∙ o
+write_more room first out later (made is) g at None e o l f = absurd f
+write_more room first out later (made is) g at (Some j) e o l f = go (ltb (length is) max_items) f
   where
     go : (t : Bool) → Fits room (cond t (made (is ++ (j ∷ []))) (broken at)) → later ≡ sets first 0 (fields_of (cond t (made (is ++ (j ∷ []))) (broken at)))
     go true f =
-        put_if_append true first 0 (fields New is) (item_field New j) o (omega (arith, place_made is)) (l ∙ ap (λ (k : Tally). sets out (place_in k) (added_by k (Is j))) e)
+        put_if_append true first 0 (fields New is) (item_field New j) o (omega (arith, place_made is)) (l ∙ ap (λ (k : Tally). sets out (place_in k) (added_by k (Some j))) e)
         ∙ ap (sets first 0) (ap (λ (r : List ℕ). fields New is ++ r) (sym (fields_one New j)) ∙ sym (fields_append New is (j ∷ [])))
     go false f = absurd f
 write_more room first out later (broken place) g at i e o l f = absurd f
 
 module _ {w : Bool} {first out : List ℕ} {b : Made} {g : Tally} (p : Tallied w first out b g) where
-  pub tallied_more : (room at : ℕ) (i : Taken) {later : List ℕ} {h : Tally} → later ≡ put_if w out (place_in g) (added_by g i) → length later ≡ length out → (w ≡ true → Fits room (with_one_item b at (taken_of i)))
+  pub tallied_more : (room at : ℕ) (i : P.Option Item) {later : List ℕ} {h : Tally} → later ≡ put_if w out (place_in g) (added_by g i) → length later ≡ length out → (w ≡ true → Fits room (with_one_item b at (taken_of i)))
       → h ≡ tally_of (with_one_item b at (taken_of i)) → Tallied w first later (with_one_item b at (taken_of i)) h
   tallied_more room at i {later} l n f h = record { counted = h; wrote = go w p.wrote l f; same = n ∙ p.same }
     where
@@ -165,7 +164,7 @@ unfolding placed_at
 tallied_still {w} {first} {out} {g} ps at p = subst (λ (qs : List PlacedMark). Tallied w first out (makes nothing qs) g) (sym (append-nil ps)) p
 
 -- one that shows a mark, and the item that it is
-pub marked : (ps : List PlacedMark) (at : ℕ) (m : Mark) (g : Tally) (i : Taken) → g ≡ tally_of (makes nothing ps) → taken_of i ≡ item_shown (pages_in g) m
+pub marked : (ps : List PlacedMark) (at : ℕ) (m : Mark) (g : Tally) (i : P.Option Item) → g ≡ tally_of (makes nothing ps) → taken_of i ≡ item_shown (pages_in g) m
     → makes nothing (ps ++ placed_at at (m ∷ [])) ≡ with_one_item (makes nothing ps) at (taken_of i)
 unfolding placed_at makes with_mark
 marked ps at m g i e f =
@@ -175,10 +174,10 @@ marked ps at m g i e f =
     ∙ ap (with_one_item b at) (sym f)
 
 -- the end: what is found, and End in the buffer
-finish_found : (b : Made) → tally_reading (tally_of b) ≡ reading_of (made_result b)
+finish_found : (b : Made) → outcome_of (tally_reading (tally_of b)) ≡ outcome (made_result b)
 unfolding made_result
 finish_found nothing = refl
-finish_found (made is) = ap Needs (ap (λ (n : ℕ). n + 7) (place_made is) ∙ sym (length_galley New is))
+finish_found (made is) = ap accepted (ap (λ (n : ℕ). n + 7) (place_made is) ∙ sym (length_galley New is))
 finish_found (broken place) = refl
 
 finish_wrote : (w : Bool) (first out later : List ℕ) (b : Made) → out ≡ put_if w first 0 (fields_of b) → later ≡ put_if w out (place_in (tally_of b)) (end_of (tally_of b))
@@ -188,11 +187,11 @@ finish_wrote w first out later nothing o l = l ∙ sym (put_if_none w out 0) ∙
 finish_wrote w first out later (made is) o l = put_if_append w first 0 (fields New is) (end_field (length (characters_of is))) o (omega (arith, place_made is)) l
 finish_wrote w first out later (broken place) o l = l ∙ sym (put_if_none w out 0) ∙ o
 
-pub passed_finished : {w : Bool} {first out later : List ℕ} {b : Made} {g : Tally} {r : Reading} {x : Result} → Tallied w first out b g → x ≡ made_result b → r ≡ tally_reading g → later ≡ put_if w out (place_in g) (end_of g)
+pub passed_finished : {w : Bool} {first out later : List ℕ} {b : Made} {g : Tally} {r : ResultOf ℕ Refusal} {x : Result} → Tallied w first out b g → x ≡ made_result b → r ≡ tally_reading g → later ≡ put_if w out (place_in g) (end_of g)
     → Passed x w first r later
 passed_finished {w} {first} {out} {later} {b} {g} {r} {x} p e f l =
     record {
-      found = f ∙ ap tally_reading p.counted ∙ finish_found b ∙ ap reading_of (sym e);
+      found = ap outcome_of (f ∙ ap tally_reading p.counted) ∙ finish_found b ∙ ap outcome (sym e);
       buffer =
           finish_wrote w first out later b p.wrote (l ∙ ap (λ (k : Tally). put_if w out (place_in k) (end_of k)) p.counted)
           ∙ ap (λ (y : Result). put_if w first 0 (bytes_of y)) (sym e);

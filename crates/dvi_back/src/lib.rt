@@ -14,13 +14,13 @@ use dvi_galley::item;
 use dvi_page::stack;
 use dvi_step::{State, Stepped};
 use measure::target_table;
-use octets::answer::Answer;
-use octets::pass::Reading;
-use octets::{answer, pass};
+use octets::pass;
+use octets::pass::TwoPass;
+use octets::refusal::{Answer, Reason};
 use tally::Tally;
 
 // One pass over a file within the limit. It writes the galley, if writing.
-fn pass(dvi: &[u8], widths: &[i32], out: &mut [u8], writing: bool) -> Reading
+fn pass(dvi: &[u8], widths: &[i32], out: &mut [u8], writing: bool) -> Answer
     requires dvi_len_bound { length dvi.now ≤ max_file }
     requires roomy { writing ≡ true → Roomy (shown_galley (read_placed widths.now dvi.now)) (length out.old) }
     ensures { Passed (shown_galley (read_placed widths.now dvi.now)) writing out.old result out.new }
@@ -30,44 +30,51 @@ fn pass(dvi: &[u8], widths: &[i32], out: &mut [u8], writing: bool) -> Reading
     let mut q = State::Between(-1);
     let mut at: usize = 0;
     let mut g = Tally::Nothing;
+    // A turn takes as many bytes as its command has, which no iterator over bytes does.
     while at < dvi.len() {
-        let r = dvi_step::step(dvi, widths, &mut stack, at, q);
-        match r {
-            Stepped::Refuse(k) => {
-                return Reading::Fault(k, at);
+        match dvi_step::step(dvi, widths, &mut stack, at, q) {
+            Stepped::Refuse(reason) => {
+                return Err(reason.at(at));
             }
             Stepped::Go(t, n) => {
                 q = t;
                 at = at + 1 + n;
             }
             Stepped::Show(t, m, n) => {
-                let i = item::item_of(&targets, tally::next_page(g), m);
-                tally::show_item(out, g, i, writing);
-                g = tally::with_item(g, at, i);
+                let i = item::item_of(&targets, g.next_page(), m);
+                g.show_item(out, i, writing);
+                g = g.with_item(at, i);
                 q = t;
                 at = at + 1 + n;
             }
             Stepped::Finish => {
-                return tally::finish(out, g, writing);
+                return g.finish(out, writing);
             }
         }
     }
-    Reading::Fault(answer::DVI_ENDS_EARLY, at)
+    Err(Reason::DviEndsEarly.at(at))
+}
+
+// What a call is lent to read, a file within the limit.
+#[derive(Clone, Copy)]
+struct Input<'a> {
+    dvi: &'a [u8],
+    widths: &'a [i32],
+    ghost within: { length dvi.now ≤ max_file },
+}
+
+impl TwoPass for Input<'_> {
+    ghost made = { λ input. shown_galley (read_placed input.widths.now input.dvi.now) };
+
+    fn pass(&self, out: &mut [u8], writing: bool) -> Answer {
+        pass(self.dvi, self.widths, out, writing)
+    }
 }
 
 // Makes the galley whose targets a DVI file shows.
 pub fn dvi_to_galley(dvi: &[u8], widths: &[i32], galley: &mut [u8]) -> Answer
     ensures { Gives (outcome_of result) (back_result dvi.now widths.now) galley.old galley.new }
 {
-    let number = sheet::call_refusal(dvi.len(), widths.len() % sheet::FONT_CHARS == 0);
-    if number != 0 {
-        return Answer::Refused(number, 0);
-    }
-    let found = pass(dvi, widths, galley, false);
-    let given = pass::answered(found, galley.len(), answer::NO_GALLEY_ROOM);
-    let Answer::Accepted(_) = given else {
-        return given;
-    };
-    pass(dvi, widths, galley, true);
-    given
+    sheet::call_refusal(dvi.len(), widths.len() % sheet::FONT_CHARS == 0)?;
+    pass::in_two_passes(&Input { dvi, widths }, galley, Reason::NoGalleyRoom)
 }

@@ -11,7 +11,8 @@ use lib.IntN.{ℤ}
 use lib.ListN.{length, get_or, drop, length-append, length-drop}
 use lib.Seq.{drop-drop, get_or-drop}
 use Rattle.octets.specs.Write.{put_if, put_if_none, Put, put_named, put_none, put_then}
-use Rattle.octets.specs.Answer.{dvi_ends_early}
+use Rattle.octets.specs.Answer.{number_in, dvi_ends_early}
+use Rattle.octets.specs.declared.refusal.Reason.{Reason}
 use Rattle.sheet.specs.Sheet.{Mark, mark_fields}
 use Rattle.sheet.specs.SheetLaws.{fields_most, mark_fields_append}
 use Rattle.dvi.specs.Command.{POP}
@@ -42,7 +43,7 @@ refused_put {w} {before} {to} {later} {xs} h g e = record { buffer = go w h g; p
 
 module _ {w : Bool} {before : List ℕ} {to count : ℕ} {later : List ℕ} where
   module _ {x : B.Item} where
-    pub item_bad : {k i : ℕ} → x ≡ bad_item k i → (w ≡ true → GoodItem x) → (w ≡ false → later ≡ before) → ItemDone x w before to count (I.Fault k i) later
+    pub item_bad : {k : Reason} {i : ℕ} → x ≡ bad_item (number_in k) i → (w ≡ true → GoodItem x) → (w ≡ false → later ≡ before) → ItemDone x w before to count (I.Fault k i) later
     unfolding mark_fields
     item_bad {k} {i} e h g =
         subst (λ (y : B.Item). ItemDone y w before to count (I.Fault k i) later) (sym e)
@@ -59,7 +60,7 @@ module _ {w : Bool} {before : List ℕ} {to count : ℕ} {later : List ℕ} wher
         (record { found = refl; put = subst (λ (l : List ℕ). Put w before to [] l to) (sym g) (put_none w before to); counted = omega arith })
 
   module _ {x : B.Run} where
-    pub run_refused : {k i : ℕ} → x ≡ bad_run k i → (w ≡ true → GoodRun x) → (w ≡ false → later ≡ before) → RunDone x w before to count (R.Fault k i) later
+    pub run_refused : {k : Reason} {i : ℕ} → x ≡ bad_run (number_in k) i → (w ≡ true → GoodRun x) → (w ≡ false → later ≡ before) → RunDone x w before to count (R.Fault k i) later
     unfolding mark_fields
     run_refused {k} {i} e h g =
         subst (λ (y : B.Run). RunDone y w before to count (R.Fault k i) later) (sym e)

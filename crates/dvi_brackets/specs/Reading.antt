@@ -8,7 +8,8 @@
 --     ItemDone, RunDone                        it is read, and its fields are written, if writing
 --     LeavesAt, LeftBy                         a group is left
 use Rattle.std.specs.Prelude.{◌≡◌, Bool, List, [], ℕ, ◌+◌, ◌*◌, ◌≤◌, ◌<◌, length}
-use Rattle.octets.specs.Answer.{entries_left}
+use Rattle.octets.specs.Answer.{number_in}
+use Rattle.octets.specs.declared.refusal.Reason.TheVariants.{EntriesLeft}
 use Rattle.dvi.specs.Page as S
 use Rattle.sheet.specs.Sheet.{Mark, mark_fields}
 use Rattle.sheet.specs.Readable.{max_file}
@@ -43,7 +44,7 @@ GoodItem page_end = Unit {0}
 
 -- the code's item, with the marks that it shows
 abbrev pub bracket_item : Item → List Mark → B.Item
-bracket_item (I.Fault k i) ms = bad_item k i
+bracket_item (I.Fault k i) ms = bad_item (number_in k) i
 bracket_item (I.Past p n to count) ms = past_item (page_of p []) ms n
 bracket_item I.End ms = page_end
 
@@ -81,7 +82,7 @@ GoodRun (to_pop q ms n) = Unit {0}
 GoodRun (to_eop ms n) = Unit {0}
 
 abbrev pub bracket_run : Run → List Mark → B.Run
-bracket_run (R.Fault k i) ms = bad_run k i
+bracket_run (R.Fault k i) ms = bad_run (number_in k) i
 bracket_run (R.Pop p n to count) ms = to_pop (page_of p []) ms n
 bracket_run (R.Eop n to count) ms = to_eop ms n
 
@@ -116,4 +117,4 @@ LeavesAt at (R.Eop n t c) = at + 1 + n < max_file
 abbrev pub LeftBy : ℕ → Page → Run → Item → Type 0
 LeftBy at p (R.Fault k i) r = r ≡ I.Fault k i
 LeftBy at p (R.Pop q n t c) r = (o : Page) × ((page_of o [] ≡ S.with_numbers (page_of q []) (six_numbers p.numbers)) × (r ≡ I.Past o (n + 1) t c))
-LeftBy at p (R.Eop n t c) r = r ≡ I.Fault entries_left (at + 1 + n)
+LeftBy at p (R.Eop n t c) r = r ≡ I.Fault EntriesLeft (at + 1 + n)

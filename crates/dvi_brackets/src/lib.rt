@@ -10,15 +10,14 @@ ghost use Rattle.dvi_brackets.specs.Brackets.{effect_item, command_item, run, it
 ghost use Rattle.dvi_brackets.specs.Reading.{InFile, RoomyItem, ItemDone, RoomyRun, RunDone, LeavesAt, LeftBy};
 
 use dvi::{mark, opcode};
-use dvi_command::Decoded;
-use dvi_page::page;
 use dvi_page::page::{Effect, Page};
-use octets::answer;
+use octets::refusal::Reason;
 
 // A refusal at a place; the page after the item, the number of its bytes after the first, the place in the sheet and the marks so far; or EOP.
+// A Result with the other cases was tried, here and in `Run`: reading a file then takes a third more instructions.
 #[derive(Clone, Copy)]
 pub enum Item {
-    Fault(u8, usize),
+    Fault(Reason, usize),
     Past(Page, usize, usize, u32),
     End,
 }
@@ -27,7 +26,7 @@ pub enum Item {
 // and the marks so far.
 #[derive(Clone, Copy)]
 pub enum Run {
-    Fault(u8, usize),
+    Fault(Reason, usize),
     Pop(Page, usize, usize, u32),
     Eop(usize, usize, u32),
 }
@@ -47,7 +46,7 @@ fn effect_item(
     ensures { ItemDone (effect_item at n (effect_of e [])) writing out.old to count result out.new }
 {
     match e {
-        Effect::Fault(k) => Item::Fault(k, at),
+        Effect::Fault(reason) => Item::Fault(reason, at),
         Effect::Moved(q) => Item::Past(q, n, to, count),
         Effect::Marked(q, m) => {
             let next = mark::show_mark(out, to, m, writing);
@@ -73,14 +72,11 @@ fn command_item(
     requires roomy_item { writing ≡ true → RoomyItem (command_item widths.now at (page_of p []) (decodeOf (get_or s.now 0 0) (drop 1 s.now))) to (length out.old) }
     ensures { ItemDone (command_item widths.now at (page_of p []) (decodeOf (get_or s.now 0 0) (drop 1 s.now))) writing out.old to count result out.new }
 {
-    let op = s[0];
-    let d = dvi_command::decode(s, 1, op);
-    match d {
-        Decoded::NoCommand => Item::Fault(answer::BAD_COMMAND, at),
-        Decoded::CutShort => Item::Fault(answer::DVI_ENDS_EARLY, at),
-        Decoded::Whole(c, n) => {
-            let e = dvi_effect::plain_effect(widths, p, c);
-            effect_item(out, at, n, e, to, count, writing)
+    match dvi_command::decode(s, 1, s[0]) {
+        Err(reason) => Item::Fault(reason, at),
+        Ok(d) => {
+            let e = dvi_effect::plain_effect(widths, p, d.command);
+            effect_item(out, at, d.length, e, to, count, writing)
         }
     }
 }
@@ -91,12 +87,12 @@ fn leave(at: usize, p: Page, r: Run) -> Item
     ensures { LeftBy at p r result }
 {
     match r {
-        Run::Fault(k, i) => Item::Fault(k, i),
+        Run::Fault(reason, place) => Item::Fault(reason, place),
         Run::Pop(q, n, to, count) => {
             let kept = p.numbers;
-            Item::Past(page::with_numbers(q, kept), n + 1, to, count)
+            Item::Past(q.with_numbers(kept), n + 1, to, count)
         }
-        Run::Eop(n, to, count) => Item::Fault(answer::ENTRIES_LEFT, at + 1 + n),
+        Run::Eop(n, _, _) => Item::Fault(Reason::EntriesLeft, at + 1 + n),
     }
 }
 
@@ -121,7 +117,7 @@ fn read_item(
         return command_item(s, widths, out, at, p, to, count, writing);
     }
     if depth == 0 {
-        return Item::Fault(answer::STACK_FULL, at);
+        return Item::Fault(Reason::StackFull, at);
     }
     let inner = &s[1..];
     let r = read_run(inner, widths, out, at + 1, depth - 1, p, to, count, writing);
@@ -149,15 +145,15 @@ pub fn read_run(
     let mut i: usize = 0;
     let mut t = to;
     let mut c = count;
+    // A turn takes as many bytes as its item has, which no iterator over bytes does.
     while i < s.len() {
         if s[i] == opcode::POP {
             return Run::Pop(q, i, t, c);
         }
         let rest = &s[i..];
-        let r = read_item(rest, widths, out, at + i, depth, q, t, c, writing);
-        match r {
-            Item::Fault(k, j) => {
-                return Run::Fault(k, j);
+        match read_item(rest, widths, out, at + i, depth, q, t, c, writing) {
+            Item::Fault(reason, place) => {
+                return Run::Fault(reason, place);
             }
             Item::Past(next, n, u, d) => {
                 q = next;
@@ -170,5 +166,5 @@ pub fn read_run(
             }
         }
     }
-    Run::Fault(answer::DVI_ENDS_EARLY, at + i)
+    Run::Fault(Reason::DviEndsEarly, at + i)
 }

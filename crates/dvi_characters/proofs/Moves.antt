@@ -38,10 +38,9 @@ module _ (m : ℤ) (f : SFits w32 m) (op : ℕ) where
     length_some = length_move op m ∙ rw not_zero
 
     -- the command, and the number in as many bytes as its width
-    pub move_some : (w k : ℕ) → w ≡ width_of m → k ≡ w → ((op + (4 - w)) ∷ []) ++ signed_bytes k (to_z w32 (of_z w32 m)) ≡ move op m
+    pub move_some : (w : ℕ) → w ≡ width_of m → ((op + (4 - w)) ∷ []) ++ signed_bytes w (to_z w32 (of_z w32 m)) ≡ move op m
     unfolding move shortest
-    move_some w k d e =
-        rw not_zero (λ i. (op + (4 - d i)) ∷ signed_bytes ((e ∙ d) i) (plain f i))
+    move_some w d = rw not_zero (λ i. (op + (4 - d i)) ∷ signed_bytes (d i) (plain f i))
 
 -- ---- the commands of a character
 

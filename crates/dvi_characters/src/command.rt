@@ -37,31 +37,21 @@ fn put_move(out: &mut [u8], at: usize, op: u8, m: Rsu) -> usize
     }
     let width = number::signed_width(z);
     let to = number::put_byte(out, at, op + (4 - width) as u8);
-    if width == 2 {
-        number::put_signed2(out, to, z)
-    } else if width == 3 {
-        number::put_signed3(out, to, z)
-    } else {
-        number::put_signed4(out, to, z)
-    }
+    number::put_signed(out, to, width, z)
 }
 
-// Writes the commands that set c after the position `last`; `next` is the position at c.
-pub fn put_commands(
-    out: &mut [u8],
-    at: usize,
-    last: Position,
-    next: Position,
-    c: Character,
-) -> usize
-    requires { (at + length (commands_of (position_of last) c) ≤ length out.old) × (OnPage (position_of last) × PositionAt next c) }
-    ensures { Wrote out.old at (commands_of (position_of last) c) out.new result }
-{
-    let x = next.x.less(last.x);
-    let y = next.y.less(last.y);
-    let mut to = put_font(out, at, last.font, c.font);
-    to = put_move(out, to, opcode::X4, x);
-    to = put_move(out, to, opcode::Y4, y);
-    to = number::put_byte(out, to, opcode::HORZCHAR);
-    number::put_byte(out, to, c.code)
+impl Position {
+    // Writes the commands that set c after this position; `next` is the position at c.
+    pub fn put_commands(self, out: &mut [u8], at: usize, next: Position, c: Character) -> usize
+        requires { (at + length (commands_of (position_of self) c) ≤ length out.old) × (OnPage (position_of self) × PositionAt next c) }
+        ensures { Wrote out.old at (commands_of (position_of self) c) out.new result }
+    {
+        let x = next.x.less(self.x);
+        let y = next.y.less(self.y);
+        let mut to = put_font(out, at, self.font, c.font);
+        to = put_move(out, to, opcode::X4, x);
+        to = put_move(out, to, opcode::Y4, y);
+        to = number::put_byte(out, to, opcode::HORZCHAR);
+        number::put_byte(out, to, c.code)
+    }
 }

@@ -39,12 +39,14 @@ fn move_length(m: Rsu) -> usize
     }
 }
 
-// The bytes of the commands that set c after the position `last`; `next` is the position at c.
-pub fn commands_length(last: Position, next: Position, c: Character) -> usize
-    requires { OnPage (position_of last) × PositionAt next c }
-    ensures { (result ≡ length (commands_of (position_of last) c)) × (result ≤ 17) }
-{
-    let x = next.x.less(last.x);
-    let y = next.y.less(last.y);
-    font_length(last.font, c.font) + move_length(x) + move_length(y) + HORZCHAR_LENGTH
+impl Position {
+    // The bytes of the commands that set c after this position; `next` is the position at c.
+    pub fn commands_length(self, next: Position, c: Character) -> usize
+        requires { OnPage (position_of self) × PositionAt next c }
+        ensures { (result ≡ length (commands_of (position_of self) c)) × (result ≤ 17) }
+    {
+        let x = next.x.less(self.x);
+        let y = next.y.less(self.y);
+        font_length(self.font, c.font) + move_length(x) + move_length(y) + HORZCHAR_LENGTH
+    }
 }

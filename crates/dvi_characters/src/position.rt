@@ -13,6 +13,7 @@ use galley_file::item::Item;
 use measure::Rsu;
 use measure::target_table::TargetTable;
 
+// The second edition has its own, in units and quanta (dvi2_commands): a generic one would share the font alone, as the formats' moves and fonts differ in width and opcode.
 #[derive(Clone, Copy)]
 pub struct Position {
     // The font number, or NO_FONT.
@@ -21,40 +22,40 @@ pub struct Position {
     pub y: Rsu,
 }
 
-// The position at the start of a page.
-pub fn start_position() -> Position
-    ensures { PositionIs result start_position }
-{
-    Position {
-        font: font_byte::NO_FONT,
-        x: Rsu(0),
-        y: Rsu(0),
+impl Position {
+    // At the start of a page.
+    pub fn start() -> Self
+        ensures { PositionIs result start_position }
+    {
+        Position {
+            font: font_byte::NO_FONT,
+            x: Rsu(0),
+            y: Rsu(0),
+        }
     }
-}
 
-// The position after c: its font and its targets.
-fn position_at(c: Character, targets: &TargetTable) -> Position
-    requires c_value { valid low_end c ≡ true }
-    requires targets_value { targets.now ≡ x_targets }
-    ensures { PositionAt result c }
-{
-    let x = c.x.target(targets);
-    let y = c.height.target();
-    Position {
-        font: c.font,
-        x: x,
-        y: y,
+    // After c: its font and its targets.
+    fn at_character(c: Character, targets: &TargetTable) -> Self
+        requires c_value { valid low_end c ≡ true }
+        requires targets_value { targets.now ≡ x_targets }
+        ensures { PositionAt result c }
+    {
+        Position {
+            font: c.font,
+            x: c.x.target(targets),
+            y: c.height.target(),
+        }
     }
-}
 
-// The position after an item: a cut starts a page.
-pub fn position_after(i: Item, targets: &TargetTable) -> Position
-    requires i_value { valid_item low_end i ≡ true }
-    requires targets_value { targets.now ≡ x_targets }
-    ensures { PositionIs result (position_after i) }
-{
-    match i {
-        Item::Placed(c) => position_at(c, targets),
-        Item::Cut => start_position(),
+    // After an item: a cut starts a page.
+    pub fn after(i: Item, targets: &TargetTable) -> Self
+        requires i_value { valid_item low_end i ≡ true }
+        requires targets_value { targets.now ≡ x_targets }
+        ensures { PositionIs result (position_after i) }
+    {
+        match i {
+            Item::Placed(c) => Position::at_character(c, targets),
+            Item::Cut => Position::start(),
+        }
     }
 }

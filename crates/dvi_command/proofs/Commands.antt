@@ -3,7 +3,7 @@
 use mathlib.Core.Path.{◌≡◌, refl, sym, ap, ◌∙◌, subst}
 use mathlib.Core.Bool.{Bool, true, false, cond}
 use mathlib.Core.List.{List}
-use Prim.Native.Nat.{ℕ, zero, suc, ◌+◌, ◌*◌, ◌-◌, ◌≤◌, ◌<◌}
+use Prim.Native.Nat.{ℕ, zero, suc, ◌+◌, ◌-◌, ◌≤◌, ◌<◌}
 use native.Mathlib.Decide.{ℕ_discrete}
 use native.Mathlib.Nat.{suc-ne-zero}
 use native.Mathlib.Omega.{arith}
@@ -11,10 +11,12 @@ use borrow.Author.Tests.{lt-ltb, le-ltb, le-leb, lt-leb}
 use lib.Dec.{leb}
 use lib.IntN.{ℤ, pos}
 use lib.ListN.{length, take}
+use Rattle.std.specs.Prelude.{Option, Some, None}
 use Rattle.octets.specs.Octets.{signed, signed_at}
 use Rattle.dvi.specs.Command.{FONTNUM, Command, set_char, vert_rule, horz_rule, horz_char, set_font, Layout, bare, takes, layouts, layout_of, no_command, cut_short, command, with_parameters, decode}
 use Rattle.dvi_command.specs.Command.{parameter_if, parameter_of, still_of, moving_of}
-use Rattle.dvi_command.specs.declared.Parameter.TheVariants.{Value, Short}
+use Rattle.dvi_command.specs.declared.Amount.{Amount}
+use Rattle.dvi_command.specs.declared.Amount.TheVariants.{W, X, Y, Z}
 
 -- what holds at each of n numbers from k on, written out
 abbrev Each : (ℕ → Type 0) → ℕ → ℕ → Type 0
@@ -38,53 +40,60 @@ pub arm : (op k : ℕ) (ps : List ℕ) (f : Layout) → op ≡ k → layout_of k
 unfolding decode
 arm op k ps f o e = ap (λ (g : Layout). with_parameters g ps) (sym e) ∙ ap (λ (n : ℕ). decode n ps) (sym o)
 
--- 138 to 153: for each of the four amounts a move with four bytes, three, two and none
-pub record Moves (amount : ℕ) : Type 0 where
-  pub four : layout_of (138 + 4 * amount) ≡ takes 4 (moving_of amount)
-  pub three : layout_of (139 + 4 * amount) ≡ takes 3 (moving_of amount)
-  pub two : layout_of (140 + 4 * amount) ≡ takes 2 (moving_of amount)
-  pub none : layout_of (141 + 4 * amount) ≡ bare (still_of amount)
+-- the four commands from k on move by one amount: with four bytes, three, two and none
+pub record Moves (k : ℕ) (amount : Amount) : Type 0 where
+  pub four : layout_of k ≡ takes 4 (moving_of amount)
+  pub three : layout_of (k + 1) ≡ takes 3 (moving_of amount)
+  pub two : layout_of (k + 2) ≡ takes 2 (moving_of amount)
+  pub none : layout_of (k + 3) ≡ bare (still_of amount)
 
-pub moves : Each Moves 0 4
-unfolding layout_of layouts moving_of still_of
-moves = (
-  record { four = refl; three = refl; two = refl; none = refl },
-  (
-    record { four = refl; three = refl; two = refl; none = refl },
-    (
-      record { four = refl; three = refl; two = refl; none = refl },
-      (record { four = refl; three = refl; two = refl; none = refl }, tt),
-    ),
-  ),
-)
+pub moves_w : Moves 138 W
+unfolding layout_of layouts
+moves_w = record { four = refl; three = refl; two = refl; none = refl }
 
-pub arm_none : (op k amount : ℕ) (ps : List ℕ) {c : Command} → op ≡ k → layout_of k ≡ bare (still_of amount) → c ≡ still_of amount → command c 0 ≡ decode op ps
+pub moves_x : Moves 142 X
+unfolding layout_of layouts
+moves_x = record { four = refl; three = refl; two = refl; none = refl }
+
+pub moves_y : Moves 146 Y
+unfolding layout_of layouts
+moves_y = record { four = refl; three = refl; two = refl; none = refl }
+
+pub moves_z : Moves 150 Z
+unfolding layout_of layouts
+moves_z = record { four = refl; three = refl; two = refl; none = refl }
+
+pub arm_none : (op k : ℕ) (amount : Amount) (ps : List ℕ) {c : Command} → op ≡ k → layout_of k ≡ bare (still_of amount) → c ≡ still_of amount → command c 0 ≡ decode op ps
 unfolding with_parameters
 arm_none op k amount ps o e q = ap (λ (c : Command). command c 0) q ∙ arm op k ps (bare (still_of amount)) o e
 
+pub none_of : (r : Option ℤ) → ((m : ℤ) → r ≡ Some m → ⊥) → r ≡ None
+none_of (Some m) f = absurd (f m refl)
+none_of None f = refl
+
 -- a parameter that is there, and one that is not
 module _ (n : ℕ) (f : ℤ → Command) where
-  there : (b : Bool) (v m : ℤ) → parameter_if b v ≡ Value m → cond b (command (f v) n) cut_short ≡ command (f m) n
+  there : (b : Bool) (v m : ℤ) → parameter_if b v ≡ Some m → cond b (command (f v) n) cut_short ≡ command (f m) n
   there true v m e = let d : v ≡ m = cc in ap (λ (u : ℤ). command (f u) n) d
   there false v m e = absurd (suc-ne-zero 0 cc)
 
-  missing : (b : Bool) (v : ℤ) → parameter_if b v ≡ Short → cond b (command (f v) n) cut_short ≡ cut_short
+  missing : (b : Bool) (v : ℤ) → parameter_if b v ≡ None → cond b (command (f v) n) cut_short ≡ cut_short
   missing true v e = absurd (suc-ne-zero 0 cc)
   missing false v e = refl
 
-  pub with_value : (ps : List ℕ) (m : ℤ) → parameter_of n ps ≡ Value m → with_parameters (takes n f) ps ≡ command (f m) n
+  pub with_value : (ps : List ℕ) (m : ℤ) → parameter_of n ps ≡ Some m → with_parameters (takes n f) ps ≡ command (f m) n
   unfolding with_parameters parameter_of
   with_value ps m e = there (leb n (length ps)) (signed (take n ps)) m e
 
-  pub with_none : (ps : List ℕ) → parameter_of n ps ≡ Short → with_parameters (takes n f) ps ≡ cut_short
+  pub with_none : (ps : List ℕ) → parameter_of n ps ≡ None → with_parameters (takes n f) ps ≡ cut_short
   unfolding with_parameters parameter_of
   with_none ps e = missing (leb n (length ps)) (signed (take n ps)) e
 
-pub parameter_value : (n k : ℕ) (ps : List ℕ) (m : ℤ) → n ≡ k → k ≤ length ps → m ≡ signed (take k ps) → Value m ≡ parameter_of n ps
+pub parameter_value : (n : ℕ) (ps : List ℕ) (m : ℤ) → n ≤ length ps → m ≡ signed (take n ps) → Some m ≡ parameter_of n ps
 unfolding parameter_of
-parameter_value n k ps m e h d = rw (e, le-leb k (length ps) h) (ap Value d)
+parameter_value n ps m h d = rw (le-leb n (length ps) h) (ap Some d)
 
-pub parameter_short : (n : ℕ) (ps : List ℕ) → length ps < n → Short ≡ parameter_of n ps
+pub parameter_short : (n : ℕ) (ps : List ℕ) → length ps < n → None ≡ parameter_of n ps
 unfolding parameter_of
 parameter_short n ps h = rw (lt-leb n (length ps) h)
 
@@ -131,25 +140,6 @@ pub decode_undefined : (op : ℕ) (ps : List ℕ) → 218 ≤ op → no_command 
 unfolding decode layout_of with_parameters
 decode_undefined op ps h = rw (le-ltb op 128 (omega arith), le-ltb op FONTNUM (omega arith), le-ltb op 218 h)
 
-pub is_four : (n : ℕ) → 0 < n → n < 5 → (n ≡ 1 → ⊥) → (n ≡ 2 → ⊥) → (n ≡ 3 → ⊥) → n ≡ 4
-is_four n h g a b c = omega arith
-
 -- of two numbers from k on, the one that is not the first
 pub second_of : (k n : ℕ) → k ≤ n → n < k + 2 → (n ≡ k → ⊥) → n ≡ k + 1
 second_of k n h g a = omega arith
-
-pub has_room : {n k m l : ℕ} → n ≤ m → n ≡ k → l ≡ m → k ≤ l
-has_room h e d = omega arith
-
--- n is none of the numbers from k on: so many of them, the last one outermost
-abbrev NoneOf : ℕ → ℕ → ℕ → Type 0
-NoneOf n k zero = Unit {0}
-NoneOf n k (suc m) = NoneOf n k m × (n ≡ k + m → ⊥)
-
-none_of : (n k m : ℕ) → NoneOf n k m → k ≤ n → k + m ≤ n
-none_of n k zero e h = omega arith
-none_of n k (suc m) e h = let g = none_of n k m e.0 h in omega (arith, e.1)
-
--- HORZCHAR to Z0 left out
-pub past_moves : (op : ℕ) → NoneOf op 136 18 → 136 ≤ op → FONTNUM ≤ op
-past_moves op = none_of op 136 18

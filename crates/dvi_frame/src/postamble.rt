@@ -29,26 +29,29 @@ pub struct Sizes {
     pub y: Rsu,
 }
 
-// The targets of the farthest x and the greatest height.
-fn sizes_of(e: Extents) -> Sizes
-    requires { HeldExtents e }
-    ensures { (result.x.0 ≡ x_target e.x.0) × (result.y.0 ≡ y_target e.height.0) }
-{
-    let targets = target_table::targets();
-    let x = e.x.target(&targets);
-    let y = e.height.target();
-    Sizes { x: x, y: y }
+impl Sizes {
+    // The targets of the farthest x and the greatest height.
+    fn of(e: Extents) -> Self
+        requires { HeldExtents e }
+        ensures { (result.x.0 ≡ x_target e.x.0) × (result.y.0 ≡ y_target e.height.0) }
+    {
+        let targets = target_table::targets();
+        Sizes {
+            x: e.x.target(&targets),
+            y: e.height.target(),
+        }
+    }
 }
 
 // Writes PST, the last BOP's offset, and the largest Y and X.
-fn put_head(out: &mut [u8], at: usize, last: u32, y: Rsu, x: Rsu) -> usize
+fn put_head(out: &mut [u8], at: usize, last: u32, sizes: Sizes) -> usize
     requires { at + 13 ≤ length out.old }
-    ensures { Wrote out.old at (head_bytes last y.0 x.0) out.new result }
+    ensures { Wrote out.old at (head_bytes last sizes.y.0 sizes.x.0) out.new result }
 {
     let mut to = number::put_byte(out, at, opcode::PST);
     to = number::put_nat4(out, to, last);
-    to = number::put_signed4(out, to, y.0);
-    number::put_signed4(out, to, x.0)
+    to = number::put_signed4(out, to, sizes.y.0);
+    number::put_signed4(out, to, sizes.x.0)
 }
 
 // Writes the definition of font f: ID and number, and the name in quotes.
@@ -81,10 +84,8 @@ fn put_definitions(out: &mut [u8], at: usize, fonts: Fonts) -> usize
     ensures { Wrote out.old at (definition_bytes (marked_fonts 120 fonts.low fonts.high)) out.new result }
 {
     let mut to = at;
-    let mut f: u8 = 0;
-    while f < font::FONTS {
+    for f in 0..font::FONTS {
         to = put_marked(out, to, fonts, f);
-        f += 1;
     }
     to
 }
@@ -105,8 +106,8 @@ pub fn put_postamble(out: &mut [u8], at: usize, last: u32, e: Extents) -> usize
     requires { HeldExtents e × ((at + length (postamble_of last at e) ≤ length out.old) × (at < 4294967296)) }
     ensures { Wrote out.old at (postamble_of last at e) out.new result }
 {
-    let sizes = sizes_of(e);
-    let mut to = put_head(out, at, last, sizes.y, sizes.x);
+    let sizes = Sizes::of(e);
+    let mut to = put_head(out, at, last, sizes);
     to = put_definitions(out, to, e.fonts);
     put_trailer(out, to, at as u32)
 }

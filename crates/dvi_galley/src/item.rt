@@ -11,7 +11,6 @@ ghost use Rattle.dvi_galley.specs.Back.{placed_item, character_shown, item_shown
 ghost use Rattle.dvi_galley.specs.Taken.{taken_of};
 
 use crate::target;
-use crate::target::{Across, Down};
 use dvi::mark::Mark;
 use galley_file::character::Character;
 use galley_file::item::Item;
@@ -21,78 +20,56 @@ use measure::{Quanta, Rsu, Units};
 
 const FONTS: i32 = font::FONTS as i32;
 
-// The item that a mark shows, or none.
-#[derive(Clone, Copy)]
-pub enum Taken {
-    Is(Item),
-    Not,
-}
-
 // A character at x and of height h, if it is valid.
-fn valid_at(x: Units, h: Quanta, font: i32, ch: u8) -> Taken
+fn valid_at(x: Units, h: Quanta, font: i32, ch: u8) -> Option<Item>
     requires { within height_end h.0 ≡ true }
     ensures { taken_of result ≡ placed_item (character_shown (some x.0) (some h.0) font ch) }
 {
-    if font < 0 {
-        return Taken::Not;
-    }
-    if FONTS <= font {
-        return Taken::Not;
+    if font < 0 || FONTS <= font {
+        return None;
     }
     let c = Character {
-        x: x,
+        x,
         height: h,
         font: font as u8,
         code: ch,
     };
     if character::valid_but_height(c) {
-        return Taken::Is(Item::Placed(c));
+        Some(Item::Placed(c))
+    } else {
+        None
     }
-    Taken::Not
 }
 
 // A character whose targets are x and y.
-fn character_of(targets: &TargetTable, x: Rsu, y: Rsu, font: i32, ch: u8) -> Taken
+fn character_of(targets: &TargetTable, x: Rsu, y: Rsu, font: i32, ch: u8) -> Option<Item>
     requires { targets.now ≡ x_targets }
     ensures { taken_of result ≡ placed_item (character_shown (x_of_target x.0) (height_of_target y.0) font ch) }
 {
-    let a = target::x_of_target(targets, x);
-    match a {
-        Across::Nowhere => Taken::Not,
-        Across::At(u) => {
-            let d = target::height_of_target(y);
-            match d {
-                Down::Nowhere => Taken::Not,
-                Down::At(h) => valid_at(u, h, font, ch),
-            }
-        }
-    }
+    let u = target::x_of_target(targets, x)?;
+    let h = target::height_of_target(y)?;
+    valid_at(u, h, font, ch)
 }
 
 // The start of page n, where `next` is due.
-fn page_of(next: i64, n: i32) -> Taken
+fn page_of(next: i64, n: i32) -> Option<Item>
     ensures { taken_of result ≡ cond (eq_z n next) (some I.Cut) none }
 {
     if n as i64 == next {
-        return Taken::Is(Item::Cut);
+        Some(Item::Cut)
+    } else {
+        None
     }
-    Taken::Not
 }
 
 // The item that a mark shows, where page `next` is due.
-pub fn item_of(targets: &TargetTable, next: i64, m: Mark) -> Taken
+pub fn item_of(targets: &TargetTable, next: i64, m: Mark) -> Option<Item>
     requires { targets.now ≡ x_targets }
     ensures { (n : ℕ) → next ≡ pos (suc n) → taken_of result ≡ item_shown n (mark_of m) }
 {
     match m {
         Mark::Start(n) => page_of(next, n),
         Mark::Char { ch, x, y, font } => character_of(targets, x, y, font, ch),
-        Mark::Rule {
-            kind,
-            x,
-            y,
-            height,
-            width,
-        } => Taken::Not,
+        Mark::Rule { .. } => None,
     }
 }

@@ -21,52 +21,33 @@ const QUANTUM: u32 = measure::RSU_PER_QUANTUM as u32;
 const SHIFT: i32 = measure::RSU_PER_QUANTUM * measure::DOUBLE_SHIFT.0
     + measure::RSU_PER_QUANTUM / 2;
 
-// The x whose target this is.
-#[derive(Clone, Copy)]
-pub enum Across {
-    At(Units),
-    Nowhere,
-}
-
-// The height whose target this is.
-#[derive(Clone, Copy)]
-pub enum Down {
-    At(Quanta),
-    Nowhere,
-}
-
-// The place nearest to three times the number is the only one that can have it as its target; the table decides.
-pub fn x_of_target(targets: &TargetTable, t: Rsu) -> Across
+// The x whose target this is. The place nearest to three times the number is the only one that can have it as its target; the table decides.
+pub fn x_of_target(targets: &TargetTable, t: Rsu) -> Option<Units>
     requires { targets.now ≡ x_targets }
     ensures { across_of result ≡ x_of_target t.0 }
 {
     let z = t.0;
-    if z < LEAST.0 {
-        return Across::Nowhere;
-    }
-    if GREATEST.0 < z {
-        return Across::Nowhere;
+    if z < LEAST.0 || GREATEST.0 < z {
+        return None;
     }
     let k = (3 * z + SHIFT) as u32 / UNIT;
     let x = Units(k as i32 + measure::FIRST_X.0);
-    let there = x.target(targets);
-    let found = there.0;
-    if found == z {
-        return Across::At(x);
-    }
-    Across::Nowhere
+    let found = x.target(targets).0;
+    if found == z { Some(x) } else { None }
 }
 
-pub fn height_of_target(t: Rsu) -> Down
+// The height whose target this is.
+pub fn height_of_target(t: Rsu) -> Option<Quanta>
     ensures { (down_of result ≡ height_of_target t.0) × InHeights result }
 {
     let z = t.0;
     if z < 0 {
-        return Down::Nowhere;
+        return None;
     }
     let n = z as u32;
     if n % QUANTUM == 0 {
-        return Down::At(Quanta((n / QUANTUM) as i32));
+        Some(Quanta((n / QUANTUM) as i32))
+    } else {
+        None
     }
-    Down::Nowhere
 }

@@ -4,6 +4,7 @@
 --     effect_of      the effect that an effect of the code is
 use Rattle.std.specs.Prelude.{Bool, true, false, List, ℤ}
 use Rattle.std.proofs.Math.Option.{Option, none, some}
+use Rattle.octets.specs.Answer.{number_in}
 use Rattle.dvi.specs.Page as S
 use Rattle.dvi.specs.Mark.{mark_of}
 use Rattle.dvi_page.specs.Stack.{six_numbers, stack_of}
@@ -19,7 +20,7 @@ abbrev pub page_of : Page → List ℤ → S.Page
 page_of p l = record { numbers = six_numbers p.numbers; font = font_if_set p.has_font p.font; stack = stack_of l p.depth }
 
 abbrev pub effect_of : Effect → List ℤ → S.Effect
-effect_of (Fault n) l = S.fault n
+effect_of (Fault r) l = S.fault (number_in r)
 effect_of (Moved p) l = S.moved (page_of p l)
 effect_of (Marked p m) l = S.marked (page_of p l) (mark_of m)
 effect_of Ended l = S.ended

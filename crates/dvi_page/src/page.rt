@@ -1,19 +1,19 @@
 // A page: its moves, its stack, its end.
-ghost use Rattle.std.specs.Prelude.{◌≡◌, List, ◌≤◌, ℤ, length};
+ghost use Rattle.std.specs.Prelude.{◌≡◌, List, ◌≤◌, ℤ};
 ghost use Rattle.dvi.specs.Mark.{mark_of};
 ghost use Rattle.dvi.specs.Page as S;
-ghost use Rattle.dvi_page.specs.Stack.{stack_size, six_numbers, stack_of};
+ghost use Rattle.dvi_page.specs.Stack.{six_numbers, stack_of};
 ghost use Rattle.dvi_page.specs.Page.{page_of, effect_of};
 
 use crate::stack;
-use crate::stack::Numbers;
+use crate::stack::{Entries, Numbers};
 use dvi::mark::Mark;
 use measure::Rsu;
-use octets::reach::Reach;
-use octets::{answer, reach};
+use octets::reach;
+use octets::refusal::Reason;
 
-// The stack's entries lie in an array beside the page. The font counts where has_font says so; the two stand apart, as side by side
-// the compiler would keep them in one word and take it apart at every command.
+// The stack's entries lie in an array beside the page. The font counts where has_font says so. An Option in their place was tried: reading a
+// file then takes a quarter more instructions.
 #[derive(Clone, Copy)]
 pub struct Page {
     pub has_font: bool,
@@ -22,127 +22,104 @@ pub struct Page {
     pub depth: usize,
 }
 
-// What a command does.
+// What a command does. A Result with the other three was tried: reading a file then takes an eighth more instructions.
 #[derive(Clone, Copy)]
 pub enum Effect {
-    Fault(u8),
+    Fault(Reason),
     Moved(Page),
     Marked(Page, Mark),
     Ended,
 }
 
-// The page after BOP.
-pub fn new_page() -> Page
-    ensures { (l : List ℤ) → page_of result l ≡ S.new_page }
-{
-    let numbers = Numbers {
-        x: Rsu(0),
-        y: Rsu(0),
-        wa: Rsu(0),
-        xa: Rsu(0),
-        ya: Rsu(0),
-        za: Rsu(0),
-    };
-    Page {
-        has_font: false,
-        numbers: numbers,
-        font: 0,
-        depth: 0,
-    }
-}
-
-// The page with other numbers.
-pub fn with_numbers(p: Page, n: Numbers) -> Page
-    ensures { (l : List ℤ) → page_of result l ≡ S.with_numbers (page_of p l) (six_numbers n) }
-{
-    let mut q = p;
-    q.numbers = n;
-    q
-}
-
-// The page goes on m to the right of the numbers n.
-pub fn right(p: Page, n: Numbers, m: Rsu) -> Effect
-    ensures { (l : List ℤ) → effect_of result l ≡ S.go_to (page_of p l) (S.right_by m.0 (six_numbers n)) }
-{
-    let to = reach::sum(n.x.0, m.0);
-    match to {
-        Reach::To(v) => {
-            let mut t = n;
-            let at = Rsu(v);
-            t.x = at;
-            Effect::Moved(with_numbers(p, t))
+impl Page {
+    // The page after BOP.
+    pub fn new() -> Page
+        ensures { (l : List ℤ) → page_of result l ≡ S.new_page }
+    {
+        Page {
+            numbers: Numbers {
+                x: Rsu(0),
+                y: Rsu(0),
+                wa: Rsu(0),
+                xa: Rsu(0),
+                ya: Rsu(0),
+                za: Rsu(0),
+            },
+            has_font: false,
+            font: 0,
+            depth: 0,
         }
-        Reach::Off => Effect::Fault(answer::OUT_OF_32_BITS),
     }
-}
 
-pub fn down(p: Page, n: Numbers, m: Rsu) -> Effect
-    ensures { (l : List ℤ) → effect_of result l ≡ S.go_to (page_of p l) (S.down_by m.0 (six_numbers n)) }
-{
-    let to = reach::sum(n.y.0, m.0);
-    match to {
-        Reach::To(v) => {
-            let mut t = n;
-            let at = Rsu(v);
-            t.y = at;
-            Effect::Moved(with_numbers(p, t))
+    // The page with other numbers.
+    pub fn with_numbers(self, numbers: Numbers) -> Page
+        ensures { (l : List ℤ) → page_of result l ≡ S.with_numbers (page_of self l) (six_numbers numbers) }
+    {
+        Page { numbers, ..self }
+    }
+
+    // The page goes on m to the right of the numbers n.
+    pub fn right(self, n: Numbers, m: Rsu) -> Effect
+        ensures { (l : List ℤ) → effect_of result l ≡ S.go_to (page_of self l) (S.right_by m.0 (six_numbers n)) }
+    {
+        let Some(to) = reach::sum(n.x.0, m.0) else {
+            return Effect::Fault(Reason::OutOf32Bits);
+        };
+        Effect::Moved(self.with_numbers(Numbers { x: Rsu(to), ..n }))
+    }
+
+    pub fn down(self, n: Numbers, m: Rsu) -> Effect
+        ensures { (l : List ℤ) → effect_of result l ≡ S.go_to (page_of self l) (S.down_by m.0 (six_numbers n)) }
+    {
+        let Some(to) = reach::sum(n.y.0, m.0) else {
+            return Effect::Fault(Reason::OutOf32Bits);
+        };
+        Effect::Moved(self.with_numbers(Numbers { y: Rsu(to), ..n }))
+    }
+
+    // The page shows k and goes on m to the right.
+    pub fn show_right(self, k: Mark, m: Rsu) -> Effect
+        ensures { (l : List ℤ) → effect_of result l ≡ S.show_and_go_to (page_of self l) (mark_of k) (S.right_by m.0 (six_numbers self.numbers)) }
+    {
+        let n = self.numbers;
+        let Some(to) = reach::sum(n.x.0, m.0) else {
+            return Effect::Fault(Reason::OutOf32Bits);
+        };
+        Effect::Marked(self.with_numbers(Numbers { x: Rsu(to), ..n }), k)
+    }
+
+    pub fn push(self, entries: &mut Entries) -> Effect
+        ensures { effect_of result entries.new ≡ S.pushed (page_of self entries.old) }
+    {
+        if stack::MAX_STACK <= self.depth {
+            return Effect::Fault(Reason::StackFull);
         }
-        Reach::Off => Effect::Fault(answer::OUT_OF_32_BITS),
+        stack::put_entry(entries, self.depth, self.numbers);
+        let mut page = self;
+        page.depth += 1;
+        Effect::Moved(page)
     }
-}
 
-// The page shows k and goes on m to the right.
-pub fn show_right(p: Page, k: Mark, m: Rsu) -> Effect
-    ensures { (l : List ℤ) → effect_of result l ≡ S.show_and_go_to (page_of p l) (mark_of k) (S.right_by m.0 (six_numbers p.numbers)) }
-{
-    let n = p.numbers;
-    let to = reach::sum(n.x.0, m.0);
-    match to {
-        Reach::To(v) => {
-            let mut t = n;
-            let at = Rsu(v);
-            t.x = at;
-            Effect::Marked(with_numbers(p, t), k)
+    pub fn pop(self, entries: &Entries) -> Effect
+        requires { self.depth ≤ S.max_stack }
+        ensures { effect_of result entries.now ≡ S.popped (page_of self entries.now) (stack_of entries.now self.depth) }
+    {
+        if self.depth == 0 {
+            return Effect::Fault(Reason::StackEmpty);
         }
-        Reach::Off => Effect::Fault(answer::OUT_OF_32_BITS),
+        let depth = self.depth - 1;
+        let mut page = self.with_numbers(stack::entry(entries, depth));
+        page.depth = depth;
+        Effect::Moved(page)
     }
-}
 
-pub fn push(entries: &mut [i32], p: Page) -> Effect
-    requires { length entries.old ≡ stack_size }
-    ensures { effect_of result entries.new ≡ S.pushed (page_of p entries.old) }
-{
-    let depth = p.depth;
-    if stack::MAX_STACK <= depth {
-        return Effect::Fault(answer::STACK_FULL);
+    pub fn end(self) -> Effect
+        ensures { (l : List ℤ) → effect_of result l ≡ S.end_page (stack_of l self.depth) }
+    {
+        if self.depth == 0 {
+            Effect::Ended
+        } else {
+            Effect::Fault(Reason::EntriesLeft)
+        }
     }
-    let n = p.numbers;
-    stack::put_entry(entries, depth, n);
-    let mut q = p;
-    q.depth = depth + 1;
-    Effect::Moved(q)
-}
-
-pub fn pop(entries: &[i32], p: Page) -> Effect
-    requires { (length entries.now ≡ stack_size) × (p.depth ≤ S.max_stack) }
-    ensures { effect_of result entries.now ≡ S.popped (page_of p entries.now) (stack_of entries.now p.depth) }
-{
-    let depth = p.depth;
-    if depth == 0 {
-        return Effect::Fault(answer::STACK_EMPTY);
-    }
-    let n = stack::entry(entries, depth - 1);
-    let mut q = with_numbers(p, n);
-    q.depth = depth - 1;
-    Effect::Moved(q)
-}
-
-pub fn end_page(p: Page) -> Effect
-    ensures { (l : List ℤ) → effect_of result l ≡ S.end_page (stack_of l p.depth) }
-{
-    let depth = p.depth;
-    if depth == 0 {
-        return Effect::Ended;
-    }
-    Effect::Fault(answer::ENTRIES_LEFT)
 }

@@ -3,15 +3,16 @@
 --     page_run      the run of the page whose BOP stands at a place
 --     PageRead     a page is read up to its EOP, and its marks are in the sheet, if writing
 --     PageDone     how the code's page ends: a refusal, or such a page
-use Rattle.std.specs.Prelude.{◌≡◌, Bool, false, List, ◌∷◌, ℕ, ◌+◌, ℤ, length, drop}
+use Rattle.std.specs.Prelude.{◌≡◌, Bool, false, List, ◌∷◌, ℕ, ◌+◌, ℤ, length, drop, Ok, Err, Result as ResultOf}
+use Rattle.octets.specs.Answer.{number_in}
 use Rattle.octets.specs.Write.{Put}
+use Rattle.octets.specs.declared.refusal.Refusal.{Refusal}
 use Rattle.sheet.specs.Sheet.{Mark, mark_fields}
 use Rattle.sheet.specs.Shown.{Shown, refused_at}
 use Rattle.dvi.specs.Page.{max_stack, new_page}
 use Rattle.dvi_brackets.specs.Brackets.{Run, to_eop, run, page_then}
 use Rattle.dvi_brackets.specs.Reading.{run_marks}
 use Rattle.dvi_plain.specs.declared.PageEnd.{PageEnd}
-use Rattle.dvi_plain.specs.declared.PageEnd.TheVariants.{Fault, Eop}
 
 abbrev pub bop_bytes : ℕ
 bop_bytes = 9
@@ -27,6 +28,7 @@ pub record PageRead (at : ℕ) (x : Run) (m : Mark) (w : Bool) (before : List �
   pub put : Put w before from (mark_fields (m ∷ run_marks x)) later to
   pub counted : total ≡ count + length (m ∷ run_marks x)
 
-abbrev pub PageDone : ℕ → Run → Mark → Bool → List ℕ → ℕ → ℕ → PageEnd → List ℕ → Type 0
-PageDone at x m w before from count (Fault k i) later = ((rest : ℕ → Shown) → page_then (at + bop_bytes) x rest ≡ refused_at k i) × (w ≡ false → later ≡ before)
-PageDone at x m w before from count (Eop next to total) later = PageRead at x m w before from count next to total later
+abbrev pub PageDone : ℕ → Run → Mark → Bool → List ℕ → ℕ → ℕ → ResultOf PageEnd Refusal → List ℕ → Type 0
+PageDone at x m w before from count (Err r) later =
+    ((rest : ℕ → Shown) → page_then (at + bop_bytes) x rest ≡ refused_at (number_in r.reason) r.place) × (w ≡ false → later ≡ before)
+PageDone at x m w before from count (Ok e) later = PageRead at x m w before from count e.at e.to e.count later

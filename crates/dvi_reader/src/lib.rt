@@ -12,12 +12,12 @@ ghost use Rattle.dvi.specs.Sheet.{sheet_result};
 use dvi::mark;
 use dvi_page::stack;
 use dvi_step::{State, Stepped};
-use octets::answer::Answer;
-use octets::pass::Reading;
-use octets::{answer, field, pass};
+use octets::pass::TwoPass;
+use octets::refusal::{Answer, Reason};
+use octets::{field, pass};
 
 // One pass over a file within the limit. It writes the sheet, if writing.
-fn pass(dvi: &[u8], widths: &[i32], out: &mut [u8], writing: bool) -> Reading
+fn pass(dvi: &[u8], widths: &[i32], out: &mut [u8], writing: bool) -> Answer
     requires dvi_len_bound { length dvi.now ≤ max_file }
     requires roomy { writing ≡ true → Roomy (shown_result (read_dvi widths.now dvi.now)) (length out.old) }
     ensures { Passed (shown_result (read_dvi widths.now dvi.now)) writing out.old result out.new }
@@ -27,45 +27,51 @@ fn pass(dvi: &[u8], widths: &[i32], out: &mut [u8], writing: bool) -> Reading
     let mut at: usize = 0;
     let mut to: usize = 0;
     let mut count: u32 = 0;
+    // A turn takes as many bytes as its command has, which no iterator over bytes does.
     while at < dvi.len() {
-        let r = dvi_step::step(dvi, widths, &mut stack, at, q);
-        match r {
-            Stepped::Refuse(k) => {
-                return Reading::Fault(k, at);
+        match dvi_step::step(dvi, widths, &mut stack, at, q) {
+            Stepped::Refuse(reason) => {
+                return Err(reason.at(at));
             }
             Stepped::Go(t, n) => {
                 q = t;
                 at = at + 1 + n;
             }
             Stepped::Show(t, m, n) => {
-                let next = mark::show_mark(out, to, m, writing);
-                to = next;
-                count = count + 1;
+                to = mark::show_mark(out, to, m, writing);
+                count += 1;
                 q = t;
                 at = at + 1 + n;
             }
             Stepped::Finish => {
                 field::show_end(out, to, count, writing);
-                return Reading::Needs(to + field::END_FIELD);
+                return Ok(to + field::END_FIELD);
             }
         }
     }
-    Reading::Fault(answer::DVI_ENDS_EARLY, at)
+    Err(Reason::DviEndsEarly.at(at))
+}
+
+// What a call is lent to read, a file within the limit.
+#[derive(Clone, Copy)]
+struct Input<'a> {
+    dvi: &'a [u8],
+    widths: &'a [i32],
+    ghost within: { length dvi.now ≤ max_file },
+}
+
+impl TwoPass for Input<'_> {
+    ghost made = { λ input. shown_result (read_dvi input.widths.now input.dvi.now) };
+
+    fn pass(&self, out: &mut [u8], writing: bool) -> Answer {
+        pass(self.dvi, self.widths, out, writing)
+    }
 }
 
 // Reads a DVI file into the lent sheet buffer.
 pub fn read_dvi(dvi: &[u8], widths: &[i32], sheet: &mut [u8]) -> Answer
     ensures { Gives (outcome_of result) (sheet_result dvi.now widths.now) sheet.old sheet.new }
 {
-    let number = sheet::call_refusal(dvi.len(), widths.len() % sheet::FONT_CHARS == 0);
-    if number != 0 {
-        return Answer::Refused(number, 0);
-    }
-    let found = pass(dvi, widths, sheet, false);
-    let given = pass::answered(found, sheet.len(), answer::NO_SHEET_ROOM);
-    let Answer::Accepted(_) = given else {
-        return given;
-    };
-    pass(dvi, widths, sheet, true);
-    given
+    sheet::call_refusal(dvi.len(), widths.len() % sheet::FONT_CHARS == 0)?;
+    pass::in_two_passes(&Input { dvi, widths }, sheet, Reason::NoSheetRoom)
 }

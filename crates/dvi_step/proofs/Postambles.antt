@@ -1,13 +1,15 @@
 -- The postamble, read from a place in the file.
 -- Assumes nothing.
 use mathlib.Core.Path.{◌≡◌, refl, sym, ap, ◌∙◌}
-use mathlib.Core.Bool.{true, false}
+use mathlib.Core.Bool.{Bool, true, false, cond, not, ◌&&◌}
 use mathlib.Core.List.{List, [], ◌∷◌}
 use Prim.Native.Nat.{ℕ, zero, suc, ◌+◌, ◌-◌, ◌≤◌, ◌<◌}
 use native.Mathlib.Numerals.{add-one}
 use native.Mathlib.Decide.{dec_lt}
 use native.Mathlib.Omega.{arith}
-use borrow.Author.Tests.{eq-eqb, ne_eqb, le-leb, lt-leb}
+use borrow.Author.Tests.{eq-eqb, ne_eqb, le-leb, lt-leb, ltb-true, ltb-false}
+use Rattle.std.proofs.lemmas.Option.{none-some}
+use lib.Dec.{eqb, ltb}
 use lib.IntN.{ℤ, pos, negsuc}
 use lib.ListN.{length, get_or, take, drop, length-drop, drop_of_length-le}
 use lib.Seq.{drop-cons, drop-drop}
@@ -15,8 +17,8 @@ use Rattle.integers.specs.Equality.{true_eq_z, false_eq_z}
 use Rattle.octets.specs.Octets.{signed, signed_at}
 use Rattle.dvi.specs.Postamble.{Part, at_id, before_name, in_name, definitions, all223, trailer, postamble}
 use Rattle.dvi_step.specs.Postamble.{FoundIn}
-use Rattle.dvi_step.specs.declared.postamble.Found.{Found}
-use Rattle.dvi_step.specs.declared.postamble.Found.TheVariants.{At, Nothing}
+use Rattle.std.specs.Prelude.{Option, Some, None}
+use Rattle.std.specs.List.{position_or_len, list_all}
 
 first : (s : List ℕ) (j : ℕ) → j < length s → drop j s ≡ get_or s j 0 ∷ drop (j + 1) s
 first s j h = rw (add-one, drop-cons s j 0)
@@ -38,29 +40,58 @@ before_name_lem pst zero bs = refl
 before_name_lem pst (suc n) [] = refl
 before_name_lem pst (suc n) (b ∷ bs) = before_name_lem pst n bs
 
-module _ (s : List ℕ) (j : ℕ) where
-  pub name_end : (pst q : ℕ) → j < length s → get_or s j 0 ≡ q → definitions pst (in_name q) (drop j s) ≡ definitions pst at_id (drop (j + 1) s)
-  unfolding definitions
-  name_end pst q h e = rw (first s j h, eq-eqb (get_or s j 0) q e)
+-- the first q, counted from the start of some bytes, or their number
+abbrev pub name_length : ℕ → List ℕ → ℕ
+name_length q bs = position_or_len (λ (b : ℕ). eqb b q) bs
 
-  pub name_more : (pst q : ℕ) → j < length s → (get_or s j 0 ≡ q → ⊥) → definitions pst (in_name q) (drop j s) ≡ definitions pst (in_name q) (drop (j + 1) s)
-  unfolding definitions
-  name_more pst q h e = rw (first s j h, ne_eqb (get_or s j 0) q e)
+-- a name, by whether its end is there
+pub name_there : (pst q : ℕ) (bs : List ℕ) → name_length q bs < length bs → definitions pst (in_name q) bs ≡ definitions pst at_id (drop (name_length q bs + 1) bs)
+unfolding definitions
+name_there pst q [] h = absurd (omega arith)
+name_there pst q (b ∷ bs) h = step (name_length q bs) (eqb b q) (name_there pst q bs) h
+  where
+    step : (n : ℕ) (t : Bool) → (n < length bs → definitions pst (in_name q) bs ≡ definitions pst at_id (drop (n + 1) bs)) → cond (not t) (1 + n) 0 < suc (length bs)
+        → cond t (definitions pst at_id bs) (definitions pst (in_name q) bs) ≡ definitions pst at_id (drop (cond (not t) (1 + n) 0 + 1) (b ∷ bs))
+    step n true f g = refl
+    step n false f g = let e : 1 + n + 1 ≡ suc (n + 1) = omega arith in f (omega arith) ∙ ap (λ (k : ℕ). definitions pst at_id (drop k (b ∷ bs))) (sym e)
 
-  pub part_none : (pst : ℕ) (p : Part) → length s ≤ j → definitions pst p (drop j s) ≡ false
-  part_none pst p h = rw (drop_of_length-le s h) (ended pst p)
+pub name_missing : (pst q : ℕ) (bs : List ℕ) → length bs ≤ name_length q bs → definitions pst (in_name q) bs ≡ false
+unfolding definitions
+name_missing pst q [] h = refl
+name_missing pst q (b ∷ bs) h = step (name_length q bs) (eqb b q) (name_missing pst q bs) h
+  where
+    step : (n : ℕ) (t : Bool) → (length bs ≤ n → definitions pst (in_name q) bs ≡ false) → suc (length bs) ≤ cond (not t) (1 + n) 0
+        → cond t (definitions pst at_id bs) (definitions pst (in_name q) bs) ≡ false
+    step n true f g = absurd (omega arith)
+    step n false f g = f (omega arith)
 
-  pub fill_more : j < length s → get_or s j 0 ≡ 223 → all223 (drop j s) ≡ all223 (drop (j + 1) s)
-  unfolding all223
-  fill_more h e = rw (first s j h, eq-eqb (get_or s j 0) 223 e)
+-- what `position` gives of a name
+pub position_there : (k n m : ℕ) → cond (ltb n m) (Some n) None ≡ Some k → (n < m) × (k ≡ n)
+position_there k n m e = go (ltb n m) (λ h. ltb-true n m h) e
+  where
+    go : (t : Bool) → (t ≡ true → n < m) → cond t (Some n) None ≡ Some k → (n < m) × (k ≡ n)
+    go true f e = (f refl, cc)
+    go false f e = absurd (none-some k e)
 
-  pub fill_not : j < length s → (get_or s j 0 ≡ 223 → ⊥) → all223 (drop j s) ≡ false
-  unfolding all223
-  fill_not h e = rw (first s j h, ne_eqb (get_or s j 0) 223 e)
+pub none_of : (r : Option ℕ) → ((n : ℕ) → r ≡ Some n → ⊥) → r ≡ None
+none_of (Some n) f = absurd (f n refl)
+none_of None f = refl
 
-  pub fill_none : length s ≤ j → all223 (drop j s) ≡ true
-  unfolding all223
-  fill_none h = rw (drop_of_length-le s h)
+pub position_missing : (n m : ℕ) → cond (ltb n m) (Some n) None ≡ None → m ≤ n
+position_missing n m e = go (ltb n m) (λ h. ltb-false n m h) e
+  where
+    go : (t : Bool) → (t ≡ false → m ≤ n) → cond t (Some n) None ≡ None → m ≤ n
+    go true f e = absurd (none-some n (sym e))
+    go false f e = f refl
+
+-- bytes 223 alone, as the library has it
+pub all223_is : (bs : List ℕ) → list_all (λ (b : ℕ). eqb b 223) bs ≡ all223 bs
+unfolding all223
+all223_is [] = refl
+all223_is (b ∷ bs) = ap (λ (t : Bool). eqb b 223 && t) (all223_is bs)
+
+part_none : (s : List ℕ) (j pst : ℕ) (p : Part) → length s ≤ j → definitions pst p (drop j s) ≡ false
+part_none s j pst p h = rw (drop_of_length-le s h) (ended pst p)
 
 -- at a font ID, before the bytes b ∷ bs
 module _ (pst b : ℕ) (bs : List ℕ) where
@@ -112,9 +143,9 @@ module _ (s : List ℕ) (j pst : ℕ) where
       ∙ ap (λ (k : ℕ). definitions pst (in_name (get_or s (j + 8) 0)) (drop k s)) e
 
 -- further back is still before
-pub within_more : (i n : ℕ) (r : Found) → FoundIn (i + 9) r n → FoundIn i r n
-within_more i n (At j) h = (omega arith, h.1)
-within_more i n Nothing h = tt
+pub within_more : (i n : ℕ) (r : Option ℕ) → FoundIn (i + 9) r n → FoundIn i r n
+within_more i n (Some j) h = (omega arith, h.1)
+within_more i n None h = tt
 
 -- ---- the trailer and the whole, by the outcomes of the code's tests
 

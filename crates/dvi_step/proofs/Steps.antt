@@ -16,7 +16,11 @@ use Rattle.dvi.specs.Command.{BOP, PST}
 use Rattle.sheet.specs.Sheet.{page_mark}
 use Rattle.dvi.specs.Page.{new_page}
 use Rattle.dvi.specs.Postamble.{postamble}
-use Rattle.dvi.specs.File.{between, inside, refuse, go_on, finish, begin_page, end_file, step}
+use Rattle.std.specs.Prelude.{Ok, Err}
+use Rattle.dvi.specs.Command.{Decoded, no_command, cut_short, command}
+use Rattle.dvi.specs.Page.{Page, effect}
+use Rattle.dvi_command.specs.Command.{Read, read_of}
+use Rattle.dvi.specs.File.{Step, in_page, after_effect, between, inside, refuse, go_on, finish, begin_page, end_file, step}
 
 module _ (last : ℤ) (at : ℕ) (ps : List ℕ) where
   pub begin_short : length ps < 8 → refuse dvi_ends_early ≡ begin_page last at ps
@@ -55,3 +59,14 @@ module _ (ws : List ℤ) (last : ℤ) (at : ℕ) (ps : List ℕ) where
   pub neither : (op : ℕ) → (op ≡ BOP → ⊥) → (op ≡ PST → ⊥) → refuse bad_command ≡ step ws at (between last) op ps
   unfolding step
   neither op h g = rw (ne_eqb op BOP h, ne_eqb op PST g)
+
+-- a command inside a page, by what is decoded
+abbrev pub read_page : List ℤ → ℤ → Page → Read → Step
+read_page ws last p (Ok d) = after_effect last d.1 (effect ws p d.0)
+read_page ws last p (Err k) = refuse k
+
+pub page_read : (ws : List ℤ) (last : ℤ) (p : Page) (x : Decoded) → read_page ws last p (read_of x) ≡ in_page ws last p x
+unfolding in_page
+page_read ws last p no_command = refl
+page_read ws last p cut_short = refl
+page_read ws last p (command c n) = refl

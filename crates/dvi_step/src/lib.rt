@@ -7,16 +7,15 @@ ghost use Rattle.std.specs.Prelude.{◌≡◌, List, ◌+◌, ◌≤◌, ◌<◌
 ghost use Rattle.dvi.specs.Command.{PST as Pst};
 ghost use Rattle.dvi.specs.Page.{max_stack};
 ghost use Rattle.dvi.specs.File as S;
-ghost use Rattle.dvi_page.specs.Stack.{stack_size};
 ghost use Rattle.dvi_page.specs.Page.{page_of, effect_of};
 ghost use Rattle.dvi_step.specs.Step.{state_of, depth_of, step_of};
 
 use dvi::mark::Mark;
 use dvi::opcode;
-use dvi_command::Decoded;
-use dvi_page::page;
 use dvi_page::page::{Effect, Page};
-use octets::{answer, number};
+use dvi_page::stack::Entries;
+use octets::number;
+use octets::refusal::Reason;
 
 // Between pages or inside one, with the offset of the last BOP, -1 before the first.
 #[derive(Clone, Copy)]
@@ -25,10 +24,11 @@ pub enum State {
     Inside(i32, Page),
 }
 
-// A refusal; the state after the command, with its mark if it has one, and the number of its parameters' bytes; or the file's end.
+// A refusal; the state after a command, with its mark if it has one, and the number of its parameters' bytes; or the file's end.
+// A Result with the other three was tried, here and in `Effect`: reading a file then takes an eighth more instructions.
 #[derive(Clone, Copy)]
 pub enum Stepped {
-    Refuse(u8),
+    Refuse(Reason),
     Go(State, usize),
     Show(State, Mark, usize),
     Finish,
@@ -38,7 +38,7 @@ fn after_effect(last: i32, n: usize, e: Effect) -> Stepped
     ensures { (l : List ℤ) → step_of result l ≡ S.after_effect last n (effect_of e l) }
 {
     match e {
-        Effect::Fault(k) => Stepped::Refuse(k),
+        Effect::Fault(reason) => Stepped::Refuse(reason),
         Effect::Moved(p) => Stepped::Go(State::Inside(last, p), n),
         Effect::Marked(p, m) => Stepped::Show(State::Inside(last, p), m, n),
         Effect::Ended => Stepped::Go(State::Between(last), n),
@@ -49,23 +49,21 @@ fn after_effect(last: i32, n: usize, e: Effect) -> Stepped
 fn in_page(
     dvi: &[u8],
     widths: &[i32],
-    entries: &mut [i32],
+    entries: &mut Entries,
     at: usize,
     last: i32,
     p: Page,
 ) -> Stepped
-    requires { (at < length dvi.now) × ((length entries.old ≡ stack_size) × (p.depth ≤ max_stack)) }
+    requires { (at < length dvi.now) × (p.depth ≤ max_stack) }
     ensures { step_of result entries.new ≡ S.step widths.now at (S.inside last (page_of p entries.old)) (get_or dvi.now at 0) (drop (at + 1) dvi.now) }
 {
-    let op = dvi[at];
-    let d = dvi_command::decode(dvi, at + 1, op);
-    match d {
-        Decoded::NoCommand => Stepped::Refuse(answer::BAD_COMMAND),
-        Decoded::CutShort => Stepped::Refuse(answer::DVI_ENDS_EARLY),
-        Decoded::Whole(c, n) => {
-            let e = dvi_effect::effect_of(widths, entries, p, c);
-            after_effect(last, n, e)
-        }
+    match dvi_command::decode(dvi, at + 1, dvi[at]) {
+        Err(reason) => Stepped::Refuse(reason),
+        Ok(d) => after_effect(
+            last,
+            d.length,
+            dvi_effect::effect_of(widths, entries, p, d.command),
+        ),
     }
 }
 
@@ -75,15 +73,13 @@ fn begin_page(dvi: &[u8], at: usize, last: i32) -> Stepped
     ensures { (l : List ℤ) → step_of result l ≡ S.begin_page last at (drop (at + 1) dvi.now) }
 {
     if dvi.len() - at < opcode::BOP_LENGTH {
-        return Stepped::Refuse(answer::DVI_ENDS_EARLY);
+        return Stepped::Refuse(Reason::DviEndsEarly);
     }
     let n = number::signed4_at(dvi, at + 1);
-    let previous = number::signed4_at(dvi, at + 5);
-    if previous != last {
-        return Stepped::Refuse(answer::WRONG_OFFSET);
+    if number::signed4_at(dvi, at + 5) != last {
+        return Stepped::Refuse(Reason::WrongOffset);
     }
-    let p = page::new_page();
-    Stepped::Show(State::Inside(at as i32, p), Mark::Start(n), 8)
+    Stepped::Show(State::Inside(at as i32, Page::new()), Mark::Start(n), 8)
 }
 
 // PST.
@@ -92,12 +88,13 @@ fn end_file(dvi: &[u8], at: usize, last: i32) -> Stepped
     ensures { (ws l : List ℤ) → step_of result l ≡ S.step ws at (S.between last) Pst (drop (at + 1) dvi.now) }
 {
     if last < 0 {
-        return Stepped::Refuse(answer::BAD_COMMAND);
+        return Stepped::Refuse(Reason::BadCommand);
     }
     if postamble::is_postamble(dvi, at, last) {
-        return Stepped::Finish;
+        Stepped::Finish
+    } else {
+        Stepped::Refuse(Reason::BadPostamble)
     }
-    Stepped::Refuse(answer::BAD_POSTAMBLE)
 }
 
 // A command between pages.
@@ -105,19 +102,16 @@ pub fn between_pages(dvi: &[u8], at: usize, last: i32) -> Stepped
     requires { (at < length dvi.now) × (at < 2147483648) }
     ensures { (ws l : List ℤ) → step_of result l ≡ S.step ws at (S.between last) (get_or dvi.now at 0) (drop (at + 1) dvi.now) }
 {
-    let op = dvi[at];
-    if op == opcode::BOP {
-        return begin_page(dvi, at, last);
+    match dvi[at] {
+        opcode::BOP => begin_page(dvi, at, last),
+        opcode::PST => end_file(dvi, at, last),
+        _ => Stepped::Refuse(Reason::BadCommand),
     }
-    if op == opcode::PST {
-        return end_file(dvi, at, last);
-    }
-    Stepped::Refuse(answer::BAD_COMMAND)
 }
 
 // The command at `at`.
-pub fn step(dvi: &[u8], widths: &[i32], entries: &mut [i32], at: usize, q: State) -> Stepped
-    requires { (at < length dvi.now) × ((at < 2147483648) × ((length entries.old ≡ stack_size) × (depth_of q ≤ max_stack))) }
+pub fn step(dvi: &[u8], widths: &[i32], entries: &mut Entries, at: usize, q: State) -> Stepped
+    requires { (at < length dvi.now) × ((at < 2147483648) × (depth_of q ≤ max_stack)) }
     ensures { step_of result entries.new ≡ S.step widths.now at (state_of q entries.old) (get_or dvi.now at 0) (drop (at + 1) dvi.now) }
 {
     match q {

@@ -6,37 +6,24 @@ ghost use Rattle.dvi_step.specs.Postamble.{Past};
 use dvi::opcode;
 use octets::number;
 
-#[derive(Clone, Copy)]
-pub enum Found {
-    At(usize),
-    Nothing,
-}
-
 // Past the next byte q, from i on.
-fn past_name(s: &[u8], i: usize, q: u8) -> Found
+fn past_name(s: &[u8], i: usize, q: u8) -> Option<usize>
     requires { i ≤ length s.now }
     ensures { Past s.now i (P.in_name q) i result }
 {
-    let mut j = i;
-    while j < s.len() {
-        if s[j] == q {
-            return Found::At(j + 1);
-        }
-        j += 1;
-    }
-    Found::Nothing
+    let name = s[i..].iter().position(|b| *b == q)?;
+    Some(i + name + 1)
 }
 
 // Past the definition whose ID stands at i.
-fn past_definition(s: &[u8], i: usize) -> Found
+fn past_definition(s: &[u8], i: usize) -> Option<usize>
     requires { i + 4 ≤ length s.now }
     ensures { Past s.now i (P.before_name 7) (i + 1) result }
 {
     if s.len() - i < 9 {
-        return Found::Nothing;
+        return None;
     }
-    let q = s[i + 8];
-    past_name(s, i + 9, q)
+    past_name(s, i + 9, s[i + 8])
 }
 
 // Whether bytes 223 alone follow, from i on.
@@ -44,14 +31,7 @@ fn is_filled(s: &[u8], i: usize) -> bool
     requires { i ≤ length s.now }
     ensures { result ≡ P.all223 (drop i s.now) }
 {
-    let mut j = i;
-    while j < s.len() {
-        if s[j] != opcode::FILLER {
-            return false;
-        }
-        j += 1;
-    }
-    true
+    s[i..].iter().all(|b| *b == opcode::FILLER)
 }
 
 // Whether PST's offset, a zero byte and the bytes 223 follow, from i on.
@@ -62,40 +42,27 @@ fn is_trailer(s: &[u8], i: usize, pst: usize) -> bool
     if s.len() - i < 9 {
         return false;
     }
-    let offset = number::signed4_at(s, i);
-    let right = pst as i32;
-    if offset != right {
-        return false;
-    }
-    if s[i + 4] != 0 {
-        return false;
-    }
-    is_filled(s, i + 5)
+    number::signed4_at(s, i) == pst as i32 && s[i + 4] == 0 && is_filled(s, i + 5)
 }
 
-// Whether font definitions, their end mark and the trailer follow, from i on.
+// Whether font definitions, their end mark and the trailer follow, from i on. A turn takes as many bytes as its definition has.
 fn are_definitions(s: &[u8], i: usize, pst: usize) -> bool
     requires { (i ≤ length s.now) × (pst < 2147483648) }
     ensures { result ≡ P.definitions pst P.at_id (drop i s.now) }
 {
     let mut j = i;
+    // A turn takes as many bytes as its definition has, which no iterator over bytes does.
     loop {
         if s.len() - j < 4 {
             return false;
         }
-        let id = number::signed4_at(s, j);
-        if id == -1 {
+        if number::signed4_at(s, j) == -1 {
             return is_trailer(s, j + 4, pst);
         }
-        let d = past_definition(s, j);
-        match d {
-            Found::At(k) => {
-                j = k;
-            }
-            Found::Nothing => {
-                return false;
-            }
-        }
+        let Some(next) = past_definition(s, j) else {
+            return false;
+        };
+        j = next;
     }
 }
 
@@ -107,9 +74,5 @@ pub fn is_postamble(s: &[u8], pst: usize, last: i32) -> bool
     if s.len() - pst < 13 {
         return false;
     }
-    let offset = number::signed4_at(s, pst + 1);
-    if offset != last {
-        return false;
-    }
-    are_definitions(s, pst + 13, pst)
+    number::signed4_at(s, pst + 1) == last && are_definitions(s, pst + 13, pst)
 }

@@ -3,7 +3,6 @@ ghost use Rattle.dvi.specs.Writer.{first_writing};
 ghost use Rattle.dvi_writer.specs.Writing.{WritingIs};
 
 use dvi::opcode;
-use dvi_characters::position;
 use dvi_characters::position::Position;
 
 #[derive(Clone, Copy)]
@@ -17,15 +16,16 @@ pub struct Writing {
     pub at: usize,
 }
 
-// After the first BOP.
-pub fn first_writing() -> Writing
-    ensures { WritingIs result first_writing }
-{
-    let position = position::start_position();
-    Writing {
-        position: position,
-        page: 1,
-        bop: 0,
-        at: opcode::BOP_LENGTH,
+impl Writing {
+    // After the first BOP.
+    pub fn first() -> Self
+        ensures { WritingIs result first_writing }
+    {
+        Writing {
+            position: Position::start(),
+            page: 1,
+            bop: 0,
+            at: opcode::BOP_LENGTH,
+        }
     }
 }

@@ -6,21 +6,21 @@
 --     run_second                  the run over two codes, and refuses_second where the second is refused
 --     Swapped                     the runs over two codes, in either order, are alike
 -- Assumes nothing.
-use Rattle.std.specs.Prelude.{◌≡◌, refl, List, [], ◌∷◌, ◌++◌, ℕ, suc}
+use Rattle.std.specs.Prelude.{◌≡◌, refl, List, [], ◌∷◌, ◌++◌, ℕ, suc, Ok, Err}
+use Rattle.octets.specs.declared.refusal.Refusal.{Refusal}
+use Rattle.octets.specs.declared.refusal.Reason.{Reason}
 use Rattle.std.proofs.Common.{sym, ◌∙◌}
 use Rattle.std.proofs.Math.Path.{ap}
 use Rattle.typesetter.specs.declared.machine.State.{State}
-use Rattle.typesetter.specs.declared.machine.Effect.TheVariants.{Moved, Refused}
+use Rattle.typesetter.specs.declared.machine.Effect.TheVariants.{Moved}
 use Rattle.typesetter.specs.Machine.{byte_effect}
-use Rattle.tape.specs.declared.Ending.TheVariants.{Reached, Fault}
-use Rattle.tape.specs.Tape.{Run, run}
+use Rattle.tape.specs.Tape.{Ending, Run, run}
 use Rattle.galley_file.specs.declared.item.Item.{Item}
-use Rattle.tape.specs.declared.Ending.{Ending}
 use Rattle.tape.specs.RunLaws.{go_on}
 
 pub data Alike (r q : Run) : Type 0 where
   same : r ≡ q → Alike r q
-  refused : {n p m k : ℕ} → r.ending ≡ Fault n p → q.ending ≡ Fault m k → Alike r q
+  refused : {m k : Refusal} → r.ending ≡ Err m → q.ending ≡ Err k → Alike r q
 
 pub alike_back : {r q : Run} → Alike r q → Alike q r
 alike_back (same e) = same (sym e)
@@ -33,13 +33,13 @@ alike_then (refused e f) (same g) = refused e (sym (ap (λ (x : Run). x.ending) 
 alike_then (refused e f) (refused g h) = refused e h
 
 -- after the same beginning
-pub alike_after : (is : List Item) (e : Ending) (f g : State → Run) → ((t : State) → e ≡ Reached t → Alike (f t) (g t)) → Alike (go_on is e f) (go_on is e g)
-alike_after is (Reached t) f g h = go (h t refl)
+pub alike_after : (is : List Item) (e : Ending) (f g : State → Run) → ((t : State) → e ≡ Ok t → Alike (f t) (g t)) → Alike (go_on is e f) (go_on is e g)
+alike_after is (Ok t) f g h = go (h t refl)
   where
-    go : Alike (f t) (g t) → Alike (go_on is (Reached t) f) (go_on is (Reached t) g)
+    go : Alike (f t) (g t) → Alike (go_on is (Ok t) f) (go_on is (Ok t) g)
     go (same e) = same (ap (λ (x : Run). record { items = is ++ x.items; ending = x.ending }) e)
     go (refused a b) = refused a b
-alike_after is (Fault n p) f g h = same refl
+alike_after is (Err r) f g h = same refl
 
 -- with the same end
 pub alike_before : {r q : Run} (f : State → Run) → Alike r q → Alike (go_on r.items r.ending f) (go_on q.items q.ending f)
@@ -50,25 +50,25 @@ alike_before {r} {q} f (refused a b) =
 -- ---- the run over two codes
 
 module _ (s : State) (at a : ℕ) where
-  pub run_refuses : {n : ℕ} (bs : List ℕ) → byte_effect s a ≡ Refused n → (run s at (a ∷ bs)).ending ≡ Fault n at
+  pub run_refuses : {r : Reason} (bs : List ℕ) → byte_effect s a ≡ Err r → (run s at (a ∷ bs)).ending ≡ Err (record { reason = r; place = at })
   unfolding run
   run_refuses bs e = rw (e, run)
 
-  pub run_first : {t : State} (bs : List ℕ) → byte_effect s a ≡ Moved t → run s at (a ∷ bs) ≡ run t (suc at) bs
+  pub run_first : {t : State} (bs : List ℕ) → byte_effect s a ≡ Ok (Moved t) → run s at (a ∷ bs) ≡ run t (suc at) bs
   unfolding run
   run_first bs e = rw (e, run)
 
-  module _ (t : State) (b : ℕ) (e : byte_effect s a ≡ Moved t) where
-    pub run_second : {u : State} → byte_effect t b ≡ Moved u → run s at (a ∷ b ∷ []) ≡ record { items = []; ending = Reached u }
+  module _ (t : State) (b : ℕ) (e : byte_effect s a ≡ Ok (Moved t)) where
+    pub run_second : {u : State} → byte_effect t b ≡ Ok (Moved u) → run s at (a ∷ b ∷ []) ≡ record { items = []; ending = Ok u }
     unfolding run
     run_second f = run_first (b ∷ []) e ∙ rw (f, run)
 
-    pub refuses_second : {n : ℕ} → byte_effect t b ≡ Refused n → (run s at (a ∷ b ∷ [])).ending ≡ Fault n (suc at)
+    pub refuses_second : {r : Reason} → byte_effect t b ≡ Err r → (run s at (a ∷ b ∷ [])).ending ≡ Err (record { reason = r; place = suc at })
     unfolding run
     refuses_second f = ap (λ (x : Run). x.ending) (run_first (b ∷ []) e) ∙ rw (f, run)
 
 abbrev pub Swapped : State → ℕ → ℕ → ℕ → Type 0
 Swapped s at a b = Alike (run s at (a ∷ b ∷ [])) (run s at (b ∷ a ∷ []))
 
-pub both_refused : (s : State) (at a b : ℕ) {n k : ℕ} → byte_effect s a ≡ Refused n → byte_effect s b ≡ Refused k → Swapped s at a b
+pub both_refused : (s : State) (at a b : ℕ) {r q : Reason} → byte_effect s a ≡ Err r → byte_effect s b ≡ Err q → Swapped s at a b
 both_refused s at a b e f = refused (run_refuses s at a (b ∷ []) e) (run_refuses s at b (a ∷ []) f)

@@ -5,17 +5,15 @@
 --     switches_exchanged      the codes of two different switches of a machine
 -- All come from one law of runs, `reordered_alike`: the two runs are the same, or both are refused.
 -- Assumes nothing.
-use Rattle.std.specs.Prelude.{◌≡◌, refl, Bool, true, false, cond, List, [], ◌∷◌, ◌++◌, ◌↔◌, ℕ, ◌+◌, ◌≤◌, ◌<◌, ltb, length}
+use Rattle.std.specs.Prelude.{◌≡◌, refl, Bool, true, false, cond, List, [], ◌∷◌, ◌++◌, ◌↔◌, ℕ, ◌+◌, ◌≤◌, ◌<◌, ltb, length, Ok}
 use Rattle.std.proofs.Common.{sym, ap, subst, ◌∙◌, suc-ne-zero, arith, length-append}
-use Rattle.std.proofs.Math.Option.{some}
 use Rattle.octets.specs.Answer.{refusal, written, if_room, tape_too_long, no_galley_room}
 use Rattle.typesetter.specs.declared.code.Machine.{Machine}
 use Rattle.typesetter.specs.declared.code.Code.TheVariants.{Instructs}
 use Rattle.typesetter.specs.declared.machine.State.{State}
-use Rattle.typesetter.specs.Code.{code_of}
+use Rattle.typesetter.specs.Code.{machine_of, code_of}
 use Rattle.typesetter.specs.Machine.{start}
-use Rattle.tape.specs.declared.Ending.{Ending}
-use Rattle.tape.specs.Tape.{max_tape, Run, run, closing, read_result, machine_of, on_machine, tape_result}
+use Rattle.tape.specs.Tape.{Ending, max_tape, Run, run, closing, read_result, on_machine, tape_result}
 use Rattle.tape.specs.RunLaws.{go_on, run_append, run_machine}
 use Rattle.exchange.specs.Exchange.{Mode, turn, Switch, rail_switch, mag_switch, tilt_switch, half_switch, switch_code, moded, settings, either, Exchangeable, instructions, ignored_first, ignored_second, Reordered, unchanged, exchanged, further, Accepted}
 use Rattle.exchange.proofs.AlikeLaws.{Alike, same, refused, alike_then, alike_after, alike_before}
@@ -74,7 +72,7 @@ read_alike s xs ys room g l (same e) w = sym (λ i. if_room no_galley_room room 
 read_alike s xs ys room g l (refused e f) w = never (sym (ap (λ (x : Ending). if_room no_galley_room room (closing (length xs) (run s 0 xs).items x)) e) ∙ w)
 
 -- one way; the other is the same
-accepted_onward : (kind : Machine) (machine : ℕ) → machine_of machine ≡ some kind → {xs ys : List ℕ} → Reordered kind xs ys → (room : ℕ) (g : List ℕ)
+accepted_onward : (kind : Machine) (machine : ℕ) → machine_of machine ≡ Ok kind → {xs ys : List ℕ} → Reordered kind xs ys → (room : ℕ) (g : List ℕ)
     → Accepted xs machine room g → Accepted ys machine room g
 unfolding tape_result
 accepted_onward kind machine named {xs} {ys} r room g w = go (ltb max_tape (length xs)) refl w
@@ -91,12 +89,12 @@ accepted_onward kind machine named {xs} {ys} r room g w = go (ltb max_tape (leng
         ∙ read_alike (start kind) xs ys room g l (reordered_alike (start kind) 0 r) (sym (ap (on_machine xs room) named) ∙ e)
 
 -- any number of exchanges: the tape is accepted exactly when it was before, with the same galley
-pub reordered_accepted : (kind : Machine) (machine : ℕ) → machine_of machine ≡ some kind → {xs ys : List ℕ} → Reordered kind xs ys
+pub reordered_accepted : (kind : Machine) (machine : ℕ) → machine_of machine ≡ Ok kind → {xs ys : List ℕ} → Reordered kind xs ys
     → (room : ℕ) (g : List ℕ) → Accepted xs machine room g ↔ Accepted ys machine room g
 reordered_accepted kind machine named r room g = (accepted_onward kind machine named r room g, accepted_onward kind machine named (reordered_back r) room g)
 
 -- "exchange two neighbouring codes, and the tape is accepted exactly when it was before, with the same galley"
-pub exchange_accepted : (kind : Machine) (machine : ℕ) → machine_of machine ≡ some kind → (xs : List ℕ) (a b : ℕ) (ys : List ℕ) → Exchangeable kind a b
+pub exchange_accepted : (kind : Machine) (machine : ℕ) → machine_of machine ≡ Ok kind → (xs : List ℕ) (a b : ℕ) (ys : List ℕ) → Exchangeable kind a b
     → (room : ℕ) (g : List ℕ) → Accepted (xs ++ (a ∷ (b ∷ ys))) machine room g ↔ Accepted (xs ++ (b ∷ (a ∷ ys))) machine room g
 exchange_accepted kind machine named xs a b ys x = reordered_accepted kind machine named (exchanged xs ys x)
 
@@ -118,13 +116,13 @@ pub two_switches : (machine : Machine) {m n : Mode} (p : Switch machine m) (q : 
 two_switches machine {m} {n} p q u v d = instructions (switch_code_lem machine p u) (switch_code_lem machine q v) (settings (moded m u) (moded n v) d)
 
 -- "exchange two neighbouring codes, one an escape and one a lead", on either machine; the other order is the same law read backward
-pub escape_lead_exchanged : (kind : Machine) (machine : ℕ) → machine_of machine ≡ some kind → (xs : List ℕ) (a b : ℕ) (ys : List ℕ) → 0x80 ≤ a
+pub escape_lead_exchanged : (kind : Machine) (machine : ℕ) → machine_of machine ≡ Ok kind → (xs : List ℕ) (a b : ℕ) (ys : List ℕ) → 0x80 ≤ a
     → a < 0xFF → 0x60 ≤ b → b < 0x80
     → (room : ℕ) (g : List ℕ) → Accepted (xs ++ (a ∷ (b ∷ ys))) machine room g ↔ Accepted (xs ++ (b ∷ (a ∷ ys))) machine room g
 escape_lead_exchanged kind machine named xs a b ys la ha lb hb = exchange_accepted kind machine named xs a b ys (escape_and_lead kind a b la ha lb hb)
 
 -- "neighbouring codes of two different switches among rail, mag, tilt and half, on the 8-font machine", and on the other, which has no tilt
-pub switches_exchanged : (kind : Machine) (machine : ℕ) → machine_of machine ≡ some kind
+pub switches_exchanged : (kind : Machine) (machine : ℕ) → machine_of machine ≡ Ok kind
     → (xs : List ℕ) {m n : Mode} (p : Switch kind m) (q : Switch kind n) (u v : Bool) (ys : List ℕ) → (m ≡ n → ⊥)
     → (room : ℕ) (g : List ℕ) → Accepted (xs ++ (switch_code p u ∷ (switch_code q v ∷ ys))) machine room g ↔ Accepted (xs ++ (switch_code q v ∷ (switch_code p u ∷ ys))) machine room g
 switches_exchanged kind machine named xs p q u v ys d = exchange_accepted kind machine named xs (switch_code p u) (switch_code q v) ys (two_switches kind p q u v d)

@@ -5,28 +5,23 @@
 --     swap_apart     two that are apart
 --     swap           two exchangeable codes
 -- Assumes nothing.
-use Rattle.std.specs.Prelude.{◌≡◌, refl, Bool, true, false, cond, [], ◌∷◌, ℕ, suc, ◌+ℤ◌}
+use Rattle.std.specs.Prelude.{◌≡◌, refl, Bool, true, false, cond, [], ◌∷◌, ℕ, suc, ◌+ℤ◌, Option, Some, None, Ok, Err}
 use Rattle.std.proofs.Common.{sym, ap, ◌∙◌}
-use Rattle.octets.specs.Answer.{still_parked, out_of_range}
+use Rattle.octets.specs.declared.refusal.Reason.{Reason}
+use Rattle.octets.specs.declared.refusal.Reason.TheVariants.{Parked, OutOfRange}
 use Rattle.measure.specs.declared.Units.{Units}
 use Rattle.measure.specs.declared.Quanta.{Quanta}
-use Rattle.measure.specs.declared.Carriage.{Carriage}
-use Rattle.measure.specs.declared.Carriage.TheVariants as carriage
-use Rattle.measure.specs.declared.Height.{Height}
-use Rattle.measure.specs.declared.Height.TheVariants as height
 use Rattle.measure.specs.Place.{directed_by, carriage_at, height_at}
 use Rattle.typesetter.specs.declared.code.Machine.{Machine}
 use Rattle.typesetter.specs.declared.code.Instruction.{Instruction}
 use Rattle.typesetter.specs.declared.code.Instruction.TheVariants.{Lead, Escape}
 use Rattle.typesetter.specs.declared.code.Code.TheVariants.{Ignored, Instructs}
 use Rattle.typesetter.specs.declared.machine.State.{State}
-use Rattle.typesetter.specs.declared.machine.Effect.{Effect}
-use Rattle.typesetter.specs.declared.machine.Effect.TheVariants.{Moved, Flashed, PageEnded, Refused}
+use Rattle.typesetter.specs.declared.machine.Effect.TheVariants.{Moved, Flashed, PageEnded}
 use Rattle.typesetter.specs.Code.{code_of}
-use Rattle.typesetter.specs.Machine.{off_switch_at, with_height, origin, leaves_switch, to_carriage, to_height, escape_of, lead_of, instruction_effect, byte_effect}
+use Rattle.typesetter.specs.Machine.{Step, off_switch_at, with_height, origin, leaves_switch, to_carriage, to_height, escape_of, lead_of, instruction_effect, byte_effect}
 use Rattle.typesetter.specs.EffectLaws.{moved_machine, page_ended_machine}
 use Rattle.typesetter.specs.StepLaws.{step_ignored, instruction_early, instruction_after_cut, instruction_after_stop, instruction_taken}
-use Rattle.tape.specs.declared.Ending.TheVariants.{Reached}
 use Rattle.tape.specs.Tape.{Run, run}
 use Rattle.exchange.specs.Exchange.{escapeWay, leadWay, turn, Setting, moded, sized, setting_instruction, Beside, Commuting, escape_lead, settings, escape_setting, lead_setting, either, Exchangeable, instructions, ignored_first, ignored_second}
 use Rattle.exchange.proofs.AlikeLaws.{same, refused, alike_back, run_refuses, run_first, run_second, refuses_second, Swapped, both_refused}
@@ -56,19 +51,19 @@ changed s (setting x) _ = applied s x
 
 data Ends (A : Type 0) : Type 0 where
   to : A → Ends A
-  refuses : ℕ → Ends A
+  refuses : Reason → Ends A
 
-abbrev across_to : Carriage → Ends Units
-across_to (carriage.At c) = to c
-across_to carriage.Outside = refuses out_of_range
+abbrev across_to : Option Units → Ends Units
+across_to (Some c) = to c
+across_to None = refuses OutOfRange
 
-abbrev down_to : Height → Ends Quanta
-down_to (height.At h) = to h
-down_to height.Outside = refuses out_of_range
+abbrev down_to : Option Quanta → Ends Quanta
+down_to (Some h) = to h
+down_to None = refuses OutOfRange
 
 -- an escape and a lead by what they read: the direction, the place, and for an escape whether the carriage is parked
 abbrev escape_from : ℕ → Bool → Bool → Units → Ends Units
-escape_from n parked back c = cond parked (cond (leaves_switch back n) (to origin) (refuses still_parked)) (across_to (carriage_at (c.0 +ℤ directed_by back n)))
+escape_from n parked back c = cond parked (cond (leaves_switch back n) (to origin) (refuses Parked)) (across_to (carriage_at (c.0 +ℤ directed_by back n)))
 
 abbrev lead_from : ℕ → Bool → Quanta → Ends Quanta
 lead_from n back h = down_to (height_at (h.0 +ℤ directed_by back n))
@@ -78,27 +73,27 @@ end_of s (escaping n) = escape_from n s.parked s.modes.escape_back s.carriage
 end_of s (leading n) = lead_from n s.modes.lead_back s.height
 end_of s (setting x) = to tt
 
-abbrev effect_by : State → (m : Change) → Ends (Value m) → Effect
-effect_by s m (to v) = Moved (changed s m v)
-effect_by s m (refuses k) = Refused k
+abbrev effect_by : State → (m : Change) → Ends (Value m) → Step
+effect_by s m (to v) = Ok (Moved (changed s m v))
+effect_by s m (refuses k) = Err k
 
 effect_by_lem : (s : State) (m : Change) → instruction_effect s (instruction_of m) ≡ effect_by s m (end_of s m)
 unfolding instruction_effect escape_of lead_of
 effect_by_lem s (escaping n) =
     go s.parked (leaves_switch s.modes.escape_back n) (carriage_at (s.carriage.0 +ℤ directed_by s.modes.escape_back n))
   where
-    go : (p l : Bool) (r : Carriage) → cond p (cond l (Moved (off_switch_at s origin)) (Refused still_parked)) (to_carriage s r)
-        ≡ effect_by s (escaping n) (cond p (cond l (to origin) (refuses still_parked)) (across_to r))
+    go : (p l : Bool) (r : Option Units) → cond p (cond l (Ok (Moved (off_switch_at s origin))) (Err Parked)) (to_carriage s r)
+        ≡ effect_by s (escaping n) (cond p (cond l (to origin) (refuses Parked)) (across_to r))
     go true true r = refl
     go true false r = refl
-    go false l (carriage.At c) = refl
-    go false l carriage.Outside = refl
+    go false l (Some c) = refl
+    go false l None = refl
 effect_by_lem s (leading n) = go (height_at (s.height.0 +ℤ directed_by s.modes.lead_back n))
   where
-    go : (r : Height) → to_height s r ≡ effect_by s (leading n) (down_to r)
-    go (height.At h) = refl
-    go height.Outside = refl
-effect_by_lem s (setting (moded m u)) = each_mode (λ m. instruction_effect s (turn m u) ≡ Moved (applied s (moded m u))) refl refl refl refl refl refl m
+    go : (r : Option Quanta) → to_height s r ≡ effect_by s (leading n) (down_to r)
+    go (Some h) = refl
+    go None = refl
+effect_by_lem s (setting (moded m u)) = each_mode (λ m. instruction_effect s (turn m u) ≡ Ok (Moved (applied s (moded m u)))) refl refl refl refl refl refl m
 effect_by_lem s (setting (sized n)) = refl
 
 -- ---- on an initialized machine, before stop or cut, where instructions are taken
@@ -150,7 +145,7 @@ swap_apart s at r {m} {n} x a b ea eb = go (end_of s m) refl (end_of s n) refl
     go (to v) e (to w) f =
         same
         (run_second s at a (changed s m v) b (first e) (second_after v f)
-        ∙ ap (λ (t : State). record { items = []; ending = Reached t }) (x.either_way v w)
+        ∙ ap (λ (t : State). record { items = []; ending = Ok t }) (x.either_way v w)
         ∙ sym (run_second s at b (changed s n w) a (second f) (first_after w e)))
     go (to v) e (refuses k) f = refused (refuses_second s at a (changed s m v) b (first e) (second_after v f)) (run_refuses s at b (a ∷ []) (second f))
     go (refuses k) e (to w) f = refused (run_refuses s at a (b ∷ []) (first e)) (refuses_second s at b (changed s n w) a (second f) (first_after w e))
@@ -205,17 +200,17 @@ swap_ignored : (s : State) (at a b : ℕ) → code_of s.machine a ≡ Ignored �
 unfolding run
 swap_ignored s at a b ea = go (byte_effect s b) refl
   where
-    nothing : (t : State) → t.machine ≡ s.machine → byte_effect t a ≡ Moved t
+    nothing : (t : State) → t.machine ≡ s.machine → byte_effect t a ≡ Ok (Moved t)
     nothing t k = sym (step_ignored t a (ap (λ (m : Machine). code_of m a) k ∙ ea))
 
     first : run s at (a ∷ b ∷ []) ≡ run s (suc at) (b ∷ [])
     first = run_first s at a (b ∷ []) (nothing s refl)
 
-    go : (x : Effect) → byte_effect s b ≡ x → Swapped s at a b
-    go (Moved t) e = same (first ∙ rw (e, run) (rw (nothing t (moved_machine s b e), run)))
-    go (Flashed c) e = same (first ∙ rw (e, run) (rw (nothing s refl, run)))
-    go (PageEnded t) e = same (first ∙ rw (e, run) (rw (nothing t (page_ended_machine s b e), run)))
-    go (Refused n) e = refused (ap (λ (x : Run). x.ending) first ∙ run_refuses s (suc at) b [] e) (run_refuses s at b (a ∷ []) e)
+    go : (x : Step) → byte_effect s b ≡ x → Swapped s at a b
+    go (Ok (Moved t)) e = same (first ∙ rw (e, run) (rw (nothing t (moved_machine s b e), run)))
+    go (Ok (Flashed c)) e = same (first ∙ rw (e, run) (rw (nothing s refl, run)))
+    go (Ok (PageEnded t)) e = same (first ∙ rw (e, run) (rw (nothing t (page_ended_machine s b e), run)))
+    go (Err n) e = refused (ap (λ (x : Run). x.ending) first ∙ run_refuses s (suc at) b [] e) (run_refuses s at b (a ∷ []) e)
 
 pub swap : (s : State) (at a b : ℕ) → Exchangeable s.machine a b → Swapped s at a b
 swap s at a b (instructions ea eb m) = swap_instructions s at a b ea eb m

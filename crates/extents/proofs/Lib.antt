@@ -1,4 +1,3 @@
-mod FieldRuns
 pub mod FontMarksLaws
 pub mod ExtentsLaws
 pub mod FieldsLaws

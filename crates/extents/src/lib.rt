@@ -12,11 +12,11 @@ ghost use Rattle.extents.specs.Fields.{field_items, FieldsOf};
 use fonts::Fonts;
 use galley_file::character::Character;
 use galley_file::form::Form;
-use galley_file::item;
 use galley_file::item::Item;
+use galley_file::items::Items;
 use measure::{Quanta, Units};
 
-#[derive(Clone, Copy)]
+#[derive(Clone, Copy, PartialEq, Eq)]
 pub struct Extents {
     // The farthest x and the greatest height, and at least 0.
     pub x: Units,
@@ -28,11 +28,10 @@ pub struct Extents {
 pub fn none() -> Extents
     ensures { result ≡ no_extents }
 {
-    let fonts = fonts::none();
     Extents {
         x: Units(0),
         height: Quanta(0),
-        fonts: fonts,
+        fonts: fonts::none(),
     }
 }
 
@@ -41,13 +40,10 @@ pub fn with_character(e: Extents, c: Character) -> Extents
     requires { c.font < 120 }
     ensures { result ≡ with_character e c }
 {
-    let x = e.x.farther(c.x);
-    let height = e.height.higher(c.height);
-    let fonts = fonts::with_font(e.fonts, c.font);
     Extents {
-        x: x,
-        height: height,
-        fonts: fonts,
+        x: e.x.farther(c.x),
+        height: e.height.higher(c.height),
+        fonts: fonts::with_font(e.fonts, c.font),
     }
 }
 
@@ -67,12 +63,13 @@ pub fn with_fields(first: Extents, s: &[u8]) -> Extents
     requires { FieldsOf s.now }
     ensures { result ≡ with_characters first (characters_of (field_items s.now)) }
 {
+    let items = Items {
+        form: Form::New,
+        fields: s,
+    };
     let mut e = first;
-    let mut at: usize = 0;
-    while at < s.len() {
-        let i = item::item_at(Form::New, s, at);
-        e = with_item(e, i);
-        at += item::item_size(Form::New, i);
+    for item in items {
+        e = with_item(e, item);
     }
     e
 }

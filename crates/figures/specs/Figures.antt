@@ -8,8 +8,8 @@
 --     Figures                  what a tape gives: its number, its characters, its lead
 --     figures_of                those of a tape, read as with room enough
 --     sum64                    a sum in 64 bits
-use Rattle.std.specs.Prelude.{ℕ, ◌+◌, ◌%◌, ◌^◌, cond, List, [], ◌∷◌, ◌==◌}
-use Rattle.std.proofs.Math.Option.{Option, none, some}
+use Rattle.std.specs.Prelude.{ℕ, ◌+◌, ◌%◌, ◌^◌, cond, List, [], ◌∷◌, ◌==◌, Result as ResultOf, Ok, Err}
+use Rattle.octets.specs.declared.refusal.Reason.{Reason}
 use Rattle.octets.specs.Answer.{Result, refusal, written}
 use Rattle.galley_file.specs.declared.form.Form.TheVariants.{New}
 use Rattle.galley_file.specs.declared.character.Character.{Character}
@@ -22,10 +22,10 @@ use Rattle.typesetter.specs.declared.code.Instruction.TheVariants.{Flash, Rail, 
 use Rattle.typesetter.specs.declared.code.Code.{Code}
 use Rattle.typesetter.specs.declared.code.Code.TheVariants.{Ignored, Illegal, Initialize, Instructs}
 use Rattle.typesetter.specs.declared.machine.State.{State}
-use Rattle.typesetter.specs.declared.machine.Effect.TheVariants.{Moved, Flashed, PageEnded, Refused}
-use Rattle.typesetter.specs.Code.{code_of}
+use Rattle.typesetter.specs.declared.machine.Effect.TheVariants.{Moved, Flashed, PageEnded}
+use Rattle.typesetter.specs.Code.{machine_of, code_of}
 use Rattle.typesetter.specs.Machine.{start, byte_effect}
-use Rattle.tape.specs.Tape.{machine_of, tape_result}
+use Rattle.tape.specs.Tape.{tape_result}
 
 -- ---- the moves of a run
 
@@ -41,10 +41,10 @@ unfoldable pub moves : State → List ℕ → List Move
 moves s [] = []
 moves s (b ∷ bs) =
     elim (byte_effect s b) [
-      | Moved t ↦ taken s b ∷ moves t bs
-      | Flashed c ↦ moves s bs
-      | PageEnded t ↦ moves t bs
-      | Refused n ↦ []
+      | Ok (Moved t) ↦ taken s b ∷ moves t bs
+      | Ok (Flashed c) ↦ moves s bs
+      | Ok (PageEnded t) ↦ moves t bs
+      | Err r ↦ []
     ]
 
 unfoldable pub total : (Move → ℕ) → List Move → ℕ
@@ -102,11 +102,11 @@ abbrev pub accepted_with : List Character → List Move → Figures
 accepted_with cs xs = record { number = 0; characters = cs; forward = total forward_of xs; backward = total backward_of xs }
 
 -- the moves of a tape on a machine; without a machine there are none
-abbrev pub moves_on : Option Machine → List ℕ → List Move
-moves_on none tape = []
-moves_on (some kind) tape = moves (start kind) tape
+abbrev pub moves_on : ResultOf Machine Reason → List ℕ → List Move
+moves_on (Err reason) tape = []
+moves_on (Ok kind) tape = moves (start kind) tape
 
-abbrev pub figures_by : Option Machine → List ℕ → Result → Figures
+abbrev pub figures_by : ResultOf Machine Reason → List ℕ → Result → Figures
 figures_by kind tape (refusal n place) = refused_with n
 figures_by kind tape (written g) = accepted_with (characters_of (items_of New g)) (moves_on kind tape)
 

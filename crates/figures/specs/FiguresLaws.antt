@@ -4,10 +4,11 @@
 --     in_font_append, in_font_most      how many characters have a font number
 --     items_back                      the items of a tape, read back from its galley
 -- Assumes nothing.
-use Rattle.std.specs.Prelude.{◌≡◌, ℕ, ◌+◌, ◌<◌, ◌≤◌, Bool, true, false, cond, List, [], ◌∷◌, ◌++◌, length, ◌==◌, refl}
+use Rattle.std.specs.Prelude.{◌≡◌, ℕ, ◌+◌, ◌<◌, ◌≤◌, Bool, true, false, cond, List, [], ◌∷◌, ◌++◌, length, ◌==◌, refl, Result as ResultOf, Ok, Err}
+use Rattle.octets.specs.declared.refusal.Reason.{Reason}
+use Rattle.octets.specs.declared.refusal.Reason.TheVariants.{NoMachine}
 use Rattle.std.proofs.Math.Path.{ap}
 use Rattle.std.proofs.Common.{◌∙◌, arith, lt-ltb, le-ltb}
-use Rattle.std.proofs.Math.Option.{Option, none, some}
 use Rattle.octets.specs.Answer.{refusal, written, if_room, tape_too_long, after_cut, no_stop, no_galley_room, no_machine}
 use Rattle.octets.specs.AnswerLaws.{room_enough}
 use Rattle.galley_file.specs.declared.form.Form.TheVariants.{New}
@@ -18,9 +19,8 @@ use Rattle.galley_file.specs.Item.{characters_of}
 use Rattle.galley_file.specs.Galley.{galley, items_in, items_of}
 use Rattle.typesetter.specs.declared.code.Machine.{Machine}
 use Rattle.typesetter.specs.Machine.{start}
-use Rattle.tape.specs.declared.Ending.{Ending}
-use Rattle.tape.specs.declared.Ending.TheVariants.{Reached, Fault}
-use Rattle.tape.specs.Tape.{max_tape, run, closing, read_result, machine_of, on_machine, tape_result}
+use Rattle.typesetter.specs.Code.{machine_of}
+use Rattle.tape.specs.Tape.{Ending, max_tape, run, closing, read_result, on_machine, tape_result}
 use Rattle.tape.specs.TapeLaws.{items_on, items_read, items_fit}
 use Rattle.figures.specs.Figures.{moves, in_font, refused_with, accepted_with, figures_by, figures_of}
 use Rattle.figures.specs.Counting.{figures_at, figures_from}
@@ -51,33 +51,33 @@ module _ (tape : List ℕ) (machine : ℕ) where
   figures_long h = ap (λ (t : Bool). figures_by (machine_of machine) tape (cond t (refusal tape_too_long 0) (on_machine tape (max_galley New) (machine_of machine)))) (lt-ltb _ _ h)
 
   module _ (h : length tape ≤ max_tape) where
-    by_machine : {k : Option Machine} → machine_of machine ≡ k → figures_of tape machine ≡ figures_by k tape (on_machine tape (max_galley New) k)
+    by_machine : {k : ResultOf Machine Reason} → machine_of machine ≡ k → figures_of tape machine ≡ figures_by k tape (on_machine tape (max_galley New) k)
     unfolding figures_of tape_result
     by_machine e =
         ap (λ (t : Bool). figures_by (machine_of machine) tape (cond t (refusal tape_too_long 0) (on_machine tape (max_galley New) (machine_of machine)))) (le-ltb _ _ h)
-        ∙ ap (λ (k : Option Machine). figures_by k tape (on_machine tape (max_galley New) k)) e
+        ∙ ap (λ (k : ResultOf Machine Reason). figures_by k tape (on_machine tape (max_galley New) k)) e
 
-    pub figures_none : machine_of machine ≡ none → figures_of tape machine ≡ refused_with no_machine
+    pub figures_none : machine_of machine ≡ Err NoMachine → figures_of tape machine ≡ refused_with no_machine
     figures_none e = by_machine e
 
-    pub figures_on : (kind : Machine) → machine_of machine ≡ some kind → figures_of tape machine ≡ figures_from (start kind) tape
+    pub figures_on : (kind : Machine) → machine_of machine ≡ Ok kind → figures_of tape machine ≡ figures_from (start kind) tape
     unfolding read_result figures_from if_room
     figures_on kind e = by_machine e ∙ go (run (start kind) 0 tape).ending
       where
         is : List Item
         is = (run (start kind) 0 tape).items
 
-        stopped : figures_by (some kind) tape (if_room no_galley_room (max_galley New) (written (galley New is))) ≡ accepted_with (characters_of is) (moves (start kind) tape)
+        stopped : figures_by (Ok kind) tape (if_room no_galley_room (max_galley New) (written (galley New is))) ≡ accepted_with (characters_of is) (moves (start kind) tape)
         stopped =
-            ap (figures_by (some kind) tape) (room_enough no_galley_room (max_galley New) (galley New is) (items_fit kind tape h))
+            ap (figures_by (Ok kind) tape) (room_enough no_galley_room (max_galley New) (galley New is) (items_fit kind tape h))
             ∙ ap (λ (l : List Item). accepted_with (characters_of l) (moves (start kind) tape)) (items_back kind tape h)
 
-        closed : (t u : Bool) → figures_by (some kind) tape (if_room no_galley_room (max_galley New) (cond t (refusal after_cut (length tape)) (cond u (written (galley New is)) (refusal no_stop (length tape)))))
+        closed : (t u : Bool) → figures_by (Ok kind) tape (if_room no_galley_room (max_galley New) (cond t (refusal after_cut (length tape)) (cond u (written (galley New is)) (refusal no_stop (length tape)))))
             ≡ cond t (refused_with after_cut) (cond u (accepted_with (characters_of is) (moves (start kind) tape)) (refused_with no_stop))
         closed true u = refl
         closed false true = stopped
         closed false false = refl
 
-        go : (x : Ending) → figures_by (some kind) tape (if_room no_galley_room (max_galley New) (closing (length tape) is x)) ≡ figures_at is (moves (start kind) tape) x
-        go (Reached s) = closed s.cut s.stopped
-        go (Fault n p) = refl
+        go : (x : Ending) → figures_by (Ok kind) tape (if_room no_galley_room (max_galley New) (closing (length tape) is x)) ≡ figures_at is (moves (start kind) tape) x
+        go (Ok s) = closed s.cut s.stopped
+        go (Err r) = refl

@@ -1,4 +1,4 @@
-// A tape counted: its number, its characters by font number and its lead, by the machine's own rules. No galley is written.
+// A tape counted: whether it is accepted, its characters by font number and its lead, by the machine's own rules. No galley is written.
 #![tactic(auto)]
 
 ghost use Rattle.std.specs.Prelude.{◌≡◌, ◌<◌, ◌≤◌, length, replicate, slice_index, slice_set};
@@ -8,18 +8,16 @@ ghost use Rattle.tape.specs.Tape.{max_tape};
 ghost use Rattle.figures.specs.Figures.{taken, lead_in, forward_of, backward_of, figures_of, sum64};
 ghost use Rattle.figures.specs.Counting.{figures_from, tally_at, CountsOn, Tallied};
 
-use measure::Height;
-use octets::answer;
+use octets::refusal::Reason;
 use tape_quick::turn;
-use tape_stretch::derived;
+use tape_stretch::derived::Derived;
+use typesetter::code;
 use typesetter::code::Machine;
 use typesetter::machine::{Effect, State};
-use typesetter::{code, machine};
 
-// What counting a tape finds beside its characters: the number of its answer, and its lead if it is accepted.
-#[derive(Clone, Copy)]
-pub struct Tally {
-    pub number: u8,
+// How far the paper is led, in each direction.
+#[derive(Clone, Copy, PartialEq, Eq)]
+pub struct Lead {
     pub forward: u64,
     pub backward: u64,
 }
@@ -29,29 +27,7 @@ pub struct Tally {
 pub struct RunEnd {
     pub next: usize,
     pub state: State,
-    pub forward: u64,
-    pub backward: u64,
-}
-
-fn found(number: u8, forward: u64, backward: u64) -> Tally
-    ensures { result ≡ record { number = number; forward = forward; backward = backward } }
-{
-    Tally {
-        number: number,
-        forward: forward,
-        backward: backward,
-    }
-}
-
-fn run_end(next: usize, state: State, forward: u64, backward: u64) -> RunEnd
-    ensures { result ≡ record { next = next; state = state; forward = forward; backward = backward } }
-{
-    RunEnd {
-        next: next,
-        state: state,
-        forward: forward,
-        backward: backward,
-    }
+    pub lead: Lead,
 }
 
 // How far a code leads.
@@ -61,25 +37,18 @@ fn lead_by(b: u8) -> u8
     if b >> 5 == 3 { code::lead_size(b) } else { 0 }
 }
 
-// The lead of a code that moves the machine, forward.
-fn forward_by(s: State, b: u8) -> u64
-    ensures { result ≡ forward_of (taken s b) }
-{
-    if s.modes.lead_back {
-        0
-    } else {
-        lead_by(b) as u64
-    }
-}
-
-// And backward.
-fn backward_by(s: State, b: u8) -> u64
-    ensures { result ≡ backward_of (taken s b) }
-{
-    if s.modes.lead_back {
-        lead_by(b) as u64
-    } else {
-        0
+impl Lead {
+    // With the lead of a code that moves a machine in the state s.
+    fn after(self, s: State, b: u8) -> Lead
+        ensures forward { result.forward ≡ sum64 self.forward (forward_of (taken s b)) }
+        ensures backward { result.backward ≡ sum64 self.backward (backward_of (taken s b)) }
+    {
+        let by = lead_by(b) as u64;
+        let (forward, backward) = if s.modes.lead_back { (0, by) } else { (by, 0) };
+        Lead {
+            forward: self.forward.wrapping_add(forward),
+            backward: self.backward.wrapping_add(backward),
+        }
     }
 }
 
@@ -88,127 +57,100 @@ fn add_at(fonts: &mut [u64], font: usize, n: u64)
     requires { font < length fonts.old }
     ensures { fonts.new ≡ slice_set fonts.old font (sum64 (slice_index fonts.old font) n) }
 {
-    fonts[font] = std::num::wrapping_add_u64(fonts[font], n);
+    fonts[font] = fonts[font].wrapping_add(n);
 }
 
 // Counts from `from` on, after so much lead, up to a code that needs the whole step.
-fn quick_tally(
-    first: State,
-    tape: &[u8],
-    from: usize,
-    ahead: u64,
-    back: u64,
-    fonts: &mut [u64],
-) -> RunEnd
+fn quick_tally(first: State, tape: &[u8], from: usize, before: Lead, fonts: &mut [u64]) -> RunEnd
     requires { (Sound first) × (length fonts.old ≡ 120) }
-    ensures { CountsOn tape.now fonts.old first ahead back from fonts.new result.state result.forward result.backward result.next }
+    ensures { CountsOn tape.now fonts.old first before.forward before.backward from fonts.new result.state result.lead.forward result.lead.backward result.next }
 {
     let mut s = first;
-    let mut d = derived::derived_of(first);
-    let mut forward = ahead;
-    let mut backward = back;
+    let mut d = Derived::of(first);
+    let mut lead = before;
     let mut i = from;
-    while i < tape.len() {
+    // A turn stands in `tape_quick::quick_run` too: one function for both cost reading 6.6 percent (docs/DECISIONS.md, 85).
+    // It takes a stretch of codes, however many, so the place is no counter.
+    loop {
         let r = tape_stretch::count_stretch(s, d, tape, i, 0);
-        let place = r.carriage;
-        s.carriage = place;
+        s.carriage = r.carriage;
         add_at(fonts, d.font as usize, r.count as u64);
         i = r.next;
-        if i < tape.len() {
-            let b = tape[i];
-            if turn::takes_turn(s, b) {
-                let modes = turn::modes_after(s.modes, b);
-                let size = turn::size_after(s.size, b);
-                s.modes = modes;
-                s.size = size;
-                d = derived::derived_of(s);
-                i += 1;
-            } else {
-                match tape_quick::height_after(s, b) {
-                    Height::At(h) => {
-                        forward = std::num::wrapping_add_u64(forward, forward_by(s, b));
-                        backward = std::num::wrapping_add_u64(backward, backward_by(s, b));
-                        s.height = h;
-                        i += 1;
-                    }
-                    Height::Outside => {
-                        return run_end(i, s, forward, backward);
-                    }
-                }
-            }
+        let Some(&b) = tape.get(i) else {
+            break;
+        };
+        if turn::takes_turn(s, b) {
+            s.modes = turn::modes_after(s.modes, b);
+            s.size = turn::size_after(s.size, b);
+            d = Derived::of(s);
+        } else if let Some(height) = tape_quick::height_after(s, b) {
+            lead = lead.after(s, b);
+            s.height = height;
+        } else {
+            break;
         }
+        i += 1;
     }
-    run_end(i, s, forward, backward)
+    RunEnd {
+        next: i,
+        state: s,
+        lead,
+    }
 }
 
 // What a tape that ends in the state s is found to be.
-fn ended(s: State, forward: u64, backward: u64) -> Tally
-    ensures { result ≡ tally_at s forward backward }
+fn ended(s: State, lead: Lead) -> Result<Lead, Reason>
+    ensures { result ≡ tally_at s lead }
 {
     if s.cut {
-        return found(answer::AFTER_CUT, 0, 0);
+        Err(Reason::AfterCut)
+    } else if s.stopped {
+        Ok(lead)
+    } else {
+        Err(Reason::NoStop)
     }
-    if s.stopped {
-        return found(0, forward, backward);
-    }
-    found(answer::NO_STOP, 0, 0)
 }
 
 // Counts a tape within the limit, on a machine in the state `first`.
-fn tally_from(first: State, tape: &[u8], fonts: &mut [u64]) -> Tally
+fn tally_from(first: State, tape: &[u8], fonts: &mut [u64]) -> Result<Lead, Reason>
     requires { ((Sound first) × (length tape.now ≤ max_tape)) × (fonts.old ≡ replicate 120 0) }
     ensures { Tallied (figures_from first tape.now) result fonts.new }
 {
     let mut s = first;
-    let mut forward: u64 = 0;
-    let mut backward: u64 = 0;
+    let mut lead = Lead {
+        forward: 0,
+        backward: 0,
+    };
     let mut i: usize = 0;
-    while i < tape.len() {
-        let r = quick_tally(s, tape, i, forward, backward, fonts);
-        let reached = r.state;
-        s = reached;
-        forward = r.forward;
-        backward = r.backward;
+    // An index, and no iterator: a turn takes the codes of the quick ways, however many, and one more.
+    loop {
+        let r = quick_tally(s, tape, i, lead, fonts);
+        s = r.state;
+        lead = r.lead;
         i = r.next;
-        if i < tape.len() {
-            let b = tape[i];
-            match tape_step::step(s, b) {
-                Effect::Moved(next) => {
-                    forward = std::num::wrapping_add_u64(forward, forward_by(s, b));
-                    backward = std::num::wrapping_add_u64(backward, backward_by(s, b));
-                    s = next;
-                    i += 1;
-                }
-                Effect::Flashed(c) => {
-                    add_at(fonts, c.font as usize, 1);
-                    i += 1;
-                }
-                Effect::PageEnded(next) => {
-                    s = next;
-                    i += 1;
-                }
-                Effect::Refused(n) => {
-                    return found(n, 0, 0);
-                }
+        let Some(&b) = tape.get(i) else {
+            return ended(s, lead);
+        };
+        i += 1;
+        match tape_step::step(s, b)? {
+            Effect::Moved(next) => {
+                lead = lead.after(s, b);
+                s = next;
             }
+            Effect::Flashed(c) => add_at(fonts, c.font as usize, 1),
+            Effect::PageEnded(next) => s = next,
         }
     }
-    ended(s, forward, backward)
 }
 
-// Counts a tape of the machine with so many fonts.
-pub fn tally_tape(tape: &[u8], machine: u32, fonts: &mut [u64]) -> Tally
+// Counts a tape of the machine with so many fonts: its lead, and its characters of each font number, which mean something if it is accepted.
+pub fn tally_tape(tape: &[u8], machine: u32, fonts: &mut [u64]) -> Result<Lead, Reason>
     requires { fonts.old ≡ replicate 120 0 }
     ensures { Tallied (figures_of tape.now machine) result fonts.new }
 {
     if tape::MAX_TAPE < tape.len() {
-        return found(answer::TAPE_TOO_LONG, 0, 0);
+        return Err(Reason::TapeTooLong);
     }
-    if machine == 4 {
-        return tally_from(machine::at_start(Machine::Four), tape, fonts);
-    }
-    if machine == 8 {
-        return tally_from(machine::at_start(Machine::Eight), tape, fonts);
-    }
-    found(answer::NO_MACHINE, 0, 0)
+    let machine = Machine::try_from(machine)?;
+    tally_from(State::at_start(machine), tape, fonts)
 }

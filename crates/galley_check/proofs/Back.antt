@@ -2,7 +2,7 @@
 -- Assumes nothing.
 use mathlib.Core.Path.{◌≡◌, refl, sym, ap, subst, ◌∙◌}
 use mathlib.Core.Bool.{Bool, true, false, cond}
-use mathlib.Core.List.{List, [], ◌∷◌, ◌++◌, append_assoc}
+use mathlib.Core.List.{List, [], ◌∷◌, ◌++◌}
 use Prim.Native.Nat.{ℕ, zero, suc, ◌+◌, ◌*◌, ◌<◌, ◌≤◌}
 use native.Mathlib.Nat.{suc-ne-zero}
 use native.Mathlib.Omega.{arith}
@@ -20,12 +20,12 @@ use Rattle.galley_file.specs.declared.form.Form.TheVariants.{New}
 use Rattle.galley_file.specs.Form.{greatest_height, max_galley}
 use Rattle.galley_file.specs.Character.{valid, character_at}
 use Rattle.galley_file.specs.CharacterLaws.{height_number}
-use Rattle.galley_file.specs.Item.{item_at, item_size, WholeAt, tally, characters_of, cuts_of}
+use Rattle.galley_file.specs.Item.{item_at, tally, characters_of, cuts_of}
 use Rattle.galley_file.specs.ItemLaws.{characters_append, count_item}
-use Rattle.galley_file.specs.Galley.{max_items, Reading, whole, malformed, read_galley}
-use Rattle.galley_file.specs.GalleyLaws.{checked, length_fields}
+use Rattle.galley_file.specs.Galley.{max_items, Reading, whole, malformed, read_galley, items_of}
+use Rattle.galley_file.specs.GalleyLaws.{checked, read_as, length_fields}
 use Rattle.galley_file.specs.ReadingLaws.{reading_length}
-use Rattle.galley_file.specs.Walk.{Walk, walk_start, walk_step, Midway, midway_start, midway_end, Onward, midway_next, midway_whole}
+use Rattle.galley_file.specs.Walk.{Walk, walk_start, walk_step}
 use Rattle.galley_file.specs.Outcome.{count_outcome, check_outcome}
 use Rattle.galley_check.specs.Found.{found, not_found, pick_found, read_back_outcome, zeros}
 
@@ -49,6 +49,11 @@ module _ (g : List ℕ) (n : ℕ) (is : List Item) (fits : length g ≤ max_gall
   unfolding read_back_outcome
   missing h = rw (le-ltb _ _ fits, read, le-ltb _ _ h)
 
+-- an accepted galley's characters decide
+pub back_accepted : (g : List ℕ) (n count : ℕ) → accepted count ≡ check_outcome New g → read_back_outcome g n ≡ pick_found n (whole (items_of New g))
+unfolding read_back_outcome
+back_accepted g n count e = rw (le-ltb _ _ (checked New g count e).fits, read_as New g count e)
+
 pub back_none : (g : List ℕ) (n count : ℕ) → accepted count ≡ check_outcome New g → count ≤ n → not_found no_character 0 ≡ read_back_outcome g n
 back_none g n count e h = let c = checked New g count e in missing g n c.items c.fits c.read (omega (arith, c.counted))
 
@@ -59,21 +64,6 @@ back_few g count e =
     let c = checked New g count e in
     omega (arith, reading_length New c.items max_items g 0 0 c.read, length_fields New c.items, c.counted, c.fits)
 
--- some items are passed, `left` characters before character n, and the next field starts at `at`
-pub record Passing (g : List ℕ) (n left at : ℕ) : Type 0 where
-  pub items : List Item
-  pub done : List Item
-  pub fits : length g ≤ max_galley New
-  pub read : read_galley New g ≡ whole items
-  pub midway : Midway New g items done at
-  pub passed : length (characters_of done) + left ≡ n
-
-pub passing_start : (g : List ℕ) (n count : ℕ) → accepted count ≡ check_outcome New g → Passing g n n 0
-unfolding characters_of
-passing_start g n count e =
-    let c = checked New g count e in
-    record { items = c.items; done = []; fits = c.fits; read = c.read; midway = midway_start New g c.items c.read; passed = omega arith }
-
 -- the element after a list
 get_d_at : (cs : List Character) (c : Character) (ds : List Character) (n : ℕ) → length cs ≡ n → get_or (cs ++ (c ∷ ds)) n zeros ≡ c
 get_d_at [] c ds zero e = refl
@@ -81,48 +71,30 @@ get_d_at [] c ds (suc n) e = absurd (omega arith)
 get_d_at (d ∷ cs) c ds zero e = absurd (omega arith)
 get_d_at (d ∷ cs) c ds (suc n) e = get_d_at cs c ds n (omega arith)
 
-module _ (g : List ℕ) (n left at : ℕ) (p : Passing g n left at) where
-  pub passing_whole : at + 7 < length g → WholeAt New g at
-  passing_whole h = midway_whole New g p.items p.done at p.midway h
+-- character n of the items is this turn's
+pub pick_turn : (all done rest : List Item) (c : Character) (n : ℕ) → all ≡ done ++ (Placed c ∷ rest) → length (characters_of done) ≡ n → found c ≡ pick_found n (whole all)
+unfolding characters_of
+pick_turn all done rest c n a k =
+    let cs = characters_of done in
+    let r = characters_of rest in
+    let q : characters_of all ≡ cs ++ (c ∷ r) = ap characters_of a ∙ characters_append done (Placed c ∷ rest) in
+    let is-there : get_or (characters_of all) n zeros ≡ c = ap (λ (l : List Character). get_or l n zeros) q ∙ get_d_at cs c r n k in
+    let room : n < length (characters_of all) = omega (arith, k, ap length q, length-append cs (c ∷ r)) in
+    ap found (sym is-there) ∙ rw (lt-ltb _ _ room)
 
-  -- there is no character n
-  pub passing_none : length g ≤ at + 7 → not_found no_character 0 ≡ read_back_outcome g n
-  passing_none h =
-      let e = midway_end New g p.items p.done at p.midway h in
-      missing g n p.items p.fits p.read (omega (arith, p.passed, ap (λ (l : List Item). length (characters_of l)) e))
+-- there is none
+pub pick_none : (all : List Item) (n : ℕ) → length (characters_of all) ≤ n → not_found no_character 0 ≡ pick_found n (whole all)
+pick_none all n h = rw (le-ltb _ _ h)
 
-  -- the item i is there
-  module _ (h : at + 7 < length g) (i : Item) (e : item_at New g at ≡ i) where
-    there : Midway New g p.items (p.done ++ (i ∷ [])) (at + item_size New i)
-    there = (subst (Onward New g p.items p.done at) e (midway_next New g p.items p.done at p.midway h)).next
+-- the characters of the items gone by, with this turn's
+pub counted_more : (done : List Item) (i : Item) → length (characters_of (done ++ (i ∷ []))) ≡ length (characters_of done) + tally i
+unfolding characters_of
+counted_more done i = omega (arith, ap length (characters_append done (i ∷ [])), length-append (characters_of done) (characters_of (i ∷ [])), count_item i [])
 
-    pub passing_next : (later : ℕ) → later + tally i ≡ left → Passing g n later (at + item_size New i)
-    unfolding characters_of
-    passing_next later l =
-        let d = p.done in
-        record {
-          items = p.items;
-          done = d ++ (i ∷ []);
-          fits = p.fits;
-          read = p.read;
-          midway = there;
-          passed = omega (arith, p.passed, ap length (characters_append d (i ∷ [])), length-append (characters_of d) (characters_of (i ∷ [])), count_item i []);
-        }
-
-  -- character n is there
-  pub passing_found : at + 7 < length g → (c : Character) → item_at New g at ≡ Placed c → left ≡ 0 → found c ≡ read_back_outcome g n
-  unfolding characters_of
-  passing_found h c e l =
-      let m = there h (Placed c) e in
-      let d = p.done in
-      let cs = characters_of d in
-      let r = characters_of m.rest in
-      let all : characters_of p.items ≡ cs ++ (c ∷ r) =
-      ap characters_of (m.all ∙ append_assoc d (Placed c ∷ []) m.rest) ∙ characters_append d (Placed c ∷ m.rest) in
-      let k : length cs ≡ n = omega (arith, p.passed) in
-      let is-there : get_or (characters_of p.items) n zeros ≡ c = ap (λ (l : List Character). get_or l n zeros) all ∙ get_d_at cs c r n k in
-      let room : n < length (characters_of p.items) = omega (arith, k, ap length all, length-append cs (c ∷ r)) in
-      ap found (sym is-there) ∙ picked g n p.items p.fits p.read room
+-- an item that is no character counts 0
+pub tally_cut : (i : Item) → ((c : Character) → i ≡ Placed c → ⊥) → tally i ≡ 0
+tally_cut (Placed c) h = absurd (h c refl)
+tally_cut Cut h = refl
 
 -- ---- a galley without cuts: character n stands at byte 11 n
 

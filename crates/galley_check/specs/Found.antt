@@ -1,12 +1,12 @@
 -- What reading a character back answers (document 01, "Numbers given back").
-use Rattle.std.specs.Prelude.{ℕ, cond, List, ltb, pos, length, get_or}
-use Rattle.octets.specs.Answer.{Outcome, accepted, refused, no_character, galley_too_long, galley_malformed}
+use Rattle.std.specs.Prelude.{ℕ, cond, List, ltb, pos, length, get_or, Result, Ok, Err}
+use Rattle.octets.specs.Answer.{Outcome, accepted, refused, no_character, galley_too_long, galley_malformed, number_in}
+use Rattle.octets.specs.declared.refusal.Refusal.{Refusal}
 use Rattle.galley_file.specs.declared.character.Character.{Character}
 use Rattle.galley_file.specs.declared.form.Form.TheVariants.{New}
 use Rattle.galley_file.specs.Form.{max_galley}
 use Rattle.galley_file.specs.Item.{characters_of}
 use Rattle.galley_file.specs.Galley.{Reading, whole, malformed, read_galley}
-use Rattle.galley_check.specs.declared.Found.{Found}
 
 -- What reading back gives: a character, or a refusal's number and place
 pub data FoundOutcome : Type 0 where
@@ -27,9 +27,9 @@ character_of_found (found c) = c
 character_of_found (not_found number place) = zeros
 
 -- the outcome that each case of the answer stands for
-abbrev pub found_of : Found → FoundOutcome
-found_of (Found.Placed c) = found c
-found_of (Found.Refused number place) = not_found number place
+abbrev pub found_of : Result Character Refusal → FoundOutcome
+found_of (Ok c) = found c
+found_of (Err r) = not_found (number_in r.reason) r.place
 
 -- character n of a galley that was read, cuts not counted: 41, then 11
 abbrev pub pick_found : ℕ → Reading → FoundOutcome

@@ -5,3 +5,5 @@ pub mod ResultLaws
 pub mod Found
 pub mod Low
 pub mod LowLaws
+pub mod Accepted
+pub mod Galley

@@ -2,7 +2,7 @@
 #![tactic(auto)]
 
 ghost use Rattle.std.specs.Prelude.{◌≡◌, ◌+◌, ◌*◌, ◌≤◌, length};
-ghost use Rattle.octets.specs.Answer.{accepted, outcome_of};
+ghost use Rattle.octets.specs.Answer.{outcome_of};
 ghost use Rattle.galley_file.specs.declared.form.Form.TheVariants.{New};
 ghost use Rattle.galley_file.specs.Form.{max_galley};
 ghost use Rattle.galley_file.specs.Galley.{reading, read_end, leading};
@@ -11,19 +11,14 @@ ghost use Rattle.galley_file.specs.Outcome.{count_outcome, check_outcome};
 ghost use Rattle.galley_check.specs.Found.{found_of, read_back_outcome};
 ghost use Rattle.galley_check.specs.Low.{low_outcome};
 
+pub mod galley;
+
+use galley::{CheckedGalley, LowGalley};
 use galley_file::character::Character;
 use galley_file::form::Form;
-use galley_file::item::Item;
 use galley_file::{character, form, item};
-use octets::answer::Answer;
-use octets::{answer, field};
-
-// What reading back answers: the character, or a refusal's number and place.
-#[derive(Clone, Copy)]
-pub enum Found {
-    Placed(Character),
-    Refused(u8, usize),
-}
+use octets::field;
+use octets::refusal::{Answer, Reason, Refusal};
 
 // A galley has at most 1,024 runs of 1,024 items.
 const RUN: usize = 1_024;
@@ -76,11 +71,11 @@ fn check_end(s: &[u8], at: usize, count: usize) -> Answer
 {
     if field::starts_end(s, count) {
         if s.len() == field::END_FIELD {
-            return Answer::Accepted(count);
+            return Ok(count);
         }
-        return Answer::Refused(answer::GALLEY_MALFORMED, at + field::END_FIELD);
+        return Err(Reason::GalleyMalformed.at(at + field::END_FIELD));
     }
-    Answer::Refused(answer::GALLEY_MALFORMED, at)
+    Err(Reason::GalleyMalformed.at(at))
 }
 
 // Checks the run of fields s, which starts at `at`, follows `count` characters and may have as many runs of RUN items. Such runs
@@ -106,7 +101,7 @@ pub fn check_form(f: Form, g: &[u8]) -> Answer
     ensures { outcome_of result ≡ check_outcome f g.now }
 {
     if form::max_galley(f) < g.len() {
-        return Answer::Refused(answer::GALLEY_TOO_LONG, 0);
+        return Err(Reason::GalleyTooLong.at(0));
     }
     check_fields(f, g, 0, 0, RUNS)
 }
@@ -118,73 +113,24 @@ pub fn check_galley(g: &[u8]) -> Answer
     check_form(Form::New, g)
 }
 
-// Checks the heights of a checked galley: a DVI file must hold them.
-fn check_heights(g: &[u8], count: usize) -> Answer
-    requires { accepted count ≡ check_outcome New g.now }
-    ensures { outcome_of result ≡ low_outcome g.now }
-{
-    let mut at: usize = 0;
-    while at + field::END_FIELD < g.len() {
-        let i = item::item_at(Form::New, g, at);
-        if !item::is_low(i) {
-            return Answer::Refused(answer::HEIGHT_TOO_GREAT, at);
-        }
-        at += item::item_size(Form::New, i);
-    }
-    Answer::Accepted(count)
-}
-
 // The number of characters of the galley g, or the refusal of a galley that is too long, malformed or too high for a DVI file.
 pub fn check_low(g: &[u8]) -> Answer
     ensures { outcome_of result ≡ low_outcome g.now }
 {
-    let checked = check_galley(g);
-    match checked {
-        Answer::Refused(number, place) => Answer::Refused(number, place),
-        Answer::Accepted(count) => check_heights(g, count),
-    }
-}
-
-// Character n of a checked galley, field by field.
-fn find_character(g: &[u8], count: usize, n: usize) -> Found
-    requires { accepted count ≡ check_outcome New g.now }
-    ensures { found_of result ≡ read_back_outcome g.now n }
-{
-    let mut left = n;
-    let mut at: usize = 0;
-    while at + field::END_FIELD < g.len() {
-        match item::item_at(Form::New, g, at) {
-            Item::Cut => {
-                at += item::CUT_FIELD;
-            }
-            Item::Placed(c) => {
-                if left == 0 {
-                    return Found::Placed(c);
-                }
-                left -= 1;
-                at += form::NEW_FIELD;
-            }
-        }
-    }
-    Found::Refused(answer::NO_CHARACTER, 0)
+    Ok(LowGalley::of(g)?.count)
 }
 
 // Character n of the galley g, counted from 0.
-pub fn read_back(g: &[u8], n: usize) -> Found
+pub fn read_back(g: &[u8], n: usize) -> Result<Character, Refusal>
     ensures { found_of result ≡ read_back_outcome g.now n }
 {
-    let checked = check_galley(g);
-    match checked {
-        Answer::Refused(number, place) => Found::Refused(number, place),
-        Answer::Accepted(count) => {
-            if count <= n {
-                return Found::Refused(answer::NO_CHARACTER, 0);
-            }
-            // Without cuts each character has its place.
-            if g.len() == form::NEW_FIELD * count + field::END_FIELD {
-                return Found::Placed(character::character_at(Form::New, g, n * form::NEW_FIELD));
-            }
-            find_character(g, count, n)
-        }
+    let galley = CheckedGalley::of(g)?;
+    if galley.count <= n {
+        return Err(Reason::NoCharacter.at(0));
     }
+    // Without cuts each character has its place.
+    if g.len() == form::NEW_FIELD * galley.count + field::END_FIELD {
+        return Ok(character::character_at(Form::New, g, n * form::NEW_FIELD));
+    }
+    galley.character(n)
 }

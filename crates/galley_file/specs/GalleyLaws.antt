@@ -24,7 +24,7 @@ use Rattle.galley_file.specs.Item.{field_of_cut, valid_item, item_field, charact
 use Rattle.galley_file.specs.ItemLaws.{length_item_field, all_counted}
 use Rattle.galley_file.specs.Galley.{max_items, AllValid, nil, more, fields, galley, Reading, whole, malformed, read_galley, items_in, items_of}
 use Rattle.galley_file.specs.Outcome.{count_outcome, check_outcome}
-use Rattle.galley_file.specs.ReadingLaws.{reading_few, reading_valid, accept, last, decoded}
+use Rattle.galley_file.specs.ReadingLaws.{reading_few, reading_valid, accept, decoded}
 
 -- ---- the check
 

@@ -12,3 +12,7 @@ pub mod ReadingLaws
 pub mod GalleyLaws
 pub mod Walk
 pub mod Faults
+pub mod Fields
+pub mod FieldsLaws
+pub mod Items
+pub mod ItemsLaws

@@ -44,6 +44,5 @@ pub fn is_double(index: u8) -> bool
 pub fn point_size(number: u8) -> u8
     ensures { result ≡ point_size number }
 {
-    let i = size_index(number) as usize;
-    POINT_SIZES[i]
+    POINT_SIZES[size_index(number) as usize]
 }

@@ -6,7 +6,7 @@ use crate::item;
 use measure::Quanta;
 use octets::field;
 
-#[derive(Clone, Copy)]
+#[derive(Clone, Copy, PartialEq, Eq)]
 pub enum Form {
     // Tag 1, with a height of two bytes.
     Old,

@@ -8,7 +8,7 @@ use crate::form::Form;
 use crate::{character, form};
 use octets::field;
 
-#[derive(Clone, Copy)]
+#[derive(Clone, Copy, PartialEq, Eq)]
 pub enum Item {
     Placed(Character),
     Cut,
@@ -47,9 +47,10 @@ pub fn item_at(f: Form, s: &[u8], at: usize) -> Item
     ensures { result ≡ item_at f s.now at }
 {
     if s[at] == CUT_TAG {
-        return Item::Cut;
+        Item::Cut
+    } else {
+        Item::Placed(character::character_at(f, s, at))
     }
-    Item::Placed(character::character_at(f, s, at))
 }
 
 // Whether a DVI file holds an item's height. A cut has none.

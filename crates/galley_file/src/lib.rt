@@ -5,3 +5,4 @@ pub mod character;
 pub mod font;
 pub mod form;
 pub mod item;
+pub mod items;

@@ -3,25 +3,24 @@
 --     here_outcome      the item whose whole field starts at a place, else 41 there, at End too
 --     outcome_of_here    its three numbers: the length is that of the field
 --     character_numbers, here_numbers    what is told of the item, as numbers
-use Rattle.std.specs.Prelude.{ℕ, List, [], ◌∷◌, ℤ, pos, drop}
+use Rattle.std.specs.Prelude.{ℕ, List, [], ◌∷◌, ℤ, pos, drop, Result, Ok, Err}
 use Rattle.std.proofs.Math.Option.{Option, none, some}
-use Rattle.octets.specs.Answer.{Outcome, accepted, refused, galley_malformed}
+use Rattle.octets.specs.Answer.{Outcome, accepted, refused, galley_malformed, number_in}
+use Rattle.octets.specs.declared.refusal.Refusal.{Refusal}
 use Rattle.galley_file.specs.declared.character.Character.{Character}
 use Rattle.galley_file.specs.declared.form.Form.TheVariants.{New}
 use Rattle.galley_file.specs.declared.item.Item.{Item}
 use Rattle.galley_file.specs.declared.item.Item.TheVariants.{Placed, Cut}
 use Rattle.galley_file.specs.Item.{item_size, next_item}
-use Rattle.galley_items.specs.declared.Here.{Here}
-use Rattle.galley_items.specs.declared.Here.TheVariants.{Is, Refused}
 
 pub data HereOutcome : Type 0 where
   is_item : Item → HereOutcome
   no_item : ℕ → ℕ → HereOutcome
 
 -- the outcome that each case of the answer stands for
-abbrev pub here_of : Here → HereOutcome
-here_of (Is i) = is_item i
-here_of (Refused number place) = no_item number place
+abbrev pub here_of : Result Item Refusal → HereOutcome
+here_of (Ok i) = is_item i
+here_of (Err r) = no_item (number_in r.reason) r.place
 
 abbrev pub or_malformed : ℕ → Option Item → HereOutcome
 or_malformed at none = no_item galley_malformed at

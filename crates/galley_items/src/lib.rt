@@ -7,28 +7,21 @@ ghost use Rattle.galley_items.specs.Here.{here_of, here_outcome};
 use galley_file::form::Form;
 use galley_file::item::Item;
 use galley_file::{character, item};
-use octets::answer;
-
-// What stands at a place: an item, or a refusal's number and place.
-#[derive(Clone, Copy)]
-pub enum Here {
-    Is(Item),
-    Refused(u8, usize),
-}
+use octets::refusal::{Reason, Refusal};
 
 // The item whose whole field starts at a place of the galley g.
-pub fn item_at(g: &[u8], at: usize) -> Here
+pub fn item_at(g: &[u8], at: usize) -> Result<Item, Refusal>
     ensures { here_of result ≡ here_outcome g.now at }
 {
     if g.len() < at {
-        return Here::Refused(answer::GALLEY_MALFORMED, at);
+        return Err(Reason::GalleyMalformed.at(at));
     }
     let s = &g[at..];
     if character::is_character(Form::New, s) {
-        return Here::Is(Item::Placed(character::character_at(Form::New, s, 0)));
+        return Ok(Item::Placed(character::character_at(Form::New, s, 0)));
     }
     if item::is_cut(s) {
-        return Here::Is(Item::Cut);
+        return Ok(Item::Cut);
     }
-    Here::Refused(answer::GALLEY_MALFORMED, at)
+    Err(Reason::GalleyMalformed.at(at))
 }

@@ -1,11 +1,11 @@
 -- How the bits of a signed local read. It holds bits, so a need speaks of `to_z w (of_z w z)`. Take that away first:
---         rw (plain c.fits.a, ..) t             a parameter; of a struct's field, `let f : SFits w32 (c .. .self .0) = search needs in`
+--         rw (plain c.ranges.a, ..) t           a parameter; of a struct's field, `let f : SFits w32 c.args.self.0 = search rules in`
 --         rw (plain fits-of-the-result, ..)         a sum that the function made; state that it fits once, as a lemma over the place's record
---         returned w32 c.f.ok c.f.ensures   a call's result. Do not rewrite by `c.f.ensures` itself: `c` depends on the result
+--         returned w32 c.f.type_inv c.f.ensures   a call's result. Do not rewrite by `c.f.ensures` itself: `c` depends on the result
 --         plain_pos                                 an unsigned number cast to a signed type
 --         widened, widened_sum, wide, sum_fits      `a as i64`, and `a as i64 + b as i64`; widened_dif, dif_fits with `-`
 --         same_bits                                 a test `a == b`, which speaks of bits
---         rw (..) at c.if1.taken                the outcome of a test, in the numbers themselves; then list it for omega
+--         rw (..) at c.if-a-b.true              the outcome of a test, in the numbers themselves; then list it for omega
 -- Assumes nothing.
 use Rattle.std.specs.Prelude.{◌≡◌, ℕ, ◌+◌, ◌-◌, ◌^◌, ◌<◌, ℤ, pos, ◌+ℤ◌, ◌-ℤ◌}
 use Rattle.std.proofs.Common.{sym, ap, ◌∙◌, lit<, lt_trans}
@@ -18,7 +18,7 @@ use Rattle.integers.specs.Parts.{sum_parts, dif_parts, bounds, integers}
 pub plain : {w : Width} {z : ℤ} → SFits w z → to_z w (of_z w z) ≡ z
 plain {w} {z} f = to_z-of_z w z f
 
--- of a call's result: `returned w32 c.f.ok c.f.ensures`
+-- of a call's result: `returned w32 c.f.type_inv c.f.ensures`
 pub returned : (w : Width) {z y : ℤ} → mag z < 2 ^ hbits w → z ≡ y → to_z w (of_z w z) ≡ y
 returned w {z} {y} h e = to_z-of_z w z (record { sfits = h }) ∙ e
 

@@ -1,1 +1,2 @@
+mod Max
 pub mod TargetLaws

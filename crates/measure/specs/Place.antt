@@ -1,14 +1,13 @@
 -- Moves of the carriage and of the height (document 01, "Tape codes"; document 02, "Longer columns"): a move ends at a place in its range, or outside it.
 --     directed_by      a distance, negative where it goes backward
---     carriage_at      where the carriage stands: 0 to 3,239, or outside
---     height_at        the height: 0 to 1,000,000, or outside
+--     carriage_at      where the carriage stands: 0 to 3,239, or none, outside
+--     height_at        the height: 0 to 1,000,000, or none, outside
+--     reached          where a move ends in a range, or none, outside
 --     low_end          the greatest height that a DVI file holds
-use Rattle.std.specs.Prelude.{Bool, true, false, cond, ◌&&◌, ℕ, ℤ, pos, neg_ℤ}
+use Rattle.std.specs.Prelude.{Bool, true, false, cond, ◌&&◌, ℕ, ℤ, pos, neg_ℤ, Option, Some, None}
 use Rattle.std.specs.Int.Signed.{le_z}
-use Rattle.measure.specs.declared.Carriage as C
-use Rattle.measure.specs.declared.Carriage.TheVariants as CV
-use Rattle.measure.specs.declared.Height as H
-use Rattle.measure.specs.declared.Height.TheVariants as HV
+use Rattle.measure.specs.declared.Units.{Units}
+use Rattle.measure.specs.declared.Quanta.{Quanta}
 
 -- the last place of the carriage, and the greatest height
 abbrev pub carriage_end : ℤ
@@ -29,8 +28,12 @@ directed_by false n = pos n
 abbrev pub within : ℤ → ℤ → Bool
 within top z = le_z (pos 0) z && le_z z top
 
-unfoldable pub carriage_at : ℤ → C.Carriage
-carriage_at z = cond (within carriage_end z) (CV.At (record { 0 = z })) CV.Outside
+-- z, if it is in 0 to top
+unfoldable pub reached : ℤ → ℤ → Option ℤ
+reached top z = cond (within top z) (Some z) None
 
-unfoldable pub height_at : ℤ → H.Height
-height_at z = cond (within height_end z) (HV.At (record { 0 = z })) HV.Outside
+unfoldable pub carriage_at : ℤ → Option Units
+carriage_at z = cond (within carriage_end z) (Some (record { 0 = z })) None
+
+unfoldable pub height_at : ℤ → Option Quanta
+height_at z = cond (within height_end z) (Some (record { 0 = z })) None

@@ -5,9 +5,10 @@
 --     buffer_after       the lent buffer after a result
 --     if_room      a result for a buffer of so many bytes: room comes last
 --     Gives       what an operation that fills a buffer promises: outcome and buffer are its result's
-use Rattle.std.specs.Prelude.{ℕ, ◌≡◌, cond, List, [], ◌∷◌, ◌++◌, ltb, length, drop}
-use Rattle.octets.specs.declared.answer.Answer.{Answer}
-use Rattle.octets.specs.declared.answer.Answer.TheVariants.{Accepted, Refused}
+use Rattle.std.specs.Prelude.{ℕ, ◌≡◌, cond, List, [], ◌∷◌, ◌++◌, ltb, length, drop, Result as ResultOf, Ok, Err}
+use Rattle.octets.specs.declared.refusal.Refusal.{Refusal}
+use Rattle.octets.specs.declared.refusal.Reason.{Reason}
+use Rattle.octets.specs.declared.refusal.Reason.TheVariants.{TapeTooLong, IllegalCode, NotInitialized, AfterStop, Parked, NoSize, OutOfRange, AboveHalf, NoStop, AfterCut, NoCharacter, NoGalleyRoom, NotStarted, FileTooLong, BadCommand, DviEndsEarly, WrongOffset, StackFull, StackEmpty, EntriesLeft, CannotSet, OutOf32Bits, BadPostamble, NoSheetRoom, WidthsNotWhole, GalleyTooLong, GalleyMalformed, NoDviRoom, HeightTooGreat, NoConvertedRoom, NoGalley, NotOurs, ReportFull, PunchedTooLong, NoTapeRoom, NoMachine, OutsidePart, ReservedCode, CodeCutShort, NegativeWidth}
 
 -- ---- the numbers of the refusals
 
@@ -132,6 +133,49 @@ code_cut_short = 62
 abbrev pub negative_width : ℕ
 negative_width = 63
 
+-- the number of each reason
+abbrev pub number_in : Reason → ℕ
+number_in TapeTooLong = tape_too_long
+number_in IllegalCode = illegal_code
+number_in NotInitialized = not_initialized
+number_in AfterStop = after_stop
+number_in Parked = still_parked
+number_in NoSize = no_size
+number_in OutOfRange = out_of_range
+number_in AboveHalf = above_half
+number_in NoStop = no_stop
+number_in AfterCut = after_cut
+number_in NoCharacter = no_character
+number_in NoGalleyRoom = no_galley_room
+number_in NotStarted = not_started
+number_in FileTooLong = file_too_long
+number_in BadCommand = bad_command
+number_in DviEndsEarly = dvi_ends_early
+number_in WrongOffset = wrong_offset
+number_in StackFull = stack_full
+number_in StackEmpty = stack_empty
+number_in EntriesLeft = entries_left
+number_in CannotSet = cannot_set
+number_in OutOf32Bits = out_of32_bits
+number_in BadPostamble = bad_postamble
+number_in NoSheetRoom = no_sheet_room
+number_in WidthsNotWhole = widths_not_whole
+number_in GalleyTooLong = galley_too_long
+number_in GalleyMalformed = galley_malformed
+number_in NoDviRoom = no_dvi_room
+number_in HeightTooGreat = height_too_great
+number_in NoConvertedRoom = no_converted_room
+number_in NoGalley = no_galley
+number_in NotOurs = not_ours
+number_in ReportFull = report_full
+number_in PunchedTooLong = punched_too_long
+number_in NoTapeRoom = no_tape_room
+number_in NoMachine = no_machine
+number_in OutsidePart = outside_part
+number_in ReservedCode = reserved_code
+number_in CodeCutShort = code_cut_short
+number_in NegativeWidth = negative_width
+
 -- ---- outcomes
 
 pub data Outcome : Type 0 where
@@ -156,9 +200,9 @@ abbrev pub numbers_of : Outcome → List ℕ
 numbers_of o = number_of o ∷ place_of o ∷ length_of o ∷ []
 
 -- the outcome that each case of an answer stands for
-abbrev pub outcome_of : Answer → Outcome
-outcome_of (Accepted n) = accepted n
-outcome_of (Refused number place) = refused number place
+abbrev pub outcome_of : ResultOf ℕ Refusal → Outcome
+outcome_of (Ok n) = accepted n
+outcome_of (Err r) = refused (number_in r.reason) r.place
 
 -- ---- results
 

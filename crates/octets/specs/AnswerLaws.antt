@@ -1,9 +1,12 @@
--- Room comes last: the laws of `if_room`. What a call gives, once its result is known.
+-- Room comes last: the laws of `if_room`. What a call gives, once its result is known. A refusal that `?` hands on.
 -- Assumes nothing.
-use Rattle.std.specs.Prelude.{◌≡◌, Bool, true, false, cond, List, ℕ, ◌≤◌, ◌<◌, ltb, length}
+use Rattle.std.specs.Prelude.{◌≡◌, Bool, true, false, cond, List, ℕ, ◌≤◌, ◌<◌, ltb, length, Result as ResultOf, Err}
+use Rattle.std.specs.Result.{IsErrAnd}
+use Rattle.std.proofs.lemmas.Result.{err_from_is_err_and}
 use Rattle.std.proofs.Math.Path.{refl}
 use Rattle.std.proofs.Common.{sym, ap, ◌∙◌, suc-ne-zero, arith, lt-ltb, le-ltb, ltb-true, ltb-false}
-use Rattle.octets.specs.Answer.{Outcome, accepted, refused, Result, refusal, written, numbers_of, outcome, buffer_after, if_room, Gives, GivesNumbers}
+use Rattle.octets.specs.declared.refusal.Refusal.{Refusal}
+use Rattle.octets.specs.Answer.{Outcome, outcome_of, accepted, refused, Result, refusal, written, numbers_of, outcome, buffer_after, if_room, Gives, GivesNumbers}
 
 module _ (number room : ℕ) where
   pub room_refused : (n place : ℕ) → if_room number room (refusal n place) ≡ refusal n place
@@ -66,3 +69,12 @@ gives_same q g = gives q g.outcome_is g.buffer_is
 
 pub gives_numbers : {result : ℕ → Result} {given : Outcome} {numbers buffer later : List ℕ} → numbers ≡ numbers_of given → Gives given result buffer later → GivesNumbers numbers result buffer later
 gives_numbers q g = record { numbers_are = q ∙ ap numbers_of g.outcome_is; buffer_is = g.buffer_is }
+
+-- what is given of an answer is given of an equal one
+pub gives_answer : {a b : ResultOf ℕ Refusal} {result : ℕ → Result} {buffer later : List ℕ} → a ≡ b → Gives (outcome_of b) result buffer later → Gives (outcome_of a) result buffer later
+gives_answer e g = record { outcome_is = ap outcome_of e ∙ g.outcome_is; buffer_is = g.buffer_is }
+
+-- ---- what `?` hands on
+
+pub handed_on : {T E : Type 0} {r x : ResultOf T E} {k : E} → IsErrAnd r (λ (e : E). e ≡ k) → x ≡ Err k → r ≡ x
+handed_on {r = r} h e = let p = err_from_is_err_and r h in p.1 ∙ ap Err p.2 ∙ sym e

@@ -3,6 +3,7 @@ pub mod Octets
 pub mod OctetsLaws
 pub mod WordLaws
 pub mod Write
+pub mod Fill
 pub mod PutIfRoom
 pub mod PutIfRoomLaws
 pub mod Space

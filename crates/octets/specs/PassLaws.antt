@@ -3,23 +3,20 @@
 --     decided_is         what is decided is the outcome of the result for that room
 --     pass_refused       a call that the first pass decides to refuse
 --     pass_roomy         room enough for the second pass, where it is decided to accept
---     pass_whole         what the second pass wrote
+--     pass_whole, pass_second     what the second pass wrote, given what was decided or what it found
 -- Assumes nothing.
-use Rattle.std.specs.Prelude.{◌≡◌, Bool, List, ℕ, length}
+use Rattle.std.specs.Prelude.{◌≡◌, Bool, List, ℕ, length, Result as ResultOf, Ok, Err}
 use Rattle.std.proofs.Math.Path.{refl}
 use Rattle.std.proofs.Common.{sym, ap, ◌∙◌, suc-ne-zero, arith}
 use Rattle.std.proofs.Math.Bool.{true, false, cond}
 use borrow.Author.Tests.{ltb-false}
 use Rattle.std.proofs.Math.Dec.{ltb}
 use Rattle.std.proofs.lemmas.List.Edits.{sets}
-use Rattle.octets.specs.Answer.{accepted, refused, Result, refusal, written, outcome, outcome_of, buffer_after, if_room, Gives}
+use Rattle.octets.specs.Answer.{accepted, refused, number_in, Result, refusal, written, outcome, outcome_of, buffer_after, if_room, Gives}
 use Rattle.octets.specs.AnswerLaws.{gives}
 use Rattle.octets.specs.Write.{sets_start, put_if}
-use Rattle.octets.specs.Pass.{reading_of, bytes_of, Roomy, Passed, decided}
-use Rattle.octets.specs.declared.answer.Answer.{Answer}
-use Rattle.octets.specs.declared.answer.Answer.TheVariants.{Accepted, Refused}
-use Rattle.octets.specs.declared.pass.Reading.{Reading}
-use Rattle.octets.specs.declared.pass.Reading.TheVariants.{Fault}
+use Rattle.octets.specs.Pass.{bytes_of, Roomy, Passed, decided}
+use Rattle.octets.specs.declared.refusal.Refusal.{Refusal}
 
 -- a refusal has no room
 pub refused_roomy : {x : Result} {k i room : ℕ} → x ≡ refusal k i → Roomy x room → ⊥
@@ -28,9 +25,9 @@ refused_roomy {x} {k} {i} e h =
     let d : ◌≡◌ {A = ℕ} 0 1 = cc in
     omega arith
 
-pub passed_refused : {x : Result} {w : Bool} {before later : List ℕ} {k i room : ℕ} → x ≡ refusal k i → (w ≡ true → Roomy x room)
-    → (w ≡ false → later ≡ before) → Passed x w before (Fault k i) later
-passed_refused {x} {w} {before} {later} {k} {i} {room} e h g = record { found = ap reading_of (sym e); buffer = go w h g }
+pub passed_refused : {x : Result} {w : Bool} {before later : List ℕ} {r : Refusal} {room : ℕ} → x ≡ refusal (number_in r.reason) r.place → (w ≡ true → Roomy x room)
+    → (w ≡ false → later ≡ before) → Passed x w before (Err r) later
+passed_refused {x} {w} {before} {later} {r} {room} e h g = record { found = ap outcome (sym e); buffer = go w h g }
   where
     go : (v : Bool) → (v ≡ true → Roomy x room) → (v ≡ false → later ≡ before) → later ≡ put_if v before 0 (bytes_of x)
     go true h g = absurd (refused_roomy e (h refl))
@@ -39,7 +36,7 @@ passed_refused {x} {w} {before} {later} {k} {i} {room} e h g = record { found = 
 -- ---- what is decided
 
 module _ (number room : ℕ) where
-  pub decided_is : (x : Result) → decided number room (reading_of x) ≡ outcome (if_room number room x)
+  pub decided_is : (x : Result) → decided number room (outcome x) ≡ outcome (if_room number room x)
   unfolding decided if_room
   decided_is (refusal k i) = refl
   decided_is (written bs) = go (ltb room (length bs))
@@ -67,26 +64,33 @@ after_refused (written bs) e = absurd (suc-ne-zero 0 cc)
 -- ---- what is given
 
 -- the first pass found r of the result x, which the call gives where there is room; a is decided
-module _ (number : ℕ) (a : Answer) {x : Result} {r : Reading} {buffer later : List ℕ} (p : Passed x false buffer r later)
-    (d : outcome_of a ≡ decided number (length later) r) where
+module _ (number : ℕ) (a : ResultOf ℕ Refusal) {x : Result} {r : ResultOf ℕ Refusal} {buffer later : List ℕ} (p : Passed x false buffer r later)
+    (d : outcome_of a ≡ decided number (length later) (outcome_of r)) where
   decides : outcome_of a ≡ outcome (if_room number (length buffer) x)
   decides = d ∙ (λ i. decided number (length (p.buffer i)) (p.found i)) ∙ decided_is number (length buffer) x
 
-  accepts : {n : ℕ} → a ≡ Accepted n → Roomy x (length buffer) × (if_room number (length buffer) x ≡ x)
+  accepts : {n : ℕ} → a ≡ Ok n → Roomy x (length buffer) × (if_room number (length buffer) x ≡ x)
   accepts e = room_accepted number (length buffer) x (sym (ap outcome_of e) ∙ decides)
 
-  pub pass_roomy : {n : ℕ} → a ≡ Accepted n → Roomy x (length later)
+  pub pass_roomy : {n : ℕ} → a ≡ Ok n → Roomy x (length later)
   pass_roomy e = let h = (accepts e).0 in record { accepted = h.accepted; enough = omega (arith, h.enough, ap length p.buffer) }
 
+  -- the buffer after the second pass is the result's
+  whole_buffer : {n : ℕ} {s : ResultOf ℕ Refusal} {last : List ℕ} → a ≡ Ok n → Passed x true later s last → last ≡ buffer_after buffer (if_room number (length buffer) x)
+  whole_buffer e v =
+      let h = accepts e in
+      v.buffer
+      ∙ ap (λ (l : List ℕ). sets l 0 (bytes_of x)) p.buffer
+      ∙ sets_start buffer (bytes_of x) h.0.enough
+      ∙ sym (ap (buffer_after buffer) (h.1 ∙ h.0.accepted))
+
   module _ {result : ℕ → Result} (q : result (length buffer) ≡ if_room number (length buffer) x) where
-    pub pass_refused : {k i : ℕ} → a ≡ Refused k i → Gives (outcome_of a) result buffer later
+    pub pass_refused : {q' : Refusal} → a ≡ Err q' → Gives (outcome_of a) result buffer later
     pass_refused e = gives q decides (p.buffer ∙ after_refused (if_room number (length buffer) x) (sym (ap outcome_of e) ∙ decides))
 
-    pub pass_whole : {n : ℕ} {s : Reading} {last : List ℕ} → a ≡ Accepted n → Passed x true later s last → Gives (outcome_of a) result buffer last
-    pass_whole e v =
-        let h = accepts e in
-        gives q decides
-        (v.buffer
-        ∙ ap (λ (l : List ℕ). sets l 0 (bytes_of x)) p.buffer
-        ∙ sets_start buffer (bytes_of x) h.0.enough
-        ∙ sym (ap (buffer_after buffer) (h.1 ∙ h.0.accepted)))
+    pub pass_whole : {n : ℕ} {s : ResultOf ℕ Refusal} {last : List ℕ} → a ≡ Ok n → Passed x true later s last → Gives (outcome_of a) result buffer last
+    pass_whole e v = gives q decides (whole_buffer e v)
+
+    -- and what the second pass found is what was decided
+    pub pass_second : {n : ℕ} {s : ResultOf ℕ Refusal} {last : List ℕ} → a ≡ Ok n → Passed x true later s last → Gives (outcome_of s) result buffer last
+    pass_second e v = gives q (v.found ∙ sym (ap outcome (accepts e).1)) (whole_buffer e v)

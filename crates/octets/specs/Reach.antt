@@ -1,13 +1,11 @@
 -- The code's sums and differences.
-use Rattle.std.specs.Prelude.{Bool, true, false, ℤ}
+use Rattle.std.specs.Prelude.{Bool, true, false, ℤ, Option, Some, None}
 use Rattle.octets.specs.Octets.{fits32}
-use Rattle.octets.specs.declared.reach.Reach.{Reach}
-use Rattle.octets.specs.declared.reach.Reach.TheVariants.{To, Off}
 
-abbrev pub reach_if : Bool → ℤ → Reach
-reach_if true z = To z
-reach_if false z = Off
+abbrev pub reach_if : Bool → ℤ → Option ℤ
+reach_if true z = Some z
+reach_if false z = None
 
 -- z where 32 bits hold it
-unfoldable pub reach : ℤ → Reach
+unfoldable pub reach : ℤ → Option ℤ
 reach z = reach_if (fits32 z) z

@@ -1,30 +1,28 @@
 -- What `sum` and `difference` answer, by whether the number stays in signed 32 bits.
 -- Assumes nothing.
-use Rattle.std.specs.Prelude.{◌≡◌, refl, Bool, true, false, ℤ, ◌+ℤ◌, ◌-ℤ◌}
+use Rattle.std.specs.Prelude.{◌≡◌, refl, Bool, true, false, ℤ, ◌+ℤ◌, ◌-ℤ◌, Option, Some, None}
 use Rattle.std.proofs.Common.{sym, ◌∙◌, suc-ne-zero, SFits, to_z, of_z}
 use Rattle.std.proofs.Math.Path.{ap}
 use Rattle.std.specs.Int.{w32}
 use Rattle.integers.specs.Bits.{plain}
 use Rattle.octets.specs.Octets.{fits32}
 use Rattle.octets.specs.Reach.{reach_if, reach}
-use Rattle.octets.specs.declared.reach.Reach.{Reach}
-use Rattle.octets.specs.declared.reach.Reach.TheVariants.{To, Off}
 
-to_is : (b : Bool) (z v : ℤ) → reach_if b z ≡ To v → (b ≡ true) × (v ≡ z)
+to_is : (b : Bool) (z v : ℤ) → reach_if b z ≡ Some v → (b ≡ true) × (v ≡ z)
 to_is true z v e = (refl, (cc))
 to_is false z v e = absurd (suc-ne-zero 0 cc)
 
-off_is : (b : Bool) (z : ℤ) → reach_if b z ≡ Off → b ≡ false
+off_is : (b : Bool) (z : ℤ) → reach_if b z ≡ None → b ≡ false
 off_is true z e = absurd (suc-ne-zero 0 cc)
 off_is false z e = refl
 
 -- what is answered of the number z, which the code has as y
-module _ (z : ℤ) {y : ℤ} {r : Reach} (e : r ≡ reach y) (q : y ≡ z) where
-  pub reach_to : {v : ℤ} → r ≡ To v → (fits32 z ≡ true) × (v ≡ z)
+module _ (z : ℤ) {y : ℤ} {r : Option ℤ} (e : r ≡ reach y) (q : y ≡ z) where
+  pub reach_to : {v : ℤ} → r ≡ Some v → (fits32 z ≡ true) × (v ≡ z)
   unfolding reach
   reach_to {v} t = to_is (fits32 z) z v (sym (e ∙ ap reach q) ∙ t)
 
-  pub reach_off : r ≡ Off → fits32 z ≡ false
+  pub reach_off : r ≡ None → fits32 z ≡ false
   unfolding reach
   reach_off t = off_is (fits32 z) z (sym (e ∙ ap reach q) ∙ t)
 
@@ -36,17 +34,17 @@ module _ (a b : ℤ) (p : SFits w32 a) (q : SFits w32 b) where
   plain_dif = λ i. plain p i -ℤ plain q i
 
 -- what `sum` answers on the numbers a and b
-module _ (a b : ℤ) {r : Reach} (e : r ≡ reach (to_z w32 (of_z w32 a) +ℤ to_z w32 (of_z w32 b))) (p : SFits w32 a) (q : SFits w32 b) where
-  pub sum_to : {v : ℤ} → r ≡ To v → (fits32 (a +ℤ b) ≡ true) × (v ≡ a +ℤ b)
+module _ (a b : ℤ) {r : Option ℤ} (e : r ≡ reach (to_z w32 (of_z w32 a) +ℤ to_z w32 (of_z w32 b))) (p : SFits w32 a) (q : SFits w32 b) where
+  pub sum_to : {v : ℤ} → r ≡ Some v → (fits32 (a +ℤ b) ≡ true) × (v ≡ a +ℤ b)
   sum_to = reach_to (a +ℤ b) e (plain_sum a b p q)
 
-  pub sum_off : r ≡ Off → fits32 (a +ℤ b) ≡ false
+  pub sum_off : r ≡ None → fits32 (a +ℤ b) ≡ false
   sum_off = reach_off (a +ℤ b) e (plain_sum a b p q)
 
 -- what `difference` answers
-module _ (a b : ℤ) {r : Reach} (e : r ≡ reach (to_z w32 (of_z w32 a) -ℤ to_z w32 (of_z w32 b))) (p : SFits w32 a) (q : SFits w32 b) where
-  pub difference_to : {v : ℤ} → r ≡ To v → (fits32 (a -ℤ b) ≡ true) × (v ≡ a -ℤ b)
+module _ (a b : ℤ) {r : Option ℤ} (e : r ≡ reach (to_z w32 (of_z w32 a) -ℤ to_z w32 (of_z w32 b))) (p : SFits w32 a) (q : SFits w32 b) where
+  pub difference_to : {v : ℤ} → r ≡ Some v → (fits32 (a -ℤ b) ≡ true) × (v ≡ a -ℤ b)
   difference_to = reach_to (a -ℤ b) e (plain_dif a b p q)
 
-  pub difference_off : r ≡ Off → fits32 (a -ℤ b) ≡ false
+  pub difference_off : r ≡ None → fits32 (a -ℤ b) ≡ false
   difference_off = reach_off (a -ℤ b) e (plain_dif a b p q)

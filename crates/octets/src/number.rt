@@ -96,6 +96,20 @@ pub fn signed4_at(s: &[u8], at: usize) -> i32
     of_bits(nat4_at(s, at))
 }
 
+// The two's complement number in so many bytes from `at`.
+pub fn signed_at(s: &[u8], at: usize, width: usize) -> i32
+    requires bytes { at + width ≤ length s.now }
+    requires widths { (1 ≤ width) × (width ≤ 4) }
+    ensures { result ≡ signed_at width at s.now }
+{
+    match width {
+        1 => signed1_at(s, at),
+        2 => signed2_at(s, at),
+        3 => signed3_at(s, at),
+        _ => signed4_at(s, at),
+    }
+}
+
 // Writes one byte; gives the place after it, as the others do.
 pub fn put_byte(out: &mut [u8], at: usize, b: u8) -> usize
     requires { at + 1 ≤ length out.old }
@@ -156,6 +170,20 @@ pub fn put_signed4(out: &mut [u8], at: usize, z: i32) -> usize
     ensures { Wrote out.old at (signed_bytes 4 z) out.new result }
 {
     put_nat4(out, at, to_bits(z))
+}
+
+// Writes z in two's complement, in so many bytes.
+pub fn put_signed(out: &mut [u8], at: usize, width: usize, z: i32) -> usize
+    requires room { at + width ≤ length out.old }
+    requires widths { (1 ≤ width) × (width ≤ 4) }
+    ensures { Wrote out.old at (signed_bytes width z) out.new result }
+{
+    match width {
+        1 => put_signed1(out, at, z),
+        2 => put_signed2(out, at, z),
+        3 => put_signed3(out, at, z),
+        _ => put_signed4(out, at, z),
+    }
 }
 
 // The fewest of 2, 3 and 4 bytes that hold z in two's complement.

@@ -1,28 +1,36 @@
-// What a pass over an input finds, and what an operation answers. An operation makes two passes by one function: the first counts, the second writes.
-ghost use Rattle.std.specs.Prelude.{◌≡◌};
-ghost use Rattle.octets.specs.Answer.{outcome_of};
-ghost use Rattle.octets.specs.Pass.{decided};
+// An operation by two passes over an input: the first counts, the second writes.
+ghost use Rattle.std.specs.Prelude.{◌≡◌, true, length};
+ghost use Rattle.octets.specs.Answer.{Result as Made, outcome_of, number_in, if_room, Gives};
+ghost use Rattle.octets.specs.Pass.{Roomy, Passed, decided};
 
-use crate::answer::Answer;
+use crate::refusal::{Answer, Reason};
 
-// The bytes that the result needs, or a refusal at a place.
-#[derive(Clone, Copy)]
-pub enum Reading {
-    Needs(usize),
-    Fault(u8, usize),
+// The input of an operation, and what one pass over it does: it counts the bytes of the result, and writes them, if writing.
+pub trait TwoPass {
+    // What the operation makes of this input, for a buffer with room.
+    ghost made: { Self → Made };
+
+    fn pass(&self, out: &mut [u8], writing: bool) -> Answer
+        requires { writing ≡ true → Roomy (made self.now) (length out.old) }
+        ensures { Passed (made self.now) writing out.old result out.new };
 }
 
 // What the first pass and the room decide: a refusal is the answer, and so is too little room.
-pub fn answered(found: Reading, room: usize, short: u8) -> Answer
-    ensures { outcome_of result ≡ decided short room found }
+pub fn answered(found: Answer, room: usize, short: Reason) -> Answer
+    ensures { outcome_of result ≡ decided (number_in short) room (outcome_of found) }
 {
-    match found {
-        Reading::Needs(needed) => {
-            if room < needed {
-                return Answer::Refused(short, needed);
-            }
-            Answer::Accepted(needed)
-        }
-        Reading::Fault(number, place) => Answer::Refused(number, place),
+    let needed = found?;
+    if room < needed {
+        return Err(short.at(needed));
     }
+    Ok(needed)
+}
+
+// Both passes. Only the second writes, where the first found no fault and there is room.
+pub fn in_two_passes<P: TwoPass>(input: &P, out: &mut [u8], short: Reason) -> Answer
+    ensures { Gives (outcome_of result) (λ room. if_room (number_in short) room (P.made input.now)) out.old out.new }
+{
+    let found = input.pass(out, false);
+    answered(found, out.len(), short)?;
+    input.pass(out, true)
 }

@@ -2,7 +2,7 @@
 -- Assumes nothing.
 use mathlib.Core.Path.{◌≡◌, refl, sym, ap, subst, ◌∙◌}
 use mathlib.Core.Bool.{Bool, true, false, cond}
-use mathlib.Core.List.{List, [], ◌∷◌, ◌++◌, foldl-append}
+use mathlib.Core.List.{List, [], ◌∷◌, ◌++◌, append_assoc, foldl-append}
 use Prim.Native.Nat.{ℕ, ◌+◌, ◌*◌, ◌≤◌, ◌<◌}
 use native.Mathlib.Omega.{arith}
 use borrow.Author.Tests.{lt-ltb, le-ltb}
@@ -15,14 +15,10 @@ use Rattle.octets.specs.Transducer.{transduced}
 use Rattle.octets.proofs.TransducerLaws.{transduced_append, transduced_more}
 use Rattle.galley_file.specs.declared.form.Form.TheVariants.{New}
 use Rattle.galley_file.specs.declared.item.Item.{Item}
-use Rattle.galley_file.specs.Form.{max_galley}
-use Rattle.galley_file.specs.Item.{valid_item, item_size, item_at, WholeAt}
-use Rattle.galley_file.specs.ItemLaws.{size_least}
-use Rattle.galley_file.specs.Galley.{items_of}
-use Rattle.galley_file.specs.GalleyLaws.{checked, read_as}
+use Rattle.galley_file.specs.Item.{valid_item}
+use Rattle.galley_file.specs.Galley.{max_items, items_of}
 use Rattle.galley_file.specs.Outcome.{check_outcome}
 use Rattle.galley_check.specs.ResultLaws.{result_refused, result_made}
-use Rattle.galley_file.specs.Walk.{Midway, Onward, midway_start, midway_inside, midway_end, midway_next, midway_whole}
 use Rattle.typesetter.specs.declared.machine.State.{State}
 use Rattle.typesetter.specs.Sound.{Sound}
 use Rattle.tape.specs.Tape.{max_tape}
@@ -34,96 +30,58 @@ use Rattle.octets.specs.Space.{Space}
 
 -- ---- the pass
 
-pub short_galley : (g : List ℕ) (count : ℕ) → accepted count ≡ check_outcome New g → length g ≤ max_galley New
-short_galley g count e = (checked New g count e).fits
+-- the codes of the items gone by are put into what was `first`, and the machine is in the state s
+pub record Punching (w : Bool) (first out : List ℕ) (next : ℕ) (s : State) (done : List Item) : Type 0 where
+  pub put : Put w first 2 (items_codes begun done) out next
+  pub state_is : s ≡ state_after_all begun done
+  pub sound : Sound s
+  pub small : next ≤ 1100000 * length done + 2
 
-module _ (w : Bool) (g : List ℕ) where
-  -- the galley up to `at`: the codes of the items behind are put into what was `first`, and the machine is in the state s
-  pub record Punching (at : ℕ) (first out : List ℕ) (next : ℕ) (s : State) : Type 0 where
-    pub done : List Item
-    pub midway : Midway New g (items_of New g) done at
-    pub same : length out ≡ length first
-    pub put : Put w first 2 (items_codes begun done) out next
-    pub state_is : s ≡ state_after_all begun done
-    pub sound : Sound s
-    pub small : next ≤ 1100000 * at + 2
+pub punching_start : (w : Bool) (first : List ℕ) (s : State) → s ≡ begun → Punching w first first 2 s []
+unfolding transduced
+punching_start w first s q = record { put = put_none _ _ _; state_is = q; sound = subst Sound (sym q) begun_sound; small = omega arith }
 
-  pub punching_start : (count : ℕ) → accepted count ≡ check_outcome New g → (first : List ℕ) (s : State) → s ≡ begun → Punching 0 first first 2 s
-  unfolding transduced
-  punching_start count e first s q =
-      record {
-        done = [];
-        midway = midway_start New g (items_of New g) (read_as New g count e);
-        same = refl;
-        put = put_none _ _ _;
-        state_is = q;
-        sound = subst Sound (sym q) begun_sound;
-        small = omega arith;
-      }
+module _ (w : Bool) (first out : List ℕ) (next : ℕ) (s : State) (done : List Item) (c : Punching w first out next s done) where
+  -- the item i comes next
+  module _ (i : Item) (v : valid_item height_end i ≡ true) where
+    -- its codes follow those of the items behind
+    longer : items_codes begun (done ++ (i ∷ [])) ≡ items_codes begun done ++ item_codes s i
+    longer = transduced_more item_codes state_after begun done i ∙ ap (λ (x : State). items_codes begun done ++ item_codes x i) (sym c.state_is)
 
-  module _ (at : ℕ) (first out : List ℕ) (next : ℕ) (s : State) (c : Punching at first out next s) where
-    pub punching_inside : at ≤ length g
-    punching_inside = midway_inside New g (items_of New g) c.done at c.midway
+    most : length (item_codes s i) ≤ 1100000
+    most = item_most s i c.sound v
 
-    pub punching_whole : at + 7 < length g → WholeAt New g at
-    punching_whole h = midway_whole New g (items_of New g) c.done at c.midway h
+    pub punching_space : (all rest : List Item) → all ≡ done ++ (i ∷ rest) → length all ≤ max_items → (w ≡ true → 2 + length (items_codes begun all) ≤ length first) → Space w out next (item_codes s i)
+    punching_space all rest a few room =
+        let d = done ++ (i ∷ []) in
+        let k = a ∙ sym (append_assoc done (i ∷ []) rest) in
+        record {
+          room = λ t.
+              omega (
+                arith,
+                room t,
+                put_length c.put,
+                c.put.place,
+                ap length longer,
+                length-append (items_codes begun done) (item_codes s i),
+                ap (λ (l : List Item). length (items_codes begun l)) k,
+                ap length (transduced_append item_codes state_after begun d rest),
+                length-append (items_codes begun d) (items_codes (state_after_all begun d) rest),
+              );
+          counts = omega (arith, most, c.small, ap length a, length-append done (i ∷ rest), few);
+        }
 
-    -- the item i comes next
-    module _ (h : at + 7 < length g) (i : Item) (e : i ≡ item_at New g at) where
-      onward : Onward New g (items_of New g) c.done at i
-      onward = subst (Onward New g (items_of New g) c.done at) (sym e) (midway_next New g (items_of New g) c.done at c.midway h)
+    pub punching_next : (t : State) → t ≡ state_after s i → (later : List ℕ) (then : ℕ) → Put w out next (item_codes s i) later then → Punching w first later then t (done ++ (i ∷ []))
+    punching_next t q later then p =
+        record {
+          put = put_named (sym longer) (put_then c.put p);
+          state_is = q ∙ ap (λ (x : State). state_after x i) c.state_is ∙ sym (foldl-append state_after begun done (i ∷ []));
+          sound = subst Sound (sym q) (after_sound s i v);
+          small = omega (arith, p.place, most, c.small, length-append done (i ∷ []));
+        }
 
-      pub punching_valid : valid_item height_end i ≡ true
-      punching_valid = onward.is_valid
-
-      pub punching_size : at + item_size New i + 7 ≤ length g
-      punching_size = onward.room
-
-      -- its codes follow those of the items behind
-      longer : items_codes begun (c.done ++ (i ∷ [])) ≡ items_codes begun c.done ++ item_codes s i
-      longer = transduced_more item_codes state_after begun c.done i ∙ ap (λ (x : State). items_codes begun c.done ++ item_codes x i) (sym c.state_is)
-
-      most : length (item_codes s i) ≤ 1100000
-      most = item_most s i c.sound punching_valid
-
-      pub punching_space : length g ≤ max_galley New → (w ≡ true → 2 + length (items_codes begun (items_of New g)) ≤ length first) → Space w out next (item_codes s i)
-      punching_space short room =
-          let d = c.done ++ (i ∷ []) in
-          let r = onward.next.rest in
-          record {
-            room = λ t.
-                omega (
-                  arith,
-                  room t,
-                  c.same,
-                  c.put.place,
-                  ap length longer,
-                  length-append (items_codes begun c.done) (item_codes s i),
-                  ap (λ (l : List Item). length (items_codes begun l)) onward.next.all,
-                  ap length (transduced_append item_codes state_after begun d r),
-                  length-append (items_codes begun d) (items_codes (state_after_all begun d) r),
-                );
-            counts = omega (arith, most, c.small, punching_inside, short);
-          }
-
-      pub punching_next : (t : State) → t ≡ state_after s i → (later : List ℕ) (then : ℕ) → Put w out next (item_codes s i) later then → Punching (at + item_size New i) first later then t
-      punching_next t q later then p =
-          record {
-            done = c.done ++ (i ∷ []);
-            midway = onward.next;
-            same = put_length p ∙ c.same;
-            put = put_named (sym longer) (put_then c.put p);
-            state_is = q ∙ ap (λ (x : State). state_after x i) c.state_is ∙ sym (foldl-append state_after begun c.done (i ∷ []));
-            sound = subst Sound (sym q) (after_sound s i punching_valid);
-            small = omega (arith, p.place, most, c.small, size_least New i);
-          }
-
-    -- at End
-    pub punching_end : length g ≤ at + 7 → length g ≤ max_galley New → (Put w first 2 (items_codes begun (items_of New g)) out next) × (next < 18446744073709551615)
-    punching_end h short = (
-      put_named (ap (items_codes begun) (sym (midway_end New g (items_of New g) c.done at c.midway h))) c.put,
-      omega (arith, c.small, punching_inside, short),
-    )
+  pub punching_end : (all : List Item) → all ≡ done → length all ≤ max_items → (Put w first 2 (items_codes begun all) out next) × (next < 18446744073709551615)
+  punching_end all a few = (put_named (ap (items_codes begun) (sym a)) c.put, omega (arith, c.small, ap length a, few))
 
 -- ---- a whole tape: the start, the items and stop
 

@@ -4,7 +4,7 @@
 --     character_reach       the codes of a character, and cut_reach those of a cut
 --     item_most             how many codes an item has at most
 -- Assumes nothing.
-use Rattle.std.specs.Prelude.{◌≡◌, Bool, true, false, cond, [], ◌∷◌, ◌++◌, ℕ, ◌+◌, ◌-◌, ◌/◌, ◌%◌, ◌≤◌, ◌<◌, eqb, ltb, ℤ, pos, negsuc, nat_abs, ◌+ℤ◌, ◌-ℤ◌, length, replicate}
+use Rattle.std.specs.Prelude.{◌≡◌, Bool, true, false, cond, [], ◌∷◌, ◌++◌, ℕ, ◌+◌, ◌-◌, ◌/◌, ◌%◌, ◌≤◌, ◌<◌, eqb, ltb, ℤ, pos, negsuc, nat_abs, ◌+ℤ◌, ◌-ℤ◌, length, replicate, Ok}
 use Rattle.std.proofs.Math.Path.{refl, sym, subst}
 use Rattle.std.proofs.Common.{◌∙◌, mod-lt, div-le_self, ltb-true, ltb-false, length-append}
 use native.Mathlib.Omega.{arith}
@@ -37,7 +37,7 @@ use Rattle.typesetter.specs.Machine.{font_at, past_half, code_in, with_escape, w
 use Rattle.typesetter.specs.Sound.{Sound}
 use Rattle.typesetter.specs.StepLaws.{flash_set, instruction_taken}
 use Rattle.tape.specs.RunLaws.{flashed, page_ended}
-use Rattle.punch_codes.specs.declared.put.Axis.{Axis}
+use Rattle.punch_codes.specs.declared.axis.Axis.{Axis}
 use Rattle.punch_codes.specs.Codes.{begun, upper_rail_of, upper_mag_of, tilt_down_of, upper_half_of, flash_for, carriage_of, carriage_for, set_for, switch_codes, size_codes, remainder_codes, distance_codes, escapes, leads, motion_codes, font_codes, setting_codes, moving_codes, item_codes, state_after}
 use Rattle.punch_codes.specs.Reach.{Reach, reach_moved, reach_set, reach_then}
 use Rattle.punch_codes.proofs.SettingLaws.{ready}
@@ -139,7 +139,7 @@ module _ (m : Modes) (n : ℕ) (u : Units) (h : Quanta) (c : Character) (v : Val
       let m₅ = with_escape m₄ t.modes.escape_back in
       reach_then (escapes_reach m₄ k u.0 (carriage_for c) h i (carriage_range v)) (leads_reach m₅ k t.carriage h.0 c.height.0 j (height_in_range v))
 
-  flash_taken : byte_effect t (flash_for c.code) ≡ Flashed c
+  flash_taken : byte_effect t (flash_for c.code) ≡ Ok (Flashed c)
   unfolding set_for instruction_effect
   flash_taken =
       let k = flash_for c.code in

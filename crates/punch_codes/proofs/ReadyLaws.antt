@@ -4,15 +4,13 @@
 --     size_reach                                           a size, where it differs
 --     escapes_reach, leads_reach                           the escapes and the leads of a distance
 -- Assumes nothing.
-use Rattle.std.specs.Prelude.{◌≡◌, Bool, true, false, cond, [], ◌∷◌, ℕ, ◌+◌, ◌-◌, ◌≤◌, ◌<◌, eqb, ℤ, pos, negsuc, neg_ℤ, nat_abs, ◌+ℤ◌, ◌-ℤ◌}
+use Rattle.std.specs.Prelude.{◌≡◌, Bool, true, false, cond, [], ◌∷◌, ℕ, ◌+◌, ◌-◌, ◌≤◌, ◌<◌, eqb, ℤ, pos, negsuc, neg_ℤ, nat_abs, ◌+ℤ◌, ◌-ℤ◌, Some, Ok}
 use Rattle.std.proofs.Math.Path.{refl, sym, ap}
 use Rattle.std.proofs.Common.{subst, ◌∙◌, arith, eqb-true}
 use Rattle.integers.specs.Parts.{integers, sum_parts, neg_up, neg_dn, true_le_z}
 use Rattle.integers.specs.Tables.{agree}
 use Rattle.measure.specs.declared.Units.{Units}
 use Rattle.measure.specs.declared.Quanta.{Quanta}
-use Rattle.measure.specs.declared.Carriage.TheVariants as carriage
-use Rattle.measure.specs.declared.Height.TheVariants as height
 use Rattle.measure.specs.Place.{carriage_end, height_end, directed_by, carriage_at, height_at}
 use Rattle.measure.specs.PlaceLaws.{InRange}
 use Rattle.typesetter.specs.declared.code.Machine.TheVariants.{Eight}
@@ -48,11 +46,11 @@ code_flash = agree (λ v. code_of Eight (1 + v)) (λ v. Instructs (Flash (1 + v)
 
 -- ---- a place in range
 
-carriage_at_lem : (n : ℕ) → n ≤ 3239 → carriage_at (pos n) ≡ carriage.At (record { 0 = pos n })
+carriage_at_lem : (n : ℕ) → n ≤ 3239 → carriage_at (pos n) ≡ Some (record { 0 = pos n })
 unfolding carriage_at
 carriage_at_lem n h = rw (true_le_z (pos 0) (pos n) (omega arith), true_le_z (pos n) (pos 3239) (omega arith))
 
-height_at_lem : (n : ℕ) → n ≤ 1000000 → height_at (pos n) ≡ height.At (record { 0 = pos n })
+height_at_lem : (n : ℕ) → n ≤ 1000000 → height_at (pos n) ≡ Some (record { 0 = pos n })
 unfolding height_at
 height_at_lem n h = rw (true_le_z (pos 0) (pos n) (omega arith), true_le_z (pos n) (pos 1000000) (omega arith))
 
@@ -95,7 +93,7 @@ module _ (m : Modes) (n : ℕ) (c : Units) (h : Quanta) where
   unfolding size_codes instruction_effect
   size_reach next l = go (eqb n next) refl
     where
-      taken : byte_effect (ready m n c h) (0x50 + next) ≡ Moved (ready m next c h)
+      taken : byte_effect (ready m n c h) (0x50 + next) ≡ Ok (Moved (ready m next c h))
       taken = sym (instruction_taken (ready m n c h) (0x50 + next) (code_size next l) refl refl refl)
 
       go : (t : Bool) → eqb n next ≡ t → Reach (ready m n c h) (cond t [] ((0x50 + next) ∷ [])) [] (ready m next c h)
@@ -108,7 +106,7 @@ module _ (m : Modes) (n : ℕ) (h : Quanta) where
   abbrev across : Bool → ℕ → State
   across back p = ready (with_escape m back) n (record { 0 = pos p }) h
 
-  escaped : (back : Bool) (p q a : ℕ) → 1 ≤ a → a ≤ 127 → pos p +ℤ directed_by back a ≡ pos q → q ≤ 3239 → byte_effect (across back p) (0x80 + (127 - a)) ≡ Moved (across back q)
+  escaped : (back : Bool) (p q a : ℕ) → 1 ≤ a → a ≤ 127 → pos p +ℤ directed_by back a ≡ pos q → q ≤ 3239 → byte_effect (across back p) (0x80 + (127 - a)) ≡ Ok (Moved (across back q))
   unfolding instruction_effect
   escaped back p q a low high to inside =
       let k : code_of Eight (0x80 + (127 - a)) ≡ Instructs (Escape a) = code_escape (127 - a) (omega arith) ∙ ap (λ (x : ℕ). Instructs (Escape x)) (omega arith) in
@@ -123,7 +121,7 @@ module _ (m : Modes) (n : ℕ) (c : Units) where
   abbrev down : Bool → ℕ → State
   down back p = ready (with_lead m back) n c (record { 0 = pos p })
 
-  led : (back : Bool) (p q a : ℕ) → a ≤ 31 → pos p +ℤ directed_by back a ≡ pos q → q ≤ 1000000 → byte_effect (down back p) (0x60 + (31 - a)) ≡ Moved (down back q)
+  led : (back : Bool) (p q a : ℕ) → a ≤ 31 → pos p +ℤ directed_by back a ≡ pos q → q ≤ 1000000 → byte_effect (down back p) (0x60 + (31 - a)) ≡ Ok (Moved (down back q))
   unfolding instruction_effect
   led back p q a high to inside =
       let k : code_of Eight (0x60 + (31 - a)) ≡ Instructs (Lead a) = code_lead (31 - a) (omega arith) ∙ ap (λ (x : ℕ). Instructs (Lead x)) (omega arith) in

@@ -1,31 +1,39 @@
 -- What is sent, by what led to it.
 -- Assumes nothing.
-use mathlib.Core.Path.{◌≡◌, sym, ap, ◌∙◌}
-use mathlib.Core.Bool.{Bool}
-use mathlib.Core.List.{List, [], ◌∷◌}
+use mathlib.Core.Path.{◌≡◌, refl}
+use mathlib.Core.Bool.{Bool, true, false, beq}
+use mathlib.Core.List.{[], ◌∷◌}
 use Prim.Native.Nat.{ℕ, ◌+◌, ◌-◌, ◌<◌}
 use native.Mathlib.Nat.{div-eq_of_lt, mod-eq_of_lt}
 use native.Mathlib.Omega.{arith}
 use borrow.Author.Tests.{eq-eqb, ne_eqb}
 use lib.IntN.{ℤ, pos, negsuc, nat_abs, ◌-ℤ◌}
-use lib.ListN.{replicate, set, length-replicate, replicate-append-replicate}
-use lib.Seq.{sets}
 use Rattle.integers.specs.Parts.{up, dn, dif_parts}
-use Rattle.octets.specs.Write.{sets_append}
 use Rattle.punch_codes.specs.Codes.{switch_codes, size_codes, remainder_codes, distance_codes}
-
--- one place more is filled
-pub fill_more : (out : List ℕ) (at i b : ℕ) (later : List ℕ) → later ≡ sets out at (replicate i b) → set later (at + i) b ≡ sets out at (replicate (i + 1) b)
-fill_more out at i b later e =
-    (λ j. set (e j) (at + sym (length-replicate i b) j) b)
-    ∙ sym (sets_append out at (replicate i b) (b ∷ []))
-    ∙ ap (sets out at) (replicate-append-replicate i 1 b)
 
 -- ---- nothing, or one code
 
-module _ (off on : ℕ) {old new : Bool} where
-  pub switch_codes_lem : (a b : Bool) → old ≡ a → new ≡ b → switch_codes off on old new ≡ switch_codes off on a b
-  switch_codes_lem a b e f = λ i. switch_codes off on (e i) (f i)
+module _ (off on : ℕ) where
+  pub switch_none : (old new : Bool) → beq old new ≡ true → switch_codes off on old new ≡ []
+  unfolding switch_codes
+  switch_none false false e = refl
+  switch_none false true e = cc
+  switch_none true false e = cc
+  switch_none true true e = refl
+
+  pub switch_on : (old new : Bool) → beq old new ≡ false → new ≡ true → switch_codes off on old new ≡ on ∷ []
+  unfolding switch_codes
+  switch_on false true d e = refl
+  switch_on true true d e = cc
+  switch_on false false d e = cc
+  switch_on true false d e = cc
+
+  pub switch_off : (old new : Bool) → beq old new ≡ false → new ≡ false → switch_codes off on old new ≡ off ∷ []
+  unfolding switch_codes
+  switch_off true false d e = refl
+  switch_off false false d e = cc
+  switch_off false true d e = cc
+  switch_off true true d e = cc
 
 module _ (old new : ℕ) where
   pub size_none : old ≡ new → size_codes old new ≡ []

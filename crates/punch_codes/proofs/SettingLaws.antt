@@ -3,7 +3,7 @@
 --     switch_reach     a switch, and size_reach a size
 --     motion_reach     a motion along one of the two ways
 -- Assumes nothing.
-use Rattle.std.specs.Prelude.{◌≡◌, Bool, cond, ltb, ℤ, negsuc, ◌-ℤ◌, replicate}
+use Rattle.std.specs.Prelude.{◌≡◌, Bool, cond, ltb, ℤ, negsuc, Ok, ◌-ℤ◌, replicate}
 use Rattle.std.proofs.Math.Path.{refl, subst}
 use Rattle.std.proofs.Common.{◌∙◌, suc-mul, arith, ne_eqb, ltb-true, ltb-false}
 use Rattle.std.proofs.Math.Bool.{true, false}
@@ -28,7 +28,7 @@ ready m n c h = record { machine = Eight; initialized = true; parked = false; st
 
 -- ---- switches
 
-module _ (st : Bool → State) (off on : ℕ) (to-off : (b : Bool) → byte_effect (st b) off ≡ Moved (st false)) (to-on : (b : Bool) → byte_effect (st b) on ≡ Moved (st true)) where
+module _ (st : Bool → State) (off on : ℕ) (to-off : (b : Bool) → byte_effect (st b) off ≡ Ok (Moved (st false))) (to-on : (b : Bool) → byte_effect (st b) on ≡ Ok (Moved (st true))) where
   pub switch_reach : (now next : Bool) → Reach (st now) (switch_codes off on now next) [] (st next)
   unfolding switch_codes
   switch_reach false false = reach_none
@@ -47,8 +47,8 @@ apart p q = distance_is (pos q -ℤ pos p) p q (omega (arith, dif_parts (pos q) 
 
 -- what a code does to a machine whose direction and place are these
 module _ (longest code top : ℕ) (st : Bool → ℕ → State)
-    (ahead : (p a : ℕ) → 1 ≤ a → a ≤ longest → p + a ≤ top → byte_effect (st false p) (code + (longest - a)) ≡ Moved (st false (p + a)))
-    (behind : (p a : ℕ) → 1 ≤ a → a ≤ longest → p + a ≤ top → byte_effect (st true (p + a)) (code + (longest - a)) ≡ Moved (st true p))
+    (ahead : (p a : ℕ) → 1 ≤ a → a ≤ longest → p + a ≤ top → byte_effect (st false p) (code + (longest - a)) ≡ Ok (Moved (st false (p + a))))
+    (behind : (p a : ℕ) → 1 ≤ a → a ≤ longest → p + a ≤ top → byte_effect (st true (p + a)) (code + (longest - a)) ≡ Ok (Moved (st true p)))
     (some-way : 1 ≤ longest) where
   full : code + (longest - longest) ≡ code
   full = omega arith
@@ -58,7 +58,7 @@ module _ (longest code top : ℕ) (st : Bool → ℕ → State)
   runs_ahead zero p h = subst (λ (n : ℕ). Reach (st false p) [] [] (st false n)) (omega arith) reach_none
   runs_ahead (suc k) p h =
       let e = suc-mul k longest in
-      let one = reach_moved (subst (λ (b : ℕ). byte_effect (st false p) b ≡ Moved (st false (p + longest))) full (ahead p longest some-way (omega arith) (omega arith))) in
+      let one = reach_moved (subst (λ (b : ℕ). byte_effect (st false p) b ≡ Ok (Moved (st false (p + longest)))) full (ahead p longest some-way (omega arith) (omega arith))) in
       let more = runs_ahead k (p + longest) (omega arith) in
       subst (λ (n : ℕ). Reach (st false p) (code ∷ replicate k code) [] (st false n)) (omega arith) (reach_then one more)
 
@@ -66,7 +66,7 @@ module _ (longest code top : ℕ) (st : Bool → ℕ → State)
   runs_behind zero p h = subst (λ (n : ℕ). Reach (st true n) [] [] (st true p)) (omega arith) reach_none
   runs_behind (suc k) p h =
       let e = suc-mul k longest in
-      let one = reach_moved (subst (λ (b : ℕ). byte_effect (st true ((p + k * longest) + longest)) b ≡ Moved (st true (p + k * longest))) full (behind (p + k * longest) longest some-way (omega arith) (omega arith))) in
+      let one = reach_moved (subst (λ (b : ℕ). byte_effect (st true ((p + k * longest) + longest)) b ≡ Ok (Moved (st true (p + k * longest)))) full (behind (p + k * longest) longest some-way (omega arith) (omega arith))) in
       let more = runs_behind k p (omega arith) in
       subst (λ (n : ℕ). Reach (st true n) (code ∷ replicate k code) [] (st true p)) (omega arith) (reach_then one more)
 

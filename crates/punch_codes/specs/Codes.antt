@@ -11,6 +11,7 @@
 --     item_codes          the codes of an item, and state_after the machine after them
 use Rattle.std.specs.Prelude.{ℕ, ◌+◌, ◌-◌, ◌/◌, ◌%◌, Bool, true, false, cond, List, [], ◌∷◌, ◌++◌, eqb, ltb, ℤ, pos, nat_abs, ◌+ℤ◌, ◌-ℤ◌, replicate}
 use Rattle.std.specs.Int.Signed.{lt_z}
+use Rattle.std.proofs.Common.{lit≤}
 use Rattle.galley_file.specs.declared.character.Character.{Character}
 use Rattle.galley_file.specs.declared.item.Item.{Item}
 use Rattle.galley_file.specs.declared.item.Item.TheVariants.{Placed, Cut}
@@ -19,7 +20,7 @@ use Rattle.typesetter.specs.declared.code.Machine.TheVariants.{Eight}
 use Rattle.typesetter.specs.declared.machine.Modes.{Modes}
 use Rattle.typesetter.specs.declared.machine.State.{State}
 use Rattle.typesetter.specs.Machine.{start, initialized_of, origin, off_switch_at, with_cut}
-use Rattle.punch_codes.specs.declared.put.Axis.{Axis}
+use Rattle.punch_codes.specs.declared.axis.Axis.{Axis}
 
 -- ---- "begin, and follow each cut, with initialize and an escape of 16"
 
@@ -111,10 +112,10 @@ distance_codes longest code n = replicate (n / longest) code ++ remainder_codes 
 
 -- the codes of escapes and of leads: their two directions, the longest motion and its code
 abbrev pub escapes : Axis
-escapes = record { forward = 0x47; backward = 0x48; longest = 127; code = 0x80 }
+escapes = record { forward = 0x47; backward = 0x48; longest = 127; code = 0x80; moves = lit≤ tt; code_fits = lit≤ tt }
 
 abbrev pub leads : Axis
-leads = record { forward = 0x4A; backward = 0x4C; longest = 31; code = 0x60 }
+leads = record { forward = 0x4A; backward = 0x4C; longest = 31; code = 0x60; moves = lit≤ tt; code_fits = lit≤ tt }
 
 -- "the direction code if needed", and the motions from place to place
 unfoldable pub motion_codes : Axis → Bool → Bool → ℤ → ℤ → List ℕ

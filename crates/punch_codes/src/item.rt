@@ -5,12 +5,12 @@ ghost use Rattle.galley_file.specs.declared.item.Item.TheVariants.{Placed};
 ghost use Rattle.galley_file.specs.Character.{valid};
 ghost use Rattle.galley_file.specs.Item.{valid_item};
 ghost use Rattle.typesetter.specs.Sound.{Sound};
-ghost use Rattle.punch_codes.specs.Codes.{start_codes, flash_for, set_for, escapes, leads, font_codes, setting_codes, moving_codes, item_codes, state_after};
+ghost use Rattle.punch_codes.specs.Codes.{start_codes, flash_for, set_for, font_codes, setting_codes, moving_codes, item_codes, state_after};
 ghost use Rattle.octets.specs.Write.{Put};
 ghost use Rattle.octets.specs.Space.{Space};
 
+use crate::axis::Axis;
 use crate::put;
-use crate::put::Axis;
 use galley_file::character::Character;
 use galley_file::item::Item;
 use typesetter::machine;
@@ -100,49 +100,24 @@ fn put_setting(writing: bool, out: &mut [u8], at: usize, s: State, t: State) -> 
     put::put_size(writing, out, to, s.size, t.size)
 }
 
-// The codes of escapes, and of leads.
-fn escapes() -> Axis
-    ensures { result ≡ escapes }
-{
-    Axis {
-        forward: 0x47,
-        backward: 0x48,
-        longest: 127,
-        code: 0x80,
-    }
-}
-
-fn leads() -> Axis
-    ensures { result ≡ leads }
-{
-    Axis {
-        forward: 0x4A,
-        backward: 0x4C,
-        longest: 31,
-        code: 0x60,
-    }
-}
-
 // Sideways, and then up or down.
 fn put_moving(writing: bool, out: &mut [u8], at: usize, s: State, t: State) -> usize
     requires { (Sound s × Sound t) × Space writing out.old at (moving_codes s t) }
     ensures { Put writing out.old at (moving_codes s t) out.new result }
 {
-    let to = put::put_motion(
+    let to = Axis::ESCAPES.put_motion(
         writing,
         out,
         at,
-        escapes(),
         s.modes.escape_back,
         t.modes.escape_back,
         s.carriage.0,
         t.carriage.0,
     );
-    put::put_motion(
+    Axis::LEADS.put_motion(
         writing,
         out,
         to,
-        leads(),
         s.modes.lead_back,
         t.modes.lead_back,
         s.height.0,

@@ -8,7 +8,8 @@ ghost use Rattle.punch_codes.specs.Codes.{begun_from, begun, carriage_of, backwa
 use galley_file::character::Character;
 use galley_file::font;
 use galley_file::item::Item;
-use measure::Units;
+use measure::{Quanta, Units};
+use std::cmp::Ordering;
 use typesetter::code::Machine;
 use typesetter::machine;
 use typesetter::machine::{Modes, State};
@@ -17,30 +18,28 @@ use typesetter::machine::{Modes, State};
 fn begun_from(s: State) -> State
     ensures { result ≡ begun_from s }
 {
-    let origin = Units(0);
-    let mut t = machine::initialized(s);
-    t.parked = false;
-    t.carriage = origin;
-    t
+    State {
+        parked: false,
+        carriage: Units(0),
+        ..s.after_initialize()
+    }
 }
 
 // The machine at the start of a tape.
 pub fn at_begin() -> State
     ensures { result ≡ begun }
 {
-    begun_from(machine::at_start(Machine::Eight))
+    begun_from(State::at_start(Machine::Eight))
 }
 
 // The direction in force after a motion, true for backward.
 fn backward_to(old: bool, from: i32, to: i32) -> bool
     ensures { result ≡ backward_to old from to }
 {
-    if to < from {
-        true
-    } else if from < to {
-        false
-    } else {
-        old
+    match to.cmp(&from) {
+        Ordering::Less => true,
+        Ordering::Equal => old,
+        Ordering::Greater => false,
     }
 }
 
@@ -61,11 +60,9 @@ fn modes_for(s: State, c: Character, across: Units) -> Modes
     ensures { result ≡ modes_for s c across.0 }
 {
     let font = font::font_of(c.font);
-    let escape_back = backward_to(s.modes.escape_back, s.carriage.0, across.0);
-    let lead_back = backward_to(s.modes.lead_back, s.height.0, c.height.0);
     Modes {
-        escape_back: escape_back,
-        lead_back: lead_back,
+        escape_back: backward_to(s.modes.escape_back, s.carriage.0, across.0),
+        lead_back: backward_to(s.modes.lead_back, s.height.0, c.height.0),
         upper_half: machine::LOWER_HALF < c.code,
         upper_rail: (font - 1) / 2 % 2 == 1,
         upper_mag: 4 < font,
@@ -79,15 +76,14 @@ fn set_for(s: State, c: Character) -> State
     ensures { result ≡ set_for s c }
 {
     let size = font::size_index(c.font);
-    let across = carriage_of(c.x, font::is_double(size));
-    let modes = modes_for(s, c, across);
-    let height = c.height;
-    let mut t = s;
-    t.modes = modes;
-    t.size = size;
-    t.carriage = across;
-    t.height = height;
-    t
+    let carriage = carriage_of(c.x, font::is_double(size));
+    State {
+        modes: modes_for(s, c, carriage),
+        size,
+        carriage,
+        height: c.height,
+        ..s
+    }
 }
 
 // The machine after an item.
@@ -97,11 +93,9 @@ pub fn state_after(s: State, i: Item) -> State
 {
     match i {
         Item::Placed(c) => set_for(s, c),
-        Item::Cut => {
-            let top = measure::Quanta(0);
-            let mut t = s;
-            t.height = top;
-            begun_from(t)
-        }
+        Item::Cut => begun_from(State {
+            height: Quanta(0),
+            ..s
+        }),
     }
 }

@@ -5,15 +5,15 @@
 --     few                no amount comes near 64 bits
 --     figures_level      forward less backward is the sum of the heights at which its pages end
 -- Assumes nothing.
-use Rattle.std.specs.Prelude.{◌≡◌, ℕ, zero, suc, ◌+◌, ◌-◌, ◌*◌, ◌<◌, ◌≤◌, Bool, true, false, cond, ◌⊎◌, List, [], ◌∷◌, length, ℤ, pos, ◌+ℤ◌, ◌-ℤ◌, ◌==◌, ◌≢◌, nat_lt}
+use Rattle.std.specs.Prelude.{◌≡◌, ℕ, zero, suc, ◌+◌, ◌-◌, ◌*◌, ◌<◌, ◌≤◌, Bool, true, false, cond, ◌⊎◌, List, [], ◌∷◌, length, ℤ, pos, ◌+ℤ◌, ◌-ℤ◌, ◌==◌, ◌≢◌, nat_lt, Result as ResultOf, Ok, Err}
+use Rattle.octets.specs.declared.refusal.Reason.{Reason}
 use Rattle.std.proofs.Math.Path.{refl}
 use Rattle.std.proofs.Common.{sym, ap, subst, ◌∙◌, inl, inr, arith, ne_eqb, ltb-false, eqb-true}
-use Rattle.std.proofs.Math.Option.{Option, none, some}
 use Rattle.std.proofs.lemmas.Bool.{eqb-false}
 use Rattle.std.proofs.Math.Dec.{lit≤}
 use Rattle.integers.specs.Parts.{integers, sum_parts, dif_parts}
 use Rattle.integers.specs.Tables.{numbers}
-use Rattle.octets.specs.Answer.{Result, refusal, written, if_room, tape_too_long, after_cut, no_stop, no_galley_room, no_machine}
+use Rattle.octets.specs.Answer.{Result, refusal, written, if_room, tape_too_long, after_cut, no_stop, no_galley_room, no_machine, number_in}
 use Rattle.octets.specs.AnswerLaws.{room_enough}
 use Rattle.measure.specs.Place.{height_end}
 use Rattle.galley_file.specs.declared.form.Form.TheVariants.{New}
@@ -26,14 +26,13 @@ use Rattle.galley_file.specs.ItemLaws.{all_counted}
 use Rattle.galley_file.specs.Galley.{AllValid, nil, more, galley}
 use Rattle.typesetter.specs.declared.code.Machine.{Machine}
 use Rattle.typesetter.specs.declared.machine.State.{State}
-use Rattle.typesetter.specs.declared.machine.Effect.{Effect}
-use Rattle.typesetter.specs.declared.machine.Effect.TheVariants.{Moved, Flashed, PageEnded, Refused}
-use Rattle.typesetter.specs.Machine.{start, byte_effect}
+use Rattle.typesetter.specs.declared.machine.Effect.TheVariants.{Moved, Flashed, PageEnded}
+use Rattle.typesetter.specs.Code.{machine_of}
+use Rattle.typesetter.specs.CodeLaws.{machine_refused}
+use Rattle.typesetter.specs.Machine.{Step, start, byte_effect}
 use Rattle.typesetter.specs.EffectLaws.{IsFault}
 use Rattle.typesetter.specs.SoundLaws.{start_sound}
-use Rattle.tape.specs.declared.Ending.{Ending}
-use Rattle.tape.specs.declared.Ending.TheVariants.{Reached, Fault}
-use Rattle.tape.specs.Tape.{max_tape, run, closing, read_result, machine_of, on_machine, tape_result}
+use Rattle.tape.specs.Tape.{Ending, max_tape, run, closing, read_result, on_machine, tape_result}
 use Rattle.tape.specs.RunLaws.{run_length, run_valid, FaultIn, run_fault}
 use Rattle.tape.specs.TapeLaws.{items_fit}
 use Rattle.figures.specs.Figures.{Move, taken, moves, total, forward_of, backward_of, in_font, Figures, figures_by, figures_of}
@@ -51,39 +50,39 @@ Answered n = ((1 ≤ n) × (n ≤ 10)) ⊎ (n ≡ no_machine)
 
 pub data View (tape : List ℕ) (machine : ℕ) : Result → Type 0 where
   stopped_short : {n place : ℕ} → Answered n → View tape machine (refusal n place)
-  ran_whole : (kind : Machine) (s : State) → machine_of machine ≡ some kind → length tape ≤ max_tape → (run (start kind) 0 tape).ending ≡ Reached s → s.stopped ≡ true
+  ran_whole : (kind : Machine) (s : State) → machine_of machine ≡ Ok kind → length tape ≤ max_tape → (run (start kind) 0 tape).ending ≡ Ok s → s.stopped ≡ true
       → View tape machine (written (galley New (run (start kind) 0 tape).items))
 
 module _ (tape : List ℕ) (machine : ℕ) where
-  on_machine_lem : (kind : Machine) → machine_of machine ≡ some kind → length tape ≤ max_tape → View tape machine (read_result (start kind) tape (max_galley New))
+  on_machine_lem : (kind : Machine) → machine_of machine ≡ Ok kind → length tape ≤ max_tape → View tape machine (read_result (start kind) tape (max_galley New))
   unfolding read_result if_room
   on_machine_lem kind e l = go (run (start kind) 0 tape).ending refl
     where
       is : List Item
       is = (run (start kind) 0 tape).items
 
-      whole : (s : State) → (run (start kind) 0 tape).ending ≡ Reached s → s.stopped ≡ true → View tape machine (if_room no_galley_room (max_galley New) (written (galley New is)))
+      whole : (s : State) → (run (start kind) 0 tape).ending ≡ Ok s → s.stopped ≡ true → View tape machine (if_room no_galley_room (max_galley New) (written (galley New is)))
       whole s r p =
           subst (View tape machine) (sym (room_enough no_galley_room (max_galley New) (galley New is) (items_fit kind tape l))) (ran_whole kind s e l r p)
 
-      closed : (s : State) → (run (start kind) 0 tape).ending ≡ Reached s → (t u : Bool) → s.stopped ≡ u
+      closed : (s : State) → (run (start kind) 0 tape).ending ≡ Ok s → (t u : Bool) → s.stopped ≡ u
           → View tape machine (if_room no_galley_room (max_galley New) (cond t (refusal after_cut (length tape)) (cond u (written (galley New is)) (refusal no_stop (length tape)))))
       closed s r true u p = stopped_short (inl (lit≤ tt, lit≤ tt))
       closed s r false true p = whole s r p
       closed s r false false p = stopped_short (inl (lit≤ tt, lit≤ tt))
 
       go : (x : Ending) → (run (start kind) 0 tape).ending ≡ x → View tape machine (if_room no_galley_room (max_galley New) (closing (length tape) is x))
-      go (Reached s) r = closed s r s.cut s.stopped refl
-      go (Fault n p) r = let f : IsFault n = subst FaultIn r (run_fault (start kind) 0 tape) in stopped_short {n = n} (inl (omega (arith, f.0), f.1))
+      go (Ok s) r = closed s r s.cut s.stopped refl
+      go (Err q) r = let f : IsFault (number_in q.reason) = subst FaultIn r (run_fault (start kind) 0 tape) in stopped_short {n = number_in q.reason} (inl (omega (arith, f.0), f.1))
 
   pub view : View tape machine (tape_result tape machine (max_galley New))
   unfolding tape_result
   view = go (nat_lt max_tape (length tape)) refl (machine_of machine) refl
     where
-      go : (t : Bool) → nat_lt max_tape (length tape) ≡ t → (k : Option Machine) → machine_of machine ≡ k → View tape machine (cond t (refusal tape_too_long 0) (on_machine tape (max_galley New) k))
+      go : (t : Bool) → nat_lt max_tape (length tape) ≡ t → (k : ResultOf Machine Reason) → machine_of machine ≡ k → View tape machine (cond t (refusal tape_too_long 0) (on_machine tape (max_galley New) k))
       go true l k e = stopped_short (inl (lit≤ tt, lit≤ tt))
-      go false l none e = stopped_short (inr refl)
-      go false l (some kind) e = on_machine_lem kind e (ltb-false _ _ l)
+      go false l (Err reason) e = stopped_short (inr (ap number_in (machine_refused machine e)))
+      go false l (Ok kind) e = on_machine_lem kind e (ltb-false _ _ l)
 
 -- ---- its number
 
@@ -207,11 +206,11 @@ unfolding total moves
 total_most f m s [] = omega arith
 total_most f m s (b ∷ bs) = go (λ u. total_most f m u bs) (byte_effect s b) refl
   where
-    go : ((u : State) → total f (moves u bs) ≤ 31 * length bs) → (x : Effect) → byte_effect s b ≡ x → total f (moves s (b ∷ bs)) ≤ 31 * suc (length bs)
-    go later (Moved u) q = rw (q, moves) (omega (arith, m s b, later u))
-    go later (Flashed c) q = rw (q, moves) (omega (arith, later s))
-    go later (PageEnded u) q = rw (q, moves) (omega (arith, later u))
-    go later (Refused n) q = rw (q, moves) (omega arith)
+    go : ((u : State) → total f (moves u bs) ≤ 31 * length bs) → (x : Step) → byte_effect s b ≡ x → total f (moves s (b ∷ bs)) ≤ 31 * suc (length bs)
+    go later (Ok (Moved u)) q = rw (q, moves) (omega (arith, m s b, later u))
+    go later (Ok (Flashed c)) q = rw (q, moves) (omega (arith, later s))
+    go later (Ok (PageEnded u)) q = rw (q, moves) (omega (arith, later u))
+    go later (Err r) q = rw (q, moves) (omega arith)
 
 pub record Few (f : Figures) : Type 0 where
   pub characters : length f.characters ≤ most

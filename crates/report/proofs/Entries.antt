@@ -1,10 +1,13 @@
 -- A report with so much added to its first entries, one entry more at a time; and what a tape adds to each.
 -- Assumes nothing.
-use Rattle.std.proofs.Common.{◌≡◌, ℕ, zero, suc, ◌+◌, ◌-◌, ◌<◌, ◌≤◌, Bool, cond, List, [], ◌∷◌, get_or, set, sym, refl, ap, ◌∙◌, add-zero, arith, le-ltb, lt-ltb, eq-eqb, ne_eqb}
-use Rattle.figures.specs.declared.Tally.{Tally}
-use Rattle.figures.specs.Figures.{Figures, in_font, sum64}
+use Rattle.std.specs.Prelude.{Ok, Err}
+use mir.Val.{bool_byte}
+use Rattle.octets.specs.declared.refusal.Reason.{Reason}
+use Rattle.figures.specs.declared.Lead.{Lead}
+use Rattle.std.proofs.Common.{◌≡◌, ℕ, zero, suc, ◌+◌, ◌-◌, ◌<◌, ◌≤◌, Bool, true, false, cond, eqb, ltb, List, [], ◌∷◌, get_or, set, sym, refl, ap, ◌∙◌, add-zero, arith, le-ltb, lt-ltb, eq-eqb, ne_eqb}
+use Rattle.figures.specs.Figures.{Figures, sum64}
 use Rattle.report.specs.Report.{number_entry, amount, added}
-use Rattle.figures.specs.Counting.{count_in, Tallied}
+use Rattle.figures.specs.Counting.{Tally, number_found, count_in, Tallied}
 
 added_more : (f : ℕ → ℕ) (k n : ℕ) (xs : List ℕ) → added f k (suc n) xs ≡ set (added f k n xs) n (sum64 (get_or xs n 0) (f (k + n)))
 unfolding added
@@ -34,38 +37,39 @@ added_next f i report now e v w =
 
 -- ---- what a tape adds, by the entry
 
-module _ (t : Tally) (fonts : List ℕ) (i : ℕ) (f : Figures) (r : Tallied f t fonts) where
+as_number : (t : Bool) → bool_byte t ≡ cond t 1 0
+as_number true = refl
+as_number false = refl
+
+nothing : (t u : Bool) (a b c : ℕ) → 0 ≡ a → 0 ≡ b → 0 ≡ c → 0 ≡ cond t a (cond u b c)
+nothing true u a b c p q r = p
+nothing false true a b c p q r = q
+nothing false false a b c p q r = r
+
+module _ (fonts : List ℕ) (i : ℕ) (f : Figures) where
   pub amount_tapes : i ≡ 0 → 1 ≡ amount f i
   unfolding amount
   amount_tapes e = rw (eq-eqb i 0 e)
 
   module _ (n : i ≡ 0 → ⊥) where
-    module _ (l : i < 13) where
-      pub amount_number : i ≡ number_entry t.number → 1 ≡ amount f i
-      unfolding amount
-      amount_number e = rw (ne_eqb i 0 n, lt-ltb i 13 l, eq-eqb i (number_entry f.number) (e ∙ ap number_entry r.number))
-
-      pub amount_other : (i ≡ number_entry t.number → ⊥) → 0 ≡ amount f i
-      unfolding amount
-      amount_other e = rw (ne_eqb i 0 n, lt-ltb i 13 l, ne_eqb i (number_entry f.number) (λ z. e (z ∙ ap number_entry (sym r.number))))
+    pub amount_number : (t : Tally) → Tallied f t fonts → i < 13 → bool_byte (eqb i (number_entry (number_found t))) ≡ amount f i
+    unfolding amount
+    amount_number t r l = rw (ne_eqb i 0 n, lt-ltb i 13 l) (ap (λ (k : ℕ). bool_byte (eqb i (number_entry k))) r.number ∙ as_number (eqb i (number_entry f.number)))
 
     module _ (l : 13 ≤ i) where
-      module _ (m : i < 133) where
-        amount_font : in_font (i - 13) f.characters ≡ amount f i
+      pub amount_refused : (q : Reason) → Tallied f (Err q) fonts → 0 ≡ amount f i
+      unfolding amount
+      amount_refused q r = rw (ne_eqb i 0 n, le-ltb i 13 l) (nothing (ltb i 133) (eqb i 133) _ _ _ (r.counts (i - 13)) r.forward r.backward)
+
+      module _ (lead : Lead) (r : Tallied f (Ok lead) fonts) where
+        pub amount_accepted : i < 133 → count_in fonts (i - 13) ≡ amount f i
         unfolding amount
-        amount_font = rw (ne_eqb i 0 n, le-ltb i 13 l, lt-ltb i 133 m)
+        amount_accepted m = r.counts (i - 13) ∙ rw (ne_eqb i 0 n, le-ltb i 13 l, lt-ltb i 133 m)
 
-        pub amount_accepted : t.number ≡ 0 → count_in fonts (i - 13) ≡ amount f i
-        amount_accepted e = sym (ap (λ (u : Bool). cond u (count_in fonts (i - 13)) 0) (eq-eqb t.number 0 e)) ∙ r.counts (i - 13) ∙ amount_font
-
-        pub amount_refused : (t.number ≡ 0 → ⊥) → 0 ≡ amount f i
-        amount_refused e = sym (ap (λ (u : Bool). cond u (count_in fonts (i - 13)) 0) (ne_eqb t.number 0 e)) ∙ r.counts (i - 13) ∙ amount_font
-
-      module _ (m : 133 ≤ i) where
-        pub amount_forward : i ≡ 133 → t.forward ≡ amount f i
+        pub amount_forward : 133 ≤ i → i ≡ 133 → lead.forward ≡ amount f i
         unfolding amount
-        amount_forward e = r.forward ∙ rw (ne_eqb i 0 n, le-ltb i 13 l, le-ltb i 133 m, eq-eqb i 133 e)
+        amount_forward m e = r.forward ∙ rw (ne_eqb i 0 n, le-ltb i 13 l, le-ltb i 133 m, eq-eqb i 133 e)
 
-        pub amount_backward : (i ≡ 133 → ⊥) → t.backward ≡ amount f i
+        pub amount_backward : 133 ≤ i → (i ≡ 133 → ⊥) → lead.backward ≡ amount f i
         unfolding amount
-        amount_backward e = r.backward ∙ rw (ne_eqb i 0 n, le-ltb i 13 l, le-ltb i 133 m, ne_eqb i 133 e)
+        amount_backward m e = r.backward ∙ rw (ne_eqb i 0 n, le-ltb i 13 l, le-ltb i 133 m, ne_eqb i 133 e)

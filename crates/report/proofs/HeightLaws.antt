@@ -3,11 +3,10 @@
 --     level         the height still to end in a state
 --     run_levels    over any run: lead, heights ended, and the levels before and after
 -- Assumes nothing.
-use Rattle.std.specs.Prelude.{◌≡◌, ℕ, suc, ◌+◌, Bool, true, false, cond, List, [], ◌∷◌, ℤ, pos, ◌+ℤ◌, neg_ℤ, refl}
+use Rattle.std.specs.Prelude.{◌≡◌, ℕ, suc, ◌+◌, Bool, true, false, cond, List, [], ◌∷◌, ℤ, pos, ◌+ℤ◌, neg_ℤ, refl, Some, Ok, Err}
 use Rattle.std.proofs.Common.{sym, ap, ◌∙◌}
 use Rattle.integers.specs.Parts.{integers, sum_parts, neg_up, neg_dn}
 use Rattle.measure.specs.declared.Quanta.{Quanta}
-use Rattle.measure.specs.declared.Height.TheVariants as height
 use Rattle.measure.specs.Place.{directed_by, height_at}
 use Rattle.measure.specs.PlaceLaws.{height_in_lem}
 use Rattle.typesetter.specs.declared.code.Instruction.{Instruction}
@@ -16,12 +15,10 @@ use Rattle.typesetter.specs.declared.code.Code.{Code}
 use Rattle.typesetter.specs.declared.code.Code.TheVariants.{Instructs}
 use Rattle.typesetter.specs.declared.machine.Modes.{Modes}
 use Rattle.typesetter.specs.declared.machine.State.{State}
-use Rattle.typesetter.specs.declared.machine.Effect.{Effect}
-use Rattle.typesetter.specs.declared.machine.Effect.TheVariants.{Moved, Flashed, PageEnded, Refused}
+use Rattle.typesetter.specs.declared.machine.Effect.TheVariants.{Moved, Flashed, PageEnded}
 use Rattle.typesetter.specs.Code.{code_of}
-use Rattle.typesetter.specs.Machine.{with_modes, with_height, byte_effect}
+use Rattle.typesetter.specs.Machine.{Step, with_modes, with_height, byte_effect}
 use Rattle.typesetter.specs.EffectLaws.{Turning, rails, mags, halves, escape_ways, lead_ways, tilts, Causes, refuses, ignores, initializes, flashes, turns, sizes, stops, cuts, leads, escapes, causes}
-use Rattle.tape.specs.declared.Ending.TheVariants.{Reached, Fault}
 use Rattle.tape.specs.Tape.{run}
 use Rattle.tape.specs.RunLaws.{fault_never}
 use Rattle.figures.specs.Figures.{Move, taken, moves, total, forward_of, backward_of}
@@ -69,11 +66,11 @@ module _ (s : State) where
   abbrev move : Code → Move
   move k = record { state = s; code = k }
 
-  abbrev Levels : Code → Effect → Type 0
-  Levels k (Moved t) = level s +ℤ pos (forward_of (move k)) ≡ (level t +ℤ end_in k) +ℤ pos (backward_of (move k))
-  Levels k (Flashed c) = Unit {0}
-  Levels k (PageEnded t) = level s ≡ level t +ℤ s.height.0
-  Levels k (Refused n) = Unit {0}
+  abbrev Levels : Code → Step → Type 0
+  Levels k (Ok (Moved t)) = level s +ℤ pos (forward_of (move k)) ≡ (level t +ℤ end_in k) +ℤ pos (backward_of (move k))
+  Levels k (Ok (Flashed c)) = Unit {0}
+  Levels k (Ok (PageEnded t)) = level s ≡ level t +ℤ s.height.0
+  Levels k (Err n) = Unit {0}
 
   here : s.stopped ≡ false → level s ≡ s.height.0
   here f = ap (λ (t : Bool). cond t (pos 0) s.height.0) f
@@ -81,14 +78,14 @@ module _ (s : State) where
   cut_level : s.stopped ≡ false → level s ≡ cond s.stopped (pos 0) (pos 0) +ℤ s.height.0
   cut_level f = here f ∙ sym (ap (λ (t : Bool). cond t (pos 0) (pos 0) +ℤ s.height.0) f ∙ no_page s.height.0)
 
-  lead_level : (n : ℕ) (h : Quanta) → s.stopped ≡ false → height_at (s.height.0 +ℤ directed_by s.modes.lead_back n) ≡ height.At h → Levels (Instructs (Lead n)) (Moved (with_height s h))
+  lead_level : (n : ℕ) (h : Quanta) → s.stopped ≡ false → height_at (s.height.0 +ℤ directed_by s.modes.lead_back n) ≡ Some h → Levels (Instructs (Lead n)) (Ok (Moved (with_height s h)))
   lead_level n h f e =
       let there : level (with_height s h) ≡ h.0 = ap (λ (t : Bool). cond t (pos 0) h.0) f in
       ap (λ (z : ℤ). z +ℤ pos (cond s.modes.lead_back 0 n)) (here f)
       ∙ leading s.height.0 s.modes.lead_back n h.0 (height_in_lem _ h e).0
       ∙ sym (ap (λ (z : ℤ). (z +ℤ pos 0) +ℤ pos (cond s.modes.lead_back n 0)) there)
 
-  turn_level : (m : Modes) {o : Instruction} → Turning o → Levels (Instructs o) (Moved (with_modes s m))
+  turn_level : (m : Modes) {o : Instruction} → Turning o → Levels (Instructs o) (Ok (Moved (with_modes s m)))
   turn_level m rails = nothing (level s) s.modes.lead_back
   turn_level m mags = nothing (level s) s.modes.lead_back
   turn_level m halves = nothing (level s) s.modes.lead_back
@@ -96,7 +93,7 @@ module _ (s : State) where
   turn_level m lead_ways = nothing (level s) s.modes.lead_back
   turn_level m tilts = nothing (level s) s.modes.lead_back
 
-  levels_by : {k : Code} {x : Effect} → Causes s k x → Levels k x
+  levels_by : {k : Code} {x : Step} → Causes s k x → Levels k x
   levels_by (refuses h) = tt
   levels_by ignores = nothing (level s) s.modes.lead_back
   levels_by initializes = nothing (level s) s.modes.lead_back
@@ -108,7 +105,7 @@ module _ (s : State) where
   levels_by (leads {n} {h} f e) = lead_level n h f e
   levels_by (escapes r) = nothing (level s) s.modes.lead_back
 
-  levels : (b : ℕ) {x : Effect} → byte_effect s b ≡ x → Levels (code_of s.machine b) x
+  levels : (b : ℕ) {x : Step} → byte_effect s b ≡ x → Levels (code_of s.machine b) x
   levels b e = levels_by (causes s b e)
 
 -- ---- a run
@@ -118,7 +115,7 @@ unfolding sum_heights
 ends_by h hs true = refl
 ends_by h hs false = sym (no_page (sum_heights hs))
 
-pub run_levels : (s : State) (at : ℕ) (bs : List ℕ) {t : State} → (run s at bs).ending ≡ Reached t
+pub run_levels : (s : State) (at : ℕ) (bs : List ℕ) {t : State} → (run s at bs).ending ≡ Ok t
     → level s +ℤ pos (total forward_of (moves s bs)) ≡ (level t +ℤ sum_heights (page_ends s bs)) +ℤ pos (total backward_of (moves s bs))
 unfolding run moves total page_ends sum_heights
 run_levels s at [] {t} e =
@@ -126,15 +123,15 @@ run_levels s at [] {t} e =
     nothing (level s) true ∙ ap (λ (u : State). (level u +ℤ pos 0) +ℤ pos 0) same
 run_levels s at (b ∷ bs) {t} e = go (λ u. run_levels u (suc at) bs) (byte_effect s b) refl
   where
-    go : ((u : State) → (run u (suc at) bs).ending ≡ Reached t → level u +ℤ pos (total forward_of (moves u bs)) ≡ (level t +ℤ sum_heights (page_ends u bs)) +ℤ pos (total backward_of (moves u bs)))
-        → (x : Effect) → byte_effect s b ≡ x → level s +ℤ pos (total forward_of (moves s (b ∷ bs))) ≡ (level t +ℤ sum_heights (page_ends s (b ∷ bs))) +ℤ pos (total backward_of (moves s (b ∷ bs)))
-    go later (Moved u) q =
+    go : ((u : State) → (run u (suc at) bs).ending ≡ Ok t → level u +ℤ pos (total forward_of (moves u bs)) ≡ (level t +ℤ sum_heights (page_ends u bs)) +ℤ pos (total backward_of (moves u bs)))
+        → (x : Step) → byte_effect s b ≡ x → level s +ℤ pos (total forward_of (moves s (b ∷ bs))) ≡ (level t +ℤ sum_heights (page_ends s (b ∷ bs))) +ℤ pos (total backward_of (moves s (b ∷ bs)))
+    go later (Ok (Moved u)) q =
         let k = code_of s.machine b in
         rw (q, moves, page_ends)
         (joined (level s) (level u) (level t) (end_in s k) (sum_heights (page_ends u bs)) (forward_of (taken s b)) (total forward_of (moves u bs)) (backward_of (taken s b)) (total backward_of (moves u bs)) (levels s b q) (later u (rw (q, run) at e))
         ∙ ap (λ (z : ℤ). (level t +ℤ z) +ℤ pos (backward_of (taken s b) + total backward_of (moves u bs))) (sym (ends_by s.height (page_ends u bs) (is_stop k))))
-    go later (Flashed c) q = rw (q, moves, page_ends) (later s (rw (q, run) at e))
-    go later (PageEnded u) q =
+    go later (Ok (Flashed c)) q = rw (q, moves, page_ends) (later s (rw (q, run) at e))
+    go later (Ok (PageEnded u)) q =
         rw (q, moves, page_ends)
         (page_ended_then (level s) (level u) (level t) s.height.0 (sum_heights (page_ends u bs)) (total forward_of (moves u bs)) (total backward_of (moves u bs)) (levels s b q) (later u (rw (q, run) at e)))
-    go later (Refused n) q = let f : Fault n at ≡ Reached t = rw (q, run) at e in fault_never f
+    go later (Err n) q = let f : Err (record { reason = n; place = at }) ≡ Ok t = rw (q, run) at e in fault_never f

@@ -9,8 +9,8 @@
 --     page_ends       the heights at which the pages of a run end
 --     heights_in      the sum of those at which accepted tapes' pages ended
 --     Sums           what the request says of a report over some tapes
-use Rattle.std.specs.Prelude.{◌≡◌, ℕ, ◌+◌, Bool, true, false, cond, List, [], ◌∷◌, map, length, replicate, ℤ, pos, ◌+ℤ◌, ◌-ℤ◌, slice_index}
-use Rattle.std.proofs.Math.Option.{Option, none, some}
+use Rattle.std.specs.Prelude.{◌≡◌, ℕ, ◌+◌, Bool, true, false, cond, List, [], ◌∷◌, map, length, replicate, ℤ, pos, ◌+ℤ◌, ◌-ℤ◌, slice_index, Result as ResultOf, Ok, Err}
+use Rattle.octets.specs.declared.refusal.Reason.{Reason}
 use Rattle.integers.specs.Tables.{numbers}
 use Rattle.octets.specs.Answer.{Result, refusal, written}
 use Rattle.measure.specs.declared.Quanta.{Quanta}
@@ -24,10 +24,10 @@ use Rattle.typesetter.specs.declared.code.Instruction.TheVariants.{Flash, Rail, 
 use Rattle.typesetter.specs.declared.code.Code.{Code}
 use Rattle.typesetter.specs.declared.code.Code.TheVariants.{Ignored, Illegal, Initialize, Instructs}
 use Rattle.typesetter.specs.declared.machine.State.{State}
-use Rattle.typesetter.specs.declared.machine.Effect.TheVariants.{Moved, Flashed, PageEnded, Refused}
-use Rattle.typesetter.specs.Code.{code_of}
+use Rattle.typesetter.specs.declared.machine.Effect.TheVariants.{Moved, Flashed, PageEnded}
+use Rattle.typesetter.specs.Code.{machine_of, code_of}
 use Rattle.typesetter.specs.Machine.{start, byte_effect}
-use Rattle.tape.specs.Tape.{machine_of, tape_result}
+use Rattle.tape.specs.Tape.{tape_result}
 use Rattle.figures.specs.Figures.{figures_of}
 use Rattle.report.specs.Report.{amount, entries, counted_in}
 
@@ -97,19 +97,19 @@ unfoldable pub page_ends : State → List ℕ → List Quanta
 page_ends s [] = []
 page_ends s (b ∷ bs) =
     elim (byte_effect s b) [
-      | Moved t ↦ cond (is_stop (code_of s.machine b)) (s.height ∷ page_ends t bs) (page_ends t bs)
-      | Flashed c ↦ page_ends s bs
-      | PageEnded t ↦ s.height ∷ page_ends t bs
-      | Refused n ↦ []
+      | Ok (Moved t) ↦ cond (is_stop (code_of s.machine b)) (s.height ∷ page_ends t bs) (page_ends t bs)
+      | Ok (Flashed c) ↦ page_ends s bs
+      | Ok (PageEnded t) ↦ s.height ∷ page_ends t bs
+      | Err r ↦ []
     ]
 
 unfoldable pub sum_heights : List Quanta → ℤ
 sum_heights [] = pos 0
 sum_heights (h ∷ hs) = h.0 +ℤ sum_heights hs
 
-abbrev pub ends_on : Option Machine → List ℕ → List Quanta
-ends_on none tape = []
-ends_on (some kind) tape = page_ends (start kind) tape
+abbrev pub ends_on : ResultOf Machine Reason → List ℕ → List Quanta
+ends_on (Err reason) tape = []
+ends_on (Ok kind) tape = page_ends (start kind) tape
 
 abbrev pub ends_by : Tape → Result → List Quanta
 ends_by t (refusal n place) = []

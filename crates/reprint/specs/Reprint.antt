@@ -10,8 +10,9 @@
 --     Reprints           what a reprint promises
 --     ReprintsNumbers    the same where the numbers are given in an array
 --     Distinguished      two galleys, and what is shown of them
-use Rattle.std.specs.Prelude.{ℕ, ◌+◌, ◌*◌, ◌%◌, ◌≤◌, cond, List, [], ◌∷◌, ◌++◌, ◌↔◌, ◌≡◌, ℤ, pos, length, drop}
-use Rattle.octets.specs.Answer.{Outcome, accepted, refused, number_of, place_of, length_of, Result, refusal, written, widths_not_whole, Gives}
+use Rattle.std.specs.Prelude.{ℕ, ◌+◌, ◌*◌, ◌%◌, ◌≤◌, cond, List, [], ◌∷◌, ◌++◌, ◌↔◌, ◌≡◌, ℤ, pos, length, drop, Result as ResultOf, Ok, Err}
+use Rattle.octets.specs.declared.refusal.Refusal.{Refusal}
+use Rattle.octets.specs.Answer.{number_in, Outcome, accepted, refused, number_of, place_of, length_of, Result, refusal, written, widths_not_whole, Gives}
 use Rattle.measure.specs.Place.{low_end}
 use Rattle.galley_file.specs.declared.form.Form.TheVariants.{New}
 use Rattle.galley_file.specs.declared.item.Item.{Item}
@@ -59,13 +60,13 @@ of_sheet (reprinted file bs) = written bs
 -- ---- what a call gives
 
 -- the outcomes that each case of the answer stands for
-abbrev pub file_outcome : Lengths → Outcome
-file_outcome (Lengths.Both bs file) = accepted file
-file_outcome (Lengths.Refused number place) = refused number place
+abbrev pub file_outcome : ResultOf Lengths Refusal → Outcome
+file_outcome (Ok l) = accepted l.file
+file_outcome (Err r) = refused (number_in r.reason) r.place
 
-abbrev pub sheet_outcome : Lengths → Outcome
-sheet_outcome (Lengths.Both bs file) = accepted bs
-sheet_outcome (Lengths.Refused number place) = refused number place
+abbrev pub sheet_outcome : ResultOf Lengths Refusal → Outcome
+sheet_outcome (Ok l) = accepted l.sheet
+sheet_outcome (Err r) = refused (number_in r.reason) r.place
 
 -- number, place, the sheet's length and the file's
 abbrev pub both_numbers : Outcome → Outcome → List ℕ

@@ -11,26 +11,26 @@ ghost use Rattle.sheet.specs.Readable.{font_chars};
 ghost use Rattle.reprint.specs.Reprint.{reprint_result, file_outcome, sheet_outcome, both_numbers, sheet_size, GivesBoth, Reprints};
 
 use galley_file::{form, item};
-use octets::answer::Answer;
-use octets::{answer, field};
+use octets::field;
+use octets::refusal::{Reason, Refusal};
 
 // The fields of page 1 and of the end.
 const OTHER_FIELDS: usize = sheet::PAGE_FIELD + field::END_FIELD;
 
-// The lengths of the sheet and of the file, or the number and the place of a refusal.
-#[derive(Clone, Copy)]
-pub enum Lengths {
-    Both(usize, usize),
-    Refused(u8, usize),
+// The lengths of the sheet and of the file.
+#[derive(Clone, Copy, PartialEq, Eq)]
+pub struct Lengths {
+    pub sheet: usize,
+    pub file: usize,
 }
 
 // Number, place, the sheet's length and the file's.
-pub fn numbers(a: Lengths) -> [usize; 4]
-    ensures { result ≡ both_numbers (file_outcome a) (sheet_outcome a) }
+pub fn numbers(answer: Result<Lengths, Refusal>) -> [usize; 4]
+    ensures { result ≡ both_numbers (file_outcome answer) (sheet_outcome answer) }
 {
-    match a {
-        Lengths::Both(sheet, file) => [0, 0, sheet, file],
-        Lengths::Refused(number, place) => [number as usize, place, 0, 0],
+    match answer {
+        Ok(lengths) => [0, 0, lengths.sheet, lengths.file],
+        Err(refusal) => [refusal.reason.number() as usize, refusal.place, 0, 0],
     }
 }
 
@@ -49,10 +49,9 @@ fn file_length(galley: &[u8], count: usize) -> usize
     ensures { result ≡ length (dvi_file (items_of New galley.now)) }
 {
     let mut none = [0u8; 1];
-    let written = dvi_writer::write_dvi(galley, &mut none);
-    match written {
-        Answer::Refused(_, length) => length,
-        Answer::Accepted(length) => length,
+    match dvi_writer::write_dvi(galley, &mut none) {
+        Ok(length) => length,
+        Err(refusal) => refusal.place,
     }
 }
 
@@ -64,7 +63,7 @@ fn reprint_checked(
     widths: &[i32],
     dvi: &mut [u8],
     sheet: &mut [u8],
-) -> Lengths
+) -> Result<Lengths, Refusal>
     requires { (accepted count ≡ low_outcome galley.now) × (length widths.now % font_chars ≡ 0) }
     ensures { GivesBoth (file_outcome result) (sheet_outcome result) (reprint_result galley.now widths.now) dvi.old dvi.new sheet.old sheet.new }
 {
@@ -72,30 +71,30 @@ fn reprint_checked(
     if sheet.len() < needed {
         let length = file_length(galley, count);
         if dvi.len() < length {
-            return Lengths::Refused(answer::NO_DVI_ROOM, length);
+            return Err(Reason::NoDviRoom.at(length));
         }
-        return Lengths::Refused(answer::NO_SHEET_ROOM, needed);
+        return Err(Reason::NoSheetRoom.at(needed));
     }
-    let written = dvi_writer::write_dvi(galley, dvi);
-    match written {
-        Answer::Refused(number, place) => Lengths::Refused(number, place),
-        Answer::Accepted(length) => {
-            dvi_reader::read_dvi(&dvi[..length], widths, sheet);
-            Lengths::Both(needed, length)
-        }
-    }
+    let length = dvi_writer::write_dvi(galley, dvi)?;
+    let _ = dvi_reader::read_dvi(&dvi[..length], widths, sheet);
+    Ok(Lengths {
+        sheet: needed,
+        file: length,
+    })
 }
 
 // Writes the galley's file into `dvi` and its sheet into `sheet`, or neither.
-pub fn reprint(galley: &[u8], widths: &[i32], dvi: &mut [u8], sheet: &mut [u8]) -> Lengths
+pub fn reprint(
+    galley: &[u8],
+    widths: &[i32],
+    dvi: &mut [u8],
+    sheet: &mut [u8],
+) -> Result<Lengths, Refusal>
     ensures { Reprints (file_outcome result) (sheet_outcome result) galley.now widths.now dvi.old dvi.new sheet.old sheet.new }
 {
     if widths.len() % sheet::FONT_CHARS != 0 {
-        return Lengths::Refused(answer::WIDTHS_NOT_WHOLE, 0);
+        return Err(Reason::WidthsNotWhole.at(0));
     }
-    let checked = galley_check::check_low(galley);
-    match checked {
-        Answer::Refused(number, place) => Lengths::Refused(number, place),
-        Answer::Accepted(count) => reprint_checked(galley, count, widths, dvi, sheet),
-    }
+    let count = galley_check::check_low(galley)?;
+    reprint_checked(galley, count, widths, dvi, sheet)
 }

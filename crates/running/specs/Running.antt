@@ -8,9 +8,9 @@
 --     feed_of        a piece, with a buffer of so many bytes
 --     close_of       the close, with a buffer of so many bytes
 --     Leaves        what a call promises: it gives the result of its reply, and leaves its running tape
-use Rattle.std.specs.Prelude.{ℕ, ◌+◌, ◌≡◌, Bool, cond, ◌&&◌, List, [], ltb, leb, length}
-use Rattle.std.proofs.Math.Option.{Option, none, some}
-use Rattle.octets.specs.Answer.{Outcome, Result, refusal, written, Gives, tape_too_long, after_cut, no_stop, no_galley_room, not_started, no_machine}
+use Rattle.std.specs.Prelude.{ℕ, ◌+◌, ◌≡◌, Bool, cond, ◌&&◌, List, [], ltb, leb, length, Result as ResultOf, Ok, Err}
+use Rattle.octets.specs.Answer.{Outcome, Result, refusal, written, Gives, tape_too_long, after_cut, no_stop, no_galley_room, not_started, number_in}
+use Rattle.octets.specs.declared.refusal.Reason.{Reason}
 use Rattle.octets.specs.Field.{end_field}
 use Rattle.measure.specs.Place.{carriage_end, height_end, within}
 use Rattle.galley_file.specs.declared.form.Form.TheVariants.{New}
@@ -23,9 +23,8 @@ use Rattle.typesetter.specs.declared.code.Machine.{Machine}
 use Rattle.typesetter.specs.declared.code.Machine.TheVariants.{Eight}
 use Rattle.typesetter.specs.declared.machine.State.{State}
 use Rattle.typesetter.specs.Machine.{start}
-use Rattle.tape.specs.declared.Ending.{Ending}
-use Rattle.tape.specs.declared.Ending.TheVariants.{Reached, Fault}
-use Rattle.tape.specs.Tape.{max_tape, run, machine_of}
+use Rattle.typesetter.specs.Code.{machine_of}
+use Rattle.tape.specs.Tape.{Ending, max_tape, run}
 use Rattle.running.specs.declared.Phase.{Phase}
 use Rattle.running.specs.declared.Phase.TheVariants.{AtRest, Open, Failed}
 use Rattle.running.specs.declared.Running.{Running}
@@ -71,9 +70,9 @@ abbrev pub fresh : Machine → Running
 fresh machine = begun machine no_extents
 
 -- "A start with a wrong machine gets 50 and changes nothing"
-abbrev pub start_on : Running → Option Machine → Replied
-start_on r (some machine) = record { tape = fresh machine; result = written [] }
-start_on r none = refusing r no_machine 0
+abbrev pub start_on : Running → ResultOf Machine Reason → Replied
+start_on r (Ok machine) = record { tape = fresh machine; result = written [] }
+start_on r (Err reason) = refusing r (number_in reason) 0
 
 unfoldable pub start_of : Running → ℕ → Replied
 start_of r machine = start_on r (machine_of machine)
@@ -86,8 +85,8 @@ grown r t n is = record { phase = Open; state = t; total = r.total + n; count = 
 
 -- the tape's faults, at offsets from its start; 12 last, its place the bytes needed for the piece
 abbrev pub piece_ends : Running → ℕ → List Item → Ending → ℕ → Replied
-piece_ends r n is (Reached t) room = putting r (grown r t n is) (fields New is) room
-piece_ends r n is (Fault k place) room = failing r k place
+piece_ends r n is (Ok t) room = putting r (grown r t n is) (fields New is) room
+piece_ends r n is (Err q) room = failing r (number_in q.reason) q.place
 
 abbrev pub feed_within : Running → List ℕ → ℕ → Replied
 feed_within r piece = piece_ends r (length piece) (run r.state r.total piece).items (run r.state r.total piece).ending

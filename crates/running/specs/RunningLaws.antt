@@ -5,11 +5,12 @@
 --     leaves, leaves_same                    what a call promises, once its reply is known
 --     close_unsound, close_cut, close_unstopped, close_short, close_whole      the close of an open one
 -- Assumes nothing.
-use Rattle.std.specs.Prelude.{◌≡◌, refl, Bool, true, false, cond, List, ℕ, ◌+◌, ◌≤◌, ◌<◌, leb, length}
+use Rattle.std.specs.Prelude.{◌≡◌, refl, Bool, true, false, cond, List, ℕ, ◌+◌, ◌≤◌, ◌<◌, leb, length, Ok, Err}
 use Rattle.std.proofs.Common.{sym, ◌∙◌, arith}
 use Rattle.std.proofs.Math.Path.{ap}
 use borrow.Author.Tests.{lt-ltb, le-ltb, le-leb, leb-true}
-use Rattle.octets.specs.Answer.{Outcome, written, outcome, buffer_after, tape_too_long, after_cut, no_stop, no_galley_room, not_started}
+use Rattle.octets.specs.Answer.{Outcome, written, outcome, buffer_after, tape_too_long, after_cut, no_stop, no_galley_room, not_started, number_in}
+use Rattle.octets.specs.declared.refusal.Refusal.{Refusal}
 use Rattle.octets.specs.AnswerLaws.{gives}
 use Rattle.octets.specs.Field.{end_field}
 use Rattle.octets.specs.FieldLaws.{both, length_end}
@@ -20,9 +21,7 @@ use Rattle.galley_file.specs.declared.item.Item.{Item}
 use Rattle.galley_file.specs.Galley.{fields}
 use Rattle.typesetter.specs.declared.machine.State.{State}
 use Rattle.typesetter.specs.Sound.{Sound}
-use Rattle.tape.specs.declared.Ending.{Ending}
-use Rattle.tape.specs.declared.Ending.TheVariants.{Reached, Fault}
-use Rattle.tape.specs.Tape.{max_tape}
+use Rattle.tape.specs.Tape.{Ending, max_tape}
 use Rattle.running.specs.declared.Phase.{Phase}
 use Rattle.running.specs.declared.Running.{Running}
 use Rattle.running.specs.Running.{Replied, refusing, failing, putting, is_sound, in_phase, grown, piece_ends, feed_within, feed_open, feed_of, at_rest_of, close_open, close_of, Leaves}
@@ -78,10 +77,10 @@ module _ (r : Running) (piece : List ℕ) (room : ℕ) where
   feed_fits e h = rw (e, le-ltb _ _ h)
 
 module _ (r : Running) (n : ℕ) (is : List Item) (room : ℕ) where
-  pub piece_fault : {e : Ending} {k place : ℕ} → e ≡ Fault k place → piece_ends r n is e room ≡ failing r k place
+  pub piece_fault : {e : Ending} {q : Refusal} → e ≡ Err q → piece_ends r n is e room ≡ failing r (number_in q.reason) q.place
   piece_fault q = ap (λ (x : Ending). piece_ends r n is x room) q
 
-  module _ {e : Ending} {t : State} (q : e ≡ Reached t) where
+  module _ {e : Ending} {t : State} (q : e ≡ Ok t) where
     pub piece_short : room < length (fields New is) → piece_ends r n is e room ≡ refusing r no_galley_room (length (fields New is))
     piece_short h = ap (λ (x : Ending). piece_ends r n is x room) q ∙ put_short r (grown r t n is) (fields New is) room h
 

@@ -4,19 +4,18 @@
 
 mod close;
 
-ghost use Rattle.std.specs.Prelude.{◌≡◌};
-ghost use Rattle.octets.specs.Answer.{outcome_of, outcome};
-ghost use Rattle.octets.specs.declared.answer.Answer.TheVariants as answers;
+ghost use Rattle.std.specs.Prelude.{◌≡◌, Ok, Err};
+ghost use Rattle.octets.specs.Answer.{number_of, place_of, outcome};
+ghost use Rattle.running.specs.Answer.{outcome_in};
 ghost use Rattle.running.specs.Running.{is_sound, failed, new_tape, begun, close_of, start_of, Leaves};
 
 use extents::Extents;
-use octets::answer;
-use octets::answer::Answer;
+use octets::refusal::{Reason, Refusal};
 use typesetter::code::Machine;
-use typesetter::machine;
 use typesetter::machine::State;
 
-// At rest before any start and after an accepted closing; open; or refused for good, with the refusal that is repeated.
+// At rest before any start and after an accepted closing; open; or refused for good, with the refusal that is repeated. It is kept as a number
+// and a place, and not as a Refusal: C lends the words that hold it, with any number (`spatecanter_running::words`).
 #[derive(Clone, Copy)]
 pub enum Phase {
     AtRest,
@@ -35,6 +34,16 @@ pub struct Running {
     pub extents: Extents,
 }
 
+// Why a call is refused: what it found, or the number and the place of the refusal that it repeats.
+#[derive(Clone, Copy)]
+pub enum Refused {
+    Now(Refusal),
+    Again(u8, usize),
+}
+
+// The length of what a call wrote, or its refusal.
+pub type Answer = Result<usize, Refused>;
+
 // What a call leaves of the running tape, and answers.
 #[derive(Clone, Copy)]
 pub struct Reply {
@@ -42,103 +51,90 @@ pub struct Reply {
     pub answer: Answer,
 }
 
-// Whether a call can go on with an open running tape.
-pub fn is_sound(r: Running) -> bool
-    ensures { result ≡ is_sound r }
-{
-    if tape::MAX_TAPE < r.total {
-        return false;
+impl Running {
+    // A running tape before any start.
+    pub fn new() -> Running
+        ensures { result ≡ new_tape }
+    {
+        Running {
+            phase: Phase::AtRest,
+            state: State::at_start(Machine::Eight),
+            total: 0,
+            count: 0,
+            extents: extents::none(),
+        }
     }
-    if r.total < r.count {
-        return false;
-    }
-    if r.state.carriage.is_carriage() {
-        r.state.height.is_height()
-    } else {
-        false
-    }
-}
 
-pub fn refusing(tape: Running, n: u8, place: usize) -> Reply
-    ensures { result ≡ record { tape = tape; answer = answers.Refused n place } }
-{
-    Reply {
-        tape: tape,
-        answer: Answer::Refused(n, place),
+    // Whether a call can go on with an open running tape.
+    #[tactic(auto, unfolding(crate::specs::Running::is_sound))]
+    pub fn is_sound(self) -> bool
+        ensures { result ≡ is_sound self }
+    {
+        self.total <= tape::MAX_TAPE
+            && self.count <= self.total
+            && self.state.carriage.is_carriage()
+            && self.state.height.is_height()
     }
-}
 
-pub fn failing(tape: Running, n: u8, place: usize) -> Reply
-    ensures { result ≡ record { tape = failed tape n place; answer = answers.Refused n place } }
-{
-    let state = tape.state;
-    let extents = tape.extents;
-    Reply {
-        tape: Running {
-            phase: Phase::Failed(n, place),
-            state: state,
-            total: tape.total,
-            count: tape.count,
-            extents: extents,
-        },
-        answer: Answer::Refused(n, place),
+    // A refusal that leaves the running tape as it was.
+    pub fn refusing(self, refused: Refused) -> Reply
+        ensures { result ≡ record { tape = self; answer = Err refused } }
+    {
+        Reply {
+            tape: self,
+            answer: Err(refused),
+        }
     }
-}
 
-// A running tape before any start.
-pub fn new_tape() -> Running
-    ensures { result ≡ new_tape }
-{
-    let state = machine::at_start(Machine::Eight);
-    let none = extents::none();
-    Running {
-        phase: Phase::AtRest,
-        state: state,
-        total: 0,
-        count: 0,
-        extents: none,
+    // A refusal that the running tape keeps.
+    pub fn failing(self, refused: Refused) -> Reply
+        ensures { result ≡ record { tape = failed self (number_of (outcome_in (Err refused))) (place_of (outcome_in (Err refused))); answer = Err refused } }
+    {
+        let phase = match refused {
+            Refused::Now(refusal) => Phase::Failed(refusal.reason.number(), refusal.place),
+            Refused::Again(number, place) => Phase::Failed(number, place),
+        };
+        Reply {
+            tape: Running { phase, ..self },
+            answer: Err(refused),
+        }
+    }
+
+    // A start on the machine with so many fonts, 4 or 8.
+    pub fn started(self, machine: u32) -> Reply
+        ensures { (outcome_in result.answer ≡ outcome (start_of self machine).result) × (result.tape ≡ (start_of self machine).tape) }
+    {
+        let none = extents::none();
+        match Machine::try_from(machine) {
+            Ok(machine) => begin(machine, none),
+            Err(reason) => self.refusing(Refused::Now(reason.at(0))),
+        }
+    }
+
+    // The close: End goes into the lent buffer.
+    pub fn closed(self, out: &mut [u8]) -> Reply
+        ensures { Leaves (outcome_in result.answer) result.tape (close_of self) out.old out.new }
+    {
+        match self.phase {
+            Phase::AtRest => self.refusing(Refused::Now(Reason::NotStarted.at(0))),
+            Phase::Failed(number, place) => self.refusing(Refused::Again(number, place)),
+            Phase::Open => close::close_open(self, out),
+        }
     }
 }
 
 // The reply of an accepted start.
 fn begin(machine: Machine, extents: Extents) -> Reply
-    ensures { result ≡ record { tape = begun machine extents; answer = answers.Accepted 0 } }
+    ensures { result ≡ record { tape = begun machine extents; answer = Ok 0 } }
 {
-    let state = machine::at_start(machine);
     Reply {
         tape: Running {
             phase: Phase::Open,
-            state: state,
+            state: State::at_start(machine),
             total: 0,
             count: 0,
-            extents: extents,
+            extents,
         },
-        answer: Answer::Accepted(0),
-    }
-}
-
-// A start on the machine with so many fonts, 4 or 8.
-pub fn started(tape: Running, machine: u32) -> Reply
-    ensures { (outcome_of result.answer ≡ outcome (start_of tape machine).result) × (result.tape ≡ (start_of tape machine).tape) }
-{
-    let none = extents::none();
-    if machine == 4 {
-        return begin(Machine::Four, none);
-    }
-    if machine == 8 {
-        return begin(Machine::Eight, none);
-    }
-    refusing(tape, answer::NO_MACHINE, 0)
-}
-
-// The close: End goes into the lent buffer.
-pub fn closed(tape: Running, out: &mut [u8]) -> Reply
-    ensures { Leaves (outcome_of result.answer) result.tape (close_of tape) out.old out.new }
-{
-    let phase = tape.phase;
-    match phase {
-        Phase::AtRest => refusing(tape, answer::NOT_STARTED, 0),
-        Phase::Failed(n, place) => refusing(tape, n, place),
-        Phase::Open => close::close_open(tape, out),
+        answer: Ok(0),
     }
 }

@@ -10,6 +10,7 @@
 --     calls_for        a start, the pieces and the close
 use Rattle.std.specs.Prelude.{ℕ, ◌+◌, ◌≤◌, ◌≡◌, Bool, false, cond, eqb, length}
 use mathlib.Core.List.{List, [], ◌∷◌, ◌++◌, foldl}
+use Rattle.std.specs.Prelude.{Ok}
 use Rattle.octets.specs.Answer.{Result, refusal, written, no_galley_room}
 use Rattle.octets.specs.Pass.{bytes_of}
 use Rattle.octets.specs.Transducer.{transduced}
@@ -18,7 +19,6 @@ use Rattle.galley_file.specs.Galley.{fields}
 use Rattle.typesetter.specs.declared.code.Machine.{Machine}
 use Rattle.typesetter.specs.declared.machine.State.{State}
 use Rattle.typesetter.specs.Machine.{start}
-use Rattle.tape.specs.declared.Ending.TheVariants.{Reached}
 use Rattle.tape.specs.Tape.{run}
 use Rattle.tape.specs.TapeLaws.{items_on}
 use Rattle.running.specs.declared.Running.{Running}
@@ -89,7 +89,7 @@ calls_for machine ps room = starting machine ∷ (pieces ps ++ (closing room ∷
 -- "room for each piece", after the bytes xs: for the fields of what it sets on this machine, where it has no fault
 abbrev pub RoomFor : Machine → List ℕ → List ℕ → ℕ → Type 0
 RoomFor kind xs p room =
-    (t : State) → (run (start kind) 0 (xs ++ p)).ending ≡ Reached t → length (fields New (items_on kind (xs ++ p))) ≤ length (fields New (items_on kind xs)) + room
+    (t : State) → (run (start kind) 0 (xs ++ p)).ending ≡ Ok t → length (fields New (items_on kind (xs ++ p))) ≤ length (fields New (items_on kind xs)) + room
 
 pub data RoomForEach (kind : Machine) : List ℕ → List Piece → Type 0 where
   none : {xs : List ℕ} → RoomForEach kind xs []

@@ -8,8 +8,9 @@
 use Rattle.std.specs.Prelude.{◌≡◌, Bool, true, false, cond, List, [], ◌∷◌, ◌++◌, ℕ, ◌+◌, ◌≤◌, ltb}
 use Rattle.std.proofs.Math.Path.{refl}
 use Rattle.std.proofs.Common.{sym, ap, subst, ◌∙◌, suc-ne-zero, arith, eqb-true}
-use Rattle.std.proofs.Math.Option.{Option, none, some}
 use Rattle.std.proofs.Math.ListN.{length}
+use Rattle.std.specs.Prelude.{Ok, Err, Result as ResultOf}
+use Rattle.octets.specs.declared.refusal.Reason.{Reason}
 use Rattle.octets.specs.Answer.{Result, refusal, written, buffer_after, no_galley_room, not_started}
 use Rattle.octets.specs.Field.{end_field}
 use Rattle.measure.specs.Place.{height_end}
@@ -20,9 +21,8 @@ use Rattle.galley_file.specs.declared.item.Item.{Item}
 use Rattle.galley_file.specs.Galley.{AllValid, fields}
 use Rattle.typesetter.specs.declared.code.Machine.{Machine}
 use Rattle.typesetter.specs.declared.machine.State.{State}
-use Rattle.tape.specs.declared.Ending.{Ending}
-use Rattle.tape.specs.declared.Ending.TheVariants.{Reached, Fault}
-use Rattle.tape.specs.Tape.{max_tape, run, machine_of}
+use Rattle.typesetter.specs.Code.{machine_of}
+use Rattle.tape.specs.Tape.{Ending, max_tape, run}
 use Rattle.tape.specs.RunLaws.{run_valid, FaultIn, run_fault}
 use Rattle.running.specs.declared.Phase.{Phase}
 use Rattle.running.specs.declared.Phase.TheVariants.{AtRest, Open, Failed}
@@ -58,8 +58,8 @@ kind_cond false x y p q = q refl
 
 module _ (r : Running) where
   kind_ends : (n : ℕ) (is : List Item) (e : Ending) (room : ℕ) → AllValid height_end is → FaultIn e → Kind r (piece_ends r n is e room)
-  kind_ends n is (Reached t) room v s = kind_cond (ltb room (length (fields New is))) _ _ (λ _. roomless) (λ _. adds t n is v)
-  kind_ends n is (Fault k place) room v s = keeps s.1
+  kind_ends n is (Ok t) room v s = kind_cond (ltb room (length (fields New is))) _ _ (λ _. roomless) (λ _. adds t n is v)
+  kind_ends n is (Err f) room v s = keeps s.1
 
   kind_within : (bs : List ℕ) (room : ℕ) → is_sound r ≡ true → Kind r (feed_within r bs room)
   kind_within bs room s =
@@ -104,9 +104,9 @@ room_kind (keeps {n} {place} h) e = absurd (omega (arith, h, eqb-true n 12 e))
 room_kind (adds t n is v) e = no_room e
 room_kind finishes e = no_room e
 
-room_start : (r : Running) (k : Option Machine) → is_room (start_on r k).result ≡ true → (start_on r k).tape ≡ r
-room_start r (some machine) e = no_room e
-room_start r none e = refl
+room_start : (r : Running) (k : ResultOf Machine Reason) → is_room (start_on r k).result ≡ true → (start_on r k).tape ≡ r
+room_start r (Ok machine) e = no_room e
+room_start r (Err reason) e = refl
 
 pub room_keeps : (r : Running) (c : Call) → is_room (given r c).result ≡ true → (given r c).tape ≡ r
 unfolding start_of

@@ -6,7 +6,8 @@
 -- Assumes nothing.
 use Rattle.std.specs.Prelude.{◌≡◌, refl, List, [], ◌∷◌, ◌++◌, ◌⊎◌, ℕ}
 use Rattle.std.proofs.Common.{sym, ap, subst, ◌∙◌, append_assoc, append-nil, inl, inr}
-use Rattle.std.proofs.Math.Option.{none, some}
+use Rattle.std.specs.Prelude.{Ok, Err}
+use Rattle.octets.specs.declared.refusal.Reason.TheVariants.{NoMachine}
 use Rattle.octets.specs.Field.{end_field}
 use Rattle.measure.specs.Place.{height_end}
 use Rattle.octets.specs.Pass.{bytes_of}
@@ -21,7 +22,7 @@ use Rattle.extents.specs.declared.Extents.{Extents}
 use Rattle.extents.specs.Extents.{ExtentsAre, with_characters, extents_of}
 use Rattle.extents.proofs.ExtentsLaws.{extents_append, extents_are}
 use Rattle.typesetter.specs.declared.code.Machine.{Machine}
-use Rattle.tape.specs.Tape.{machine_of}
+use Rattle.typesetter.specs.Code.{machine_of}
 use Rattle.running.specs.declared.Phase.TheVariants.{AtRest}
 use Rattle.running.specs.declared.Running.{Running}
 use Rattle.running.specs.Running.{Replied, fresh, start_on, start_of, grown}
@@ -63,7 +64,7 @@ sent_later {r} (closed_with is n v e i) l =
 pub data Since : List Call → Type 0 where
   done : Since []
   later : {c : Call} {cs : List Call} → Later c → Since cs → Since (c ∷ cs)
-  wrong : {machine : ℕ} {cs : List Call} → machine_of machine ≡ none → Since cs → Since (starting machine ∷ cs)
+  wrong : {machine : ℕ} {cs : List Call} → machine_of machine ≡ Err NoMachine → Since cs → Since (starting machine ∷ cs)
 
 sent_since : {r : Running} {bs : List ℕ} → Sent r bs → {cs : List Call} → Since cs → Sent (tape_after r cs) (bs ++ output r cs)
 unfolding transduced start_of
@@ -88,7 +89,7 @@ sent_out (closed_with is n v e i) =
     record { items = is; end = end_field n; out_is = refl; end_is = inr (n, refl); all_valid = v; extents_are = subst (λ (x : Extents). ExtentsAre x (characters_of is)) (sym e) (extents_are is v) }
 
 -- "After every piece, accepted or refused, they are those of the characters gone out so far, over all pages"; "starting anew clears them"
-pub extents_out : (r : Running) (machine : ℕ) (kind : Machine) → machine_of machine ≡ some kind → {cs : List Call} → Since cs
+pub extents_out : (r : Running) (machine : ℕ) (kind : Machine) → machine_of machine ≡ Ok kind → {cs : List Call} → Since cs
     → ExtentsOut (tape_after r (starting machine ∷ cs)).extents (output r (starting machine ∷ cs))
 unfolding transduced start_of fields characters_of extents_of with_characters
 extents_out r machine kind named {cs} s =

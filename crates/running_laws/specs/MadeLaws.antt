@@ -6,8 +6,9 @@
 use Rattle.std.specs.Prelude.{◌≡◌, Bool, true, false, cond, ◌↔◌, List, [], ◌++◌, ℕ, ◌+◌, ◌≤◌, ltb}
 use Rattle.std.proofs.Math.Path.{refl}
 use Rattle.std.proofs.Common.{sym, ap, subst, ◌∙◌, true≢false, arith, ltb-false}
-use Rattle.std.proofs.Math.Option.{Option, none, some}
 use Rattle.std.proofs.Math.ListN.{length, length-append}
+use Rattle.std.specs.Prelude.{Ok, Err, Result as ResultOf}
+use Rattle.octets.specs.declared.refusal.Reason.{Reason}
 use Rattle.octets.specs.Answer.{refusal, not_started}
 use Rattle.octets.specs.Field.{end_field}
 use Rattle.galley_file.specs.declared.form.Form.TheVariants.{New}
@@ -17,9 +18,8 @@ use Rattle.extents.specs.Extents.{with_characters, extents_of}
 use Rattle.typesetter.specs.declared.code.Machine.{Machine}
 use Rattle.typesetter.specs.declared.machine.State.{State}
 use Rattle.typesetter.specs.Machine.{start}
-use Rattle.tape.specs.declared.Ending.{Ending}
-use Rattle.tape.specs.declared.Ending.TheVariants.{Reached, Fault}
-use Rattle.tape.specs.Tape.{max_tape, run, machine_of}
+use Rattle.typesetter.specs.Code.{machine_of}
+use Rattle.tape.specs.Tape.{Ending, max_tape, run}
 use Rattle.tape.specs.RunLaws.{FaultIn, run_fault}
 use Rattle.running.specs.declared.Phase.TheVariants.{AtRest, Failed}
 use Rattle.running.specs.declared.Running.{Running}
@@ -32,18 +32,18 @@ use Rattle.running_laws.specs.FedLaws.{going_at, going_sound, on_ends, grows}
 pub data Status : Running → Type 0 where
   at_rest : {r : Running} → r.phase ≡ AtRest → Status r
   refused : {r : Running} {n place : ℕ} → r.phase ≡ Failed n place → n ≤ 10 → Status r
-  opened : (kind : Machine) (xs : List ℕ) (t : State) → (run (start kind) 0 xs).ending ≡ Reached t → length xs ≤ max_tape → Status (going_at kind xs t)
+  opened : (kind : Machine) (xs : List ℕ) (t : State) → (run (start kind) 0 xs).ending ≡ Ok t → length xs ≤ max_tape → Status (going_at kind xs t)
 
 status_cond : (b : Bool) (x y : Replied) → (b ≡ true → Status x.tape) → (b ≡ false → Status y.tape) → Status (cond b x y).tape
 status_cond true x y f g = f refl
 status_cond false x y f g = g refl
 
-status_start : {r : Running} → Status r → (k : Option Machine) → Status (start_on r k).tape
+status_start : {r : Running} → Status r → (k : ResultOf Machine Reason) → Status (start_on r k).tape
 unfolding run characters_of extents_of with_characters
-status_start s (some kind) = opened kind [] (start kind) refl (omega arith)
-status_start s none = s
+status_start s (Ok kind) = opened kind [] (start kind) refl (omega arith)
+status_start s (Err reason) = s
 
-module _ (kind : Machine) (xs : List ℕ) (t : State) (e : (run (start kind) 0 xs).ending ≡ Reached t) (short : length xs ≤ max_tape) where
+module _ (kind : Machine) (xs : List ℕ) (t : State) (e : (run (start kind) 0 xs).ending ≡ Ok t) (short : length xs ≤ max_tape) where
   abbrev here : Running
   here = going_at kind xs t
 
@@ -59,8 +59,8 @@ module _ (kind : Machine) (xs : List ℕ) (t : State) (e : (run (start kind) 0 x
     where
       ends_in : length xs + length p ≤ max_tape → (x : Ending) → (run t (length xs) p).ending ≡ x → FaultIn x
           → Status (piece_ends here (length p) (run t (length xs) p).items x room).tape
-      ends_in f (Fault n place) q h = refused refl h.1
-      ends_in f (Reached v) q h =
+      ends_in f (Err r) q h = refused refl h.1
+      ends_in f (Ok v) q h =
           status_put (grown here v (length p) (run t (length xs) p).items) (fields New (run t (length xs) p).items) room
           (subst Status (sym (grows kind xs t e p v)) (opened kind (xs ++ p) v (on_ends kind xs t e p ∙ q) (omega (arith, length-append xs p))))
 

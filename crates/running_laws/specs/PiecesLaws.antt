@@ -9,8 +9,8 @@ use Rattle.std.specs.Prelude.{◌≡◌, refl, Bool, true, false, ℕ, ◌≤◌
 use Rattle.std.proofs.Math.Path.{sym, ap, subst}
 use Rattle.std.proofs.Common.{◌∙◌, suc-ne-zero, arith}
 use mathlib.Core.List.{List, [], ◌∷◌, ◌++◌, append_assoc, append-nil}
-use Rattle.std.proofs.Math.Option.{some}
 use Rattle.std.proofs.Math.ListN.{length, length-append}
+use Rattle.std.specs.Prelude.{Ok, Err}
 use Rattle.octets.specs.Answer.{Result, refusal, written, outcome, number_of, place_of, tape_too_long}
 use Rattle.octets.specs.Field.{end_field}
 use Rattle.octets.specs.Pass.{bytes_of}
@@ -24,9 +24,8 @@ use Rattle.extents.specs.Extents.{extents_of}
 use Rattle.typesetter.specs.declared.code.Machine.{Machine}
 use Rattle.typesetter.specs.declared.machine.State.{State}
 use Rattle.typesetter.specs.Machine.{start}
-use Rattle.tape.specs.declared.Ending.{Ending}
-use Rattle.tape.specs.declared.Ending.TheVariants.{Reached, Fault}
-use Rattle.tape.specs.Tape.{max_tape, run, read_result, machine_of, tape_result}
+use Rattle.typesetter.specs.Code.{machine_of}
+use Rattle.tape.specs.Tape.{Ending, max_tape, run, read_result, tape_result}
 use Rattle.tape.specs.ResultLaws.{on_machine_lem, read_fault, read_cut, read_open, read_whole}
 use Rattle.tape.specs.TapeLaws.{items_on}
 use Rattle.running.specs.declared.Running.{Running}
@@ -44,16 +43,16 @@ module _ (kind : Machine) where
 
   pub record FedAll (r : Running) (xs : List ℕ) (ps : List Piece) : Type 0 where
     pub stands : Stands kind (tape_after r (pieces ps)) (xs ++ whole_tape ps)
-    pub out : {u : State} → (run (start kind) 0 (xs ++ whole_tape ps)).ending ≡ Reached u
+    pub out : {u : State} → (run (start kind) 0 (xs ++ whole_tape ps)).ending ≡ Ok u
         → fields New (items_on kind xs) ++ output r (pieces ps) ≡ fields New (items_on kind (xs ++ whole_tape ps))
 
   -- a run that reaches a state over xs and ys reaches one over xs
-  through : (xs ys : List ℕ) {u : State} → ends (xs ++ ys) ≡ Reached u → (t : State) × (ends xs ≡ Reached t)
+  through : (xs ys : List ℕ) {u : State} → ends (xs ++ ys) ≡ Ok u → (t : State) × (ends xs ≡ Ok t)
   through xs ys {u} h = go (ends xs) refl
     where
-      go : (x : Ending) → ends xs ≡ x → (t : State) × (ends xs ≡ Reached t)
-      go (Reached t) q = (t, q)
-      go (Fault n place) q = never (sym (fault_stays kind xs ys q) ∙ h)
+      go : (x : Ending) → ends xs ≡ x → (t : State) × (ends xs ≡ Ok t)
+      go (Ok t) q = (t, q)
+      go (Err f) q = never (sym (fault_stays kind xs ys q) ∙ h)
 
   pub fed_all : {r : Running} {xs : List ℕ} → Stands kind r xs → (ps : List Piece) → length (xs ++ whole_tape ps) ≤ max_tape → RoomForEach kind xs ps
       → FedAll r xs ps
@@ -71,7 +70,7 @@ module _ (kind : Machine) where
       record {
         stands = subst (Stands kind (tape_after next.tape (pieces ps))) q k.stands;
         out = λ {u} h.
-            let h' : ends ((xs ++ p.codes) ++ whole_tape ps) ≡ Reached u = ap ends q ∙ h in
+            let h' : ends ((xs ++ p.codes) ++ whole_tape ps) ≡ Ok u = ap ends q ∙ h in
             sym (append_assoc (fields New (items_on kind xs)) (bytes_of next.result) (output next.tape (pieces ps)))
             ∙ ap (λ (l : List ℕ). l ++ output next.tape (pieces ps)) (f.out (through (xs ++ p.codes) (whole_tape ps) h').1)
             ∙ k.out h'
@@ -82,14 +81,14 @@ module _ (kind : Machine) where
   pub record Final (xs : List ℕ) (x y : Result) : Type 0 where
     pub number_is : number_of (outcome x) ≡ number_of (outcome y)
     pub place_is : place_of (outcome x) ≡ place_of (outcome y)
-    pub galley_is : (g : List ℕ) → y ≡ written g → (fields New (items_on kind xs) ++ bytes_of x ≡ g) × ((t : State) × ((run (start kind) 0 xs).ending ≡ Reached t))
+    pub galley_is : (g : List ℕ) → y ≡ written g → (fields New (items_on kind xs) ++ bytes_of x ≡ g) × ((t : State) × ((run (start kind) 0 xs).ending ≡ Ok t))
 
   refused_both : (xs : List ℕ) {x y : Result} {n place : ℕ} → x ≡ refusal n place → y ≡ refusal n place → Final xs x y
   refused_both xs {y = y} {n = n} {place = place} p q =
       let f : Final xs (refusal n place) (refusal n place) = record { number_is = refl; place_is = refl; galley_is = λ g e. absurd (suc-ne-zero 0 cc) } in
       subst (λ (x : Result). Final xs x y) (sym p) (subst (Final xs (refusal n place)) (sym q) f)
 
-  written_both : (xs : List ℕ) {x y : Result} {t : State} → ends xs ≡ Reached t → x ≡ written (end_field (length (characters_of (items_on kind xs))))
+  written_both : (xs : List ℕ) {x y : Result} {t : State} → ends xs ≡ Ok t → x ≡ written (end_field (length (characters_of (items_on kind xs))))
       → y ≡ written (galley New (items_on kind xs)) → Final xs x y
   unfolding galley
   written_both xs {y = y} {t = t} e p q =
@@ -98,10 +97,10 @@ module _ (kind : Machine) where
       record { number_is = refl; place_is = refl; galley_is = λ g h. let w : fields New (items_on kind xs) ++ end ≡ g = cc in (w, (t, e)) } in
       subst (λ (x : Result). Final xs x y) (sym p) (subst (Final xs (written end)) (sym q) f)
 
-  pub final : {r : Running} {xs : List ℕ} → Stands kind r xs → length xs ≤ max_tape → (machine : ℕ) → machine_of machine ≡ some kind → (room whole : ℕ)
+  pub final : {r : Running} {xs : List ℕ} → Stands kind r xs → length xs ≤ max_tape → (machine : ℕ) → machine_of machine ≡ Ok kind → (room whole : ℕ)
       → 7 ≤ room → length (galley New (items_on kind xs)) ≤ whole
       → Final xs (close_of r room).result (tape_result xs machine whole)
-  final (broken {r} {xs} {n} {place} e h) short machine named room whole roomy enough =
+  final (broken {r} {xs} {q} e h) short machine named room whole roomy enough =
       refused_both xs (ap (λ (x : Replied). x.result) (close_phase r room e)) (on_machine_lem xs machine whole short named refl ∙ read_fault (start kind) xs whole h)
   final (going {xs} {t} e short) _ machine named room whole roomy enough = go t.cut refl t.stopped refl
     where
@@ -120,7 +119,7 @@ module _ (kind : Machine) where
           (at_once (read_whole (start kind) xs whole t e d s (length (fields New (items_on kind xs))) refl (omega (arith, length_galley New (items_on kind xs), enough))))
 
 -- a start on a machine of this number of fonts, and pieces within the limit, with room for each
-module _ (r : Running) (machine : ℕ) (kind : Machine) (named : machine_of machine ≡ some kind) (ps : List Piece) (short : length (whole_tape ps) ≤ max_tape) (roomy : RoomForEach kind [] ps) where
+module _ (r : Running) (machine : ℕ) (kind : Machine) (named : machine_of machine ≡ Ok kind) (ps : List Piece) (short : length (whole_tape ps) ≤ max_tape) (roomy : RoomForEach kind [] ps) where
   abbrev fed_tape : Running
   fed_tape = tape_after r (starting machine ∷ pieces ps)
 
@@ -135,24 +134,24 @@ module _ (r : Running) (machine : ℕ) (kind : Machine) (named : machine_of mach
   after_pieces = subst (λ (x : Replied). Stands kind (tape_after x.tape (pieces ps)) (whole_tape ps)) (sym begun) all_fed.stands
 
   -- "On a fault, earlier pieces' fields are out"
-  pub earlier_out : {t : State} → (run (start kind) 0 (whole_tape ps)).ending ≡ Reached t
+  pub earlier_out : {t : State} → (run (start kind) 0 (whole_tape ps)).ending ≡ Ok t
       → output r (starting machine ∷ pieces ps) ≡ fields New (items_on kind (whole_tape ps))
   unfolding transduced run fields
   earlier_out h = ap (λ (x : Replied). bytes_of x.result ++ output x.tape (pieces ps)) begun ∙ all_fed.out h
 
   -- "1 at place 0 as soon as the total passes the limit"
-  pub past_limit : {t : State} → (run (start kind) 0 (whole_tape ps)).ending ≡ Reached t → (p : List ℕ) (room : ℕ)
+  pub past_limit : {t : State} → (run (start kind) 0 (whole_tape ps)).ending ≡ Ok t → (p : List ℕ) (room : ℕ)
       → max_tape < length (whole_tape ps ++ p) → (feed_of fed_tape p room).result ≡ refusal tape_too_long 0
   past_limit {t} h p room long =
       ap (λ (q : Running). (feed_of q p room).result) (stands_open kind after_pieces h) ∙ ap (λ (x : Replied). x.result) (limit kind (whole_tape ps) t h short p room long)
 
   -- and from then on, until a start
-  pub past_limit_kept : {t : State} → (run (start kind) 0 (whole_tape ps)).ending ≡ Reached t → (p : List ℕ) (room : ℕ) → max_tape < length (whole_tape ps ++ p)
+  pub past_limit_kept : {t : State} → (run (start kind) 0 (whole_tape ps)).ending ≡ Ok t → (p : List ℕ) (room : ℕ) → max_tape < length (whole_tape ps ++ p)
       → {cs : List Call} → AllLater cs → Repeated (feed_of fed_tape p room).tape cs tape_too_long 0
   past_limit_kept h p room long ls = repeats fed_tape (a_piece {bs = p} {room = room}) (past_limit h p room long) (λ e. omega (arith, e)) ls
 
   -- the extents are those of the whole tape's characters so far
-  pub extents_whole : {t : State} → (run (start kind) 0 (whole_tape ps)).ending ≡ Reached t
+  pub extents_whole : {t : State} → (run (start kind) 0 (whole_tape ps)).ending ≡ Ok t
       → fed_tape.extents ≡ extents_of (characters_of (items_on kind (whole_tape ps)))
   extents_whole h = ap (λ (q : Running). q.extents) (stands_open kind after_pieces h)
 

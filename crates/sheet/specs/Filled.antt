@@ -5,14 +5,15 @@
 --     filled_more, filled_mark            marks more, one mark more
 --     filled_refused, filled_finished     what the pass found
 -- Assumes nothing.
-use Rattle.std.specs.Prelude.{◌≡◌, refl, Bool, true, false, List, [], ◌∷◌, ◌++◌, ℕ, ◌+◌, ◌*◌, ◌≤◌, ◌<◌, length}
+use Rattle.std.specs.Prelude.{◌≡◌, refl, Bool, true, false, List, [], ◌∷◌, ◌++◌, ℕ, ◌+◌, ◌*◌, ◌≤◌, ◌<◌, length, Ok, Err}
 use Rattle.std.proofs.Common.{sym, ◌∙◌, subst, append-nil, arith, length-append}
 use Rattle.std.proofs.Math.Path.{ap}
 use Rattle.octets.specs.Field.{end_field}
 use Rattle.octets.specs.Write.{put_if, put_if_append, Put, put_named, put_none, put_then, put_still, put_counted}
-use Rattle.octets.specs.Pass.{reading_of, bytes_of, Roomy, Passed}
+use Rattle.octets.specs.Answer.{accepted, outcome, number_in}
+use Rattle.octets.specs.Pass.{bytes_of, Roomy, Passed}
 use Rattle.octets.specs.PassLaws.{passed_refused}
-use Rattle.octets.specs.declared.pass.Reading.TheVariants.{Needs, Fault}
+use Rattle.octets.specs.declared.refusal.Refusal.{Refusal}
 use Rattle.sheet.specs.Sheet.{Mark, mark_field, mark_fields, sheet}
 use Rattle.sheet.specs.SheetLaws.{field_size, length_mark_field, one_field, fields_most, mark_fields_append, length_sheet}
 use Rattle.sheet.specs.Shown.{Shown, refused_at, shows, shown_result}
@@ -55,15 +56,15 @@ module _ {w : Bool} {first out : List ℕ} {ms : List Mark} {at to count : ℕ} 
   filled_mark k m h f g = filled_more k (m ∷ []) (omega arith) (put_named (one_field m) f) refl g
 
   module _ {x : Shown} where
-    pub filled_refused : {k i : ℕ} → x ≡ refused_at k i → (w ≡ true → Roomy (shown_result x) (length first)) → Passed (shown_result x) w first (Fault k i) out
+    pub filled_refused : {r : Refusal} → x ≡ refused_at (number_in r.reason) r.place → (w ≡ true → Roomy (shown_result x) (length first)) → Passed (shown_result x) w first (Err r) out
     unfolding shown_result
     filled_refused e h = passed_refused (ap shown_result e) h (λ s. put_still s p.put)
 
-    pub filled_finished : {later : List ℕ} → x ≡ shows ms → later ≡ put_if w out to (end_field count) → Passed (shown_result x) w first (Needs (to + 7)) later
+    pub filled_finished : {later : List ℕ} → x ≡ shows ms → later ≡ put_if w out to (end_field count) → Passed (shown_result x) w first (Ok (to + 7)) later
     unfolding shown_result sheet
     filled_finished {later} e f =
         record {
-          found = ap Needs (omega (arith, p.put.place, length_sheet ms)) ∙ ap (λ (y : Shown). reading_of (shown_result y)) (sym e);
+          found = ap accepted (omega (arith, p.put.place, length_sheet ms)) ∙ ap (λ (y : Shown). outcome (shown_result y)) (sym e);
           buffer =
               put_if_append w first 0 (mark_fields ms) (end_field (length ms)) p.put.buffer p.put.place (f ∙ ap (λ (n : ℕ). put_if w out to (end_field n)) p.counted)
               ∙ ap (λ (y : Shown). put_if w first 0 (bytes_of (shown_result y))) (sym e);

@@ -4,8 +4,11 @@
 --     font_chars      the characters of a font
 --     if_readable     the tests of the whole call
 --     call_refusal    the number that they refuse it with, or 0
-use Rattle.std.specs.Prelude.{ℕ, ◌*◌, Bool, cond, List, ltb, length}
+--     call_answer     what the function answers, by those tests
+use Rattle.std.specs.Prelude.{ℕ, ◌*◌, Bool, cond, List, ltb, length, Ok, Err, Result as ResultOf}
 use Rattle.octets.specs.Answer.{Result, refusal, file_too_long, widths_not_whole}
+use Rattle.octets.specs.declared.refusal.Refusal.{Refusal}
+use Rattle.octets.specs.declared.refusal.Reason.TheVariants.{FileTooLong, WidthsNotWhole}
 
 abbrev pub max_file : ℕ
 max_file = 33554432
@@ -24,3 +27,13 @@ if_readable file whole r = cond (ltb max_file (length file)) (refusal file_too_l
 
 unfoldable pub call_refusal : ℕ → Bool → ℕ
 call_refusal length whole = cond (ltb max_file length) file_too_long (cond whole 0 widths_not_whole)
+
+-- the two refusals, at place 0
+abbrev pub length_refusal : Refusal
+length_refusal = record { reason = FileTooLong; place = 0 }
+
+abbrev pub widths_refusal : Refusal
+widths_refusal = record { reason = WidthsNotWhole; place = 0 }
+
+unfoldable pub call_answer : ℕ → Bool → ResultOf (Unit {0}) Refusal
+call_answer length whole = cond (ltb max_file length) (Err length_refusal) (cond whole (Ok tt) (Err widths_refusal))

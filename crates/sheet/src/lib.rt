@@ -5,9 +5,10 @@ ghost use Rattle.std.specs.Prelude.{◌≡◌, true, ◌++◌, ◌+◌, ◌≤�
 ghost use Rattle.octets.specs.Octets.{signed_bytes};
 ghost use Rattle.octets.specs.Write.{Wrote, Put};
 ghost use Rattle.sheet.specs.Sheet.{page_mark, char_mark, rule_mark, mark_field};
-ghost use Rattle.sheet.specs.Readable.{last_place, call_refusal};
+ghost use Rattle.sheet.specs.Readable.{last_place, call_answer};
 
-use octets::{answer, field, number};
+use octets::refusal::{Reason, Refusal};
+use octets::{field, number};
 
 // The longest file.
 pub const MAX_FILE: usize = 33_554_432;
@@ -34,17 +35,17 @@ pub const CHAR_FIELD: usize = field::HEAD + CHAR_LENGTH as usize;
 
 const RULE_FIELD: usize = field::HEAD + RULE_LENGTH as usize;
 
-// The number that a reader's whole call is refused with, or 0, by the length of its file and whether its table of widths is whole.
-pub fn call_refusal(file: usize, whole: bool) -> u8
-    ensures { result ≡ call_refusal file whole }
+// The tests of a reader's whole call, by the length of its file and whether its table of widths is whole. A refusal has place 0.
+pub fn call_refusal(file: usize, whole: bool) -> Result<(), Refusal>
+    ensures { result ≡ call_answer file whole }
 {
     if MAX_FILE < file {
-        return answer::FILE_TOO_LONG;
+        Err(Reason::FileTooLong.at(0))
+    } else if whole {
+        Ok(())
+    } else {
+        Err(Reason::WidthsNotWhole.at(0))
     }
-    if whole {
-        return 0;
-    }
-    answer::WIDTHS_NOT_WHOLE
 }
 
 // Writes a number. The test always holds: it keeps the four stores in a block of their own, where the compiler makes one of them.

@@ -13,26 +13,24 @@ ghost use Rattle.dvi_writer.specs.Result.{dvi_result};
 ghost use Rattle.reprint.specs.Reprint.{ReprintsNumbers};
 ghost use Rattle.spatecanter.specs.Numbers.{found_numbers};
 
-use galley_check::Found;
-use octets::answer;
+use galley_file::character::Character;
+use octets::refusal;
+use octets::refusal::Refusal;
 
-// Number, place and length of reading back.
-fn found_numbers(f: Found) -> [usize; 3]
-    ensures { result ≡ numbers_of (outcome_of_found (found_of f)) }
+// Number, place and length of reading back, which writes nothing.
+fn found_numbers(found: Result<Character, Refusal>) -> [usize; 3]
+    ensures { result ≡ numbers_of (outcome_of_found (found_of found)) }
 {
-    match f {
-        Found::Placed(_) => [0, 0, 0],
-        Found::Refused(number, place) => [number as usize, place, 0],
-    }
+    refusal::numbers(found.map(|_| 0))
 }
 
 // X, height, font number and character, all 0 in a refusal.
-fn found_character(f: Found) -> [i32; 4]
-    ensures { result ≡ found_numbers (found_of f) }
+fn found_character(found: Result<Character, Refusal>) -> [i32; 4]
+    ensures { result ≡ found_numbers (found_of found) }
 {
-    match f {
-        Found::Placed(c) => [c.x.0, c.height.0, c.font as i32, c.code as i32],
-        Found::Refused(_, _) => [0, 0, 0, 0],
+    match found {
+        Ok(c) => [c.x.0, c.height.0, i32::from(c.font), i32::from(c.code)],
+        Err(_) => [0, 0, 0, 0],
     }
 }
 
@@ -46,8 +44,7 @@ pub extern "C" fn sp_read_tape(
 )
     ensures { GivesNumbers answer.new (tape_result tape.now machine) galley.old galley.new }
 {
-    let a = tape::read_tape(tape, machine, galley);
-    *answer = answer::numbers(a);
+    *answer = refusal::numbers(tape::read_tape(tape, machine, galley));
 }
 
 // Checks a galley.
@@ -55,8 +52,7 @@ pub extern "C" fn sp_read_tape(
 pub extern "C" fn sp_check_galley(galley: &[u8], answer: &mut [usize; 3])
     ensures { answer.new ≡ numbers_of (check_outcome New galley.now) }
 {
-    let a = galley_check::check_galley(galley);
-    *answer = answer::numbers(a);
+    *answer = refusal::numbers(galley_check::check_galley(galley));
 }
 
 // Reads character n of a galley back.
@@ -69,9 +65,9 @@ pub extern "C" fn sp_read_back(
 )
     ensures { (answer.new ≡ numbers_of (outcome_of_found (read_back_outcome galley.now n))) × (character.new ≡ found_numbers (read_back_outcome galley.now n)) }
 {
-    let f = galley_check::read_back(galley, n);
-    *answer = found_numbers(f);
-    *character = found_character(f);
+    let found = galley_check::read_back(galley, n);
+    *answer = found_numbers(found);
+    *character = found_character(found);
 }
 
 // Makes an old galley new.
@@ -79,8 +75,7 @@ pub extern "C" fn sp_read_back(
 pub extern "C" fn sp_galley_to_new(old: &[u8], new: &mut [u8], answer: &mut [usize; 3])
     ensures { GivesNumbers answer.new (new_result old.now) new.old new.new }
 {
-    let a = conversion::galley_to_new(old, new);
-    *answer = answer::numbers(a);
+    *answer = refusal::numbers(conversion::galley_to_new(old, new));
 }
 
 // Makes a new galley old.
@@ -88,8 +83,7 @@ pub extern "C" fn sp_galley_to_new(old: &[u8], new: &mut [u8], answer: &mut [usi
 pub extern "C" fn sp_galley_to_old(new: &[u8], old: &mut [u8], answer: &mut [usize; 3])
     ensures { GivesNumbers answer.new (old_result new.now) old.old old.new }
 {
-    let a = conversion::galley_to_old(new, old);
-    *answer = answer::numbers(a);
+    *answer = refusal::numbers(conversion::galley_to_old(new, old));
 }
 
 // Writes a galley's DVI file.
@@ -97,8 +91,7 @@ pub extern "C" fn sp_galley_to_old(new: &[u8], old: &mut [u8], answer: &mut [usi
 pub extern "C" fn sp_write_dvi(galley: &[u8], dvi: &mut [u8], answer: &mut [usize; 3])
     ensures { GivesNumbers answer.new (dvi_result galley.now) dvi.old dvi.new }
 {
-    let a = dvi_writer::write_dvi(galley, dvi);
-    *answer = answer::numbers(a);
+    *answer = refusal::numbers(dvi_writer::write_dvi(galley, dvi));
 }
 
 // Reads a DVI file into a sheet.
@@ -106,8 +99,7 @@ pub extern "C" fn sp_write_dvi(galley: &[u8], dvi: &mut [u8], answer: &mut [usiz
 pub extern "C" fn sp_read_dvi(dvi: &[u8], widths: &[i32], sheet: &mut [u8], answer: &mut [usize; 3])
     ensures { GivesNumbers answer.new (sheet_result dvi.now widths.now) sheet.old sheet.new }
 {
-    let a = dvi_reader::read_dvi(dvi, widths, sheet);
-    *answer = answer::numbers(a);
+    *answer = refusal::numbers(dvi_reader::read_dvi(dvi, widths, sheet));
 }
 
 // Writes a galley's DVI file and its sheet, or neither; the answer has both lengths.
@@ -121,6 +113,5 @@ pub extern "C" fn sp_reprint(
 )
     ensures { ReprintsNumbers answer.new galley.now widths.now dvi.old dvi.new sheet.old sheet.new }
 {
-    let a = reprint::reprint(galley, widths, dvi, sheet);
-    *answer = reprint::numbers(a);
+    *answer = reprint::numbers(reprint::reprint(galley, widths, dvi, sheet));
 }

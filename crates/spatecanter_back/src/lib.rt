@@ -5,7 +5,7 @@
 ghost use Rattle.octets.specs.Answer.{GivesNumbers};
 ghost use Rattle.dvi_galley.specs.Back.{back_result};
 
-use octets::answer;
+use octets::refusal;
 
 // Makes the galley whose targets a DVI file shows.
 #[unsafe(no_mangle)]
@@ -17,6 +17,5 @@ pub extern "C" fn sp_dvi_to_galley(
 )
     ensures { GivesNumbers answer.new (back_result dvi.now widths.now) galley.old galley.new }
 {
-    let a = dvi_back::dvi_to_galley(dvi, widths, galley);
-    *answer = answer::numbers(a);
+    *answer = refusal::numbers(dvi_back::dvi_to_galley(dvi, widths, galley));
 }

@@ -5,7 +5,7 @@
 ghost use Rattle.octets.specs.Answer.{GivesNumbers};
 ghost use Rattle.dvi.specs.Sheet.{sheet_result};
 
-use octets::answer;
+use octets::refusal;
 
 // Reads a DVI file into a sheet, PUSH and POP as brackets.
 #[unsafe(no_mangle)]
@@ -17,6 +17,5 @@ pub extern "C" fn sp_read_dvi_plain(
 )
     ensures { GivesNumbers answer.new (sheet_result dvi.now widths.now) sheet.old sheet.new }
 {
-    let a = dvi_plain::read_dvi_plain(dvi, widths, sheet);
-    *answer = answer::numbers(a);
+    *answer = refusal::numbers(dvi_plain::read_dvi_plain(dvi, widths, sheet));
 }

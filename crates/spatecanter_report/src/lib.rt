@@ -6,7 +6,7 @@ ghost use Rattle.std.specs.Prelude.{◌≡◌};
 ghost use Rattle.octets.specs.Answer.{numbers_of};
 ghost use Rattle.report.specs.Report.{report_outcome, counted_in};
 
-use octets::answer;
+use octets::refusal;
 use report::Report;
 
 // Counts a tape of the machine with so many fonts, 4 or 8, in a report.
@@ -19,6 +19,5 @@ pub extern "C" fn sp_count_tape(
 )
     ensures { (answer.new ≡ numbers_of (report_outcome report.old)) × (report.new ≡ counted_in report.old tape.now machine) }
 {
-    let a = report::count_tape(tape, machine, report);
-    *answer = answer::numbers(a);
+    *answer = refusal::numbers(report::count_tape(tape, machine, report));
 }

@@ -5,19 +5,30 @@ pub mod words;
 
 ghost use Rattle.std.specs.Prelude.{◌≡◌};
 ghost use Rattle.octets.specs.Answer.{numbers_of, outcome};
+ghost use Rattle.running.specs.Answer.{outcome_in};
 ghost use Rattle.running.specs.Running.{new_tape, start_of, feed_of, close_of};
 ghost use Rattle.spatecanter_running.specs.Words.{tape_in, reach_of, font_marks, Holds, LeavesWords};
 
-use octets::answer;
+use running::{Answer, Refused, Running};
 use words::TapeWords;
+
+// Number, place and length. A refusal that is repeated has its number and place as the words hold them.
+fn numbers(answer: Answer) -> [usize; 3]
+    ensures { result ≡ numbers_of (outcome_in answer) }
+{
+    match answer {
+        Ok(length) => [0, 0, length],
+        Err(Refused::Now(refusal)) => [usize::from(refusal.reason.number()), refusal.place, 0],
+        Err(Refused::Again(number, place)) => [usize::from(number), place, 0],
+    }
+}
 
 // A running tape before any start.
 #[unsafe(no_mangle)]
 pub extern "C" fn sp_new_tape(tape: &mut TapeWords)
     ensures { Holds tape.new new_tape }
 {
-    let r = running::new_tape();
-    *tape = words::words_of(r);
+    *tape = words::words_of(Running::new());
 }
 
 // Starts a running tape anew, on the machine with so many fonts, 4 or 8.
@@ -25,11 +36,9 @@ pub extern "C" fn sp_new_tape(tape: &mut TapeWords)
 pub extern "C" fn sp_start(tape: &mut TapeWords, machine: u32, answer: &mut [usize; 3])
     ensures { (answer.new ≡ numbers_of (outcome (start_of (tape_in tape.old) machine).result)) × Holds tape.new (start_of (tape_in tape.old) machine).tape }
 {
-    let f = running::started(words::tape_in(*tape), machine);
-    let next = f.tape;
-    let a = f.answer;
-    *tape = words::words_of(next);
-    *answer = answer::numbers(a);
+    let reply = words::tape_in(*tape).started(machine);
+    *tape = words::words_of(reply.tape);
+    *answer = numbers(reply.answer);
 }
 
 // A piece of the tape: its fields go into the lent buffer, without an End.
@@ -42,11 +51,9 @@ pub extern "C" fn sp_feed(
 )
     ensures { LeavesWords answer.new tape.new (feed_of (tape_in tape.old) piece.now) out.old out.new }
 {
-    let f = running_piece::fed(words::tape_in(*tape), piece, out);
-    let next = f.tape;
-    let a = f.answer;
-    *tape = words::words_of(next);
-    *answer = answer::numbers(a);
+    let reply = running_piece::fed(words::tape_in(*tape), piece, out);
+    *tape = words::words_of(reply.tape);
+    *answer = numbers(reply.answer);
 }
 
 // The end of the tape: End goes into the lent buffer.
@@ -54,11 +61,9 @@ pub extern "C" fn sp_feed(
 pub extern "C" fn sp_close(tape: &mut TapeWords, out: &mut [u8], answer: &mut [usize; 3])
     ensures { LeavesWords answer.new tape.new (close_of (tape_in tape.old)) out.old out.new }
 {
-    let f = running::closed(words::tape_in(*tape), out);
-    let next = f.tape;
-    let a = f.answer;
-    *tape = words::words_of(next);
-    *answer = answer::numbers(a);
+    let reply = words::tape_in(*tape).closed(out);
+    *tape = words::words_of(reply.tape);
+    *answer = numbers(reply.answer);
 }
 
 // Farthest x and greatest height of the characters gone out since the start, and the marks of their fonts.

@@ -42,7 +42,7 @@ fn signed_in(w: u64) -> i32
 fn flag_word(b: bool) -> u64
     ensures { result ≡ flag_word b }
 {
-    if b { 1 } else { 0 }
+    u64::from(b)
 }
 
 // 4 or 8.
@@ -68,7 +68,7 @@ fn machine_in(w: u64) -> Machine
 fn byte_word(n: u8) -> u64
     ensures { (result ≡ n) × (result % 256 ≡ n) }
 {
-    n as u64
+    u64::from(n)
 }
 
 // The three words of a phase: which, and the number and the place of the refusal that is repeated.
@@ -164,12 +164,12 @@ fn state_in(w: TapeWords) -> State
         tilt_down: w[13] == 1,
     };
     State {
-        machine: machine,
+        machine,
         initialized: w[4] == 1,
         parked: w[5] == 1,
         stopped: w[6] == 1,
         cut: w[7] == 1,
-        modes: modes,
+        modes,
         size: (w[14] % 256) as u8,
         carriage: Units(carriage),
         height: Quanta(height),
@@ -202,10 +202,10 @@ pub fn tape_in(w: TapeWords) -> Running
     let total = w[17] as usize;
     let count = w[18] as usize;
     Running {
-        phase: phase,
-        state: state,
-        total: total,
-        count: count,
-        extents: extents,
+        phase,
+        state,
+        total,
+        count,
+        extents,
     }
 }

@@ -4,7 +4,7 @@
 ghost use Rattle.octets.specs.Answer.{GivesNumbers};
 ghost use Rattle.xgp.specs.Sheet.{xgp_result};
 
-use octets::answer;
+use octets::refusal;
 
 // Reads a file of XGP character mode into a sheet.
 #[unsafe(no_mangle)]
@@ -17,6 +17,5 @@ pub extern "C" fn sp_read_xgp(
 )
     ensures { GivesNumbers answer.new (xgp_result file.now spacing widths.now) sheet.old sheet.new }
 {
-    let a = xgp_reader::read_xgp(file, spacing, widths, sheet);
-    *answer = answer::numbers(a);
+    *answer = refusal::numbers(xgp_reader::read_xgp(file, spacing, widths, sheet));
 }

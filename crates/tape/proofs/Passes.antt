@@ -1,5 +1,7 @@
 -- The laws of what a pass keeps, `Going`: at its start, at each effect of a code, over codes that go further, at its end.
 -- Assumes nothing.
+use Rattle.std.specs.Prelude.{Ok, Err}
+use Rattle.octets.specs.declared.refusal.Reason.{Reason}
 use mathlib.Core.Path.{◌≡◌, refl, sym, ap, ◌∙◌}
 use mathlib.Core.Bool.{Bool, true, false}
 use mathlib.Core.List.{List, [], ◌∷◌, ◌++◌}
@@ -17,12 +19,9 @@ use Rattle.galley_file.specs.ItemLaws.{length_item_field, count_item, all_counte
 use Rattle.galley_file.specs.Galley.{fields}
 use Rattle.galley_file.specs.GalleyLaws.{length_fields, fields_append, fields_one}
 use Rattle.typesetter.specs.declared.machine.State.{State}
-use Rattle.typesetter.specs.declared.machine.Effect.{Effect}
-use Rattle.typesetter.specs.declared.machine.Effect.TheVariants.{Moved, Refused}
-use Rattle.tape.specs.declared.Ending.{Ending}
-use Rattle.tape.specs.declared.Ending.TheVariants.{Reached, Fault}
-use Rattle.typesetter.specs.Machine.{byte_effect}
-use Rattle.tape.specs.Tape.{max_tape, Run, run}
+use Rattle.typesetter.specs.declared.machine.Effect.TheVariants.{Moved}
+use Rattle.typesetter.specs.Machine.{Step, byte_effect}
+use Rattle.tape.specs.Tape.{Ending, max_tape, Run, run}
 use Rattle.tape.specs.RunLaws.{Sets, flashed, page_ended, so_far, run_length, run_moved, run_set, run_refused, run_room}
 use Rattle.typesetter.specs.Sound.{Sound}
 use Rattle.typesetter.specs.SoundLaws.{stays_sound, page_ended_sound}
@@ -60,7 +59,7 @@ first_size : (i : Item) (is : List Item) → item_size New i ≤ length (fields 
 unfolding fields
 first_size i is = omega (arith, length-append (item_field New i) (fields New is), length_item_field New i)
 
-set_sound : (s : State) → Sound s → (b : ℕ) {e : Effect} {x : Item} {t : State} → byte_effect s b ≡ e → Sets s e x t → Sound t
+set_sound : (s : State) → Sound s → (b : ℕ) {e : Step} {x : Item} {t : State} → byte_effect s b ≡ e → Sets s e x t → Sound t
 set_sound s r b q flashed = r
 set_sound s r b q page_ended = page_ended_sound s r b q
 
@@ -91,7 +90,7 @@ module _ (s₀ : State) (at : ℕ) (tape first : List ℕ) (w : Bool) where
         }
 
     module _ (h : i < length tape) where
-      pub going_moved : (t : State) → byte_effect s (get_or tape i 0) ≡ Moved t → Going s₀ at tape first w out t count cuts (i + 1)
+      pub going_moved : (t : State) → byte_effect s (get_or tape i 0) ≡ Ok (Moved t) → Going s₀ at tape first w out t count cuts (i + 1)
       going_moved t e =
           let n = run_moved s₀ at tape i s r.ran h e in
           let is : so_far s₀ at tape (i + 1) ≡ so_far s₀ at tape i = ap (λ (x : Run). x.items) n in
@@ -106,7 +105,7 @@ module _ (s₀ : State) (at : ℕ) (tape first : List ℕ) (w : Bool) where
           }
 
       -- a code that sets the item x and leaves the state t
-      module _ {e : Effect} {x : Item} {t : State} (q : byte_effect s (get_or tape i 0) ≡ e) (m : Sets s e x t) where
+      module _ {e : Step} {x : Item} {t : State} (q : byte_effect s (get_or tape i 0) ≡ e) (m : Sets s e x t) where
         pub going_room : (w ≡ true → length (fields New (run s₀ at tape).items) ≤ length first) → w ≡ true → 11 * count + cuts + item_size New x ≤ length out
         going_room p k =
             let is = so_far s₀ at tape i in
@@ -134,13 +133,13 @@ module _ (s₀ : State) (at : ℕ) (tape first : List ℕ) (w : Bool) where
                   ∙ sym (ap (λ (l : List Item). put_if w first 0 (fields New l)) more);
             }
 
-      pub going_refused : (n : ℕ) → at + length tape ≤ max_tape → byte_effect s (get_or tape i 0) ≡ Refused n
-          → Passed (run s₀ at tape) w first (record { count = count; cuts = cuts; ending = Fault n (at + i) }) out
-      going_refused n m e =
+      pub going_refused : (r' : Reason) → at + length tape ≤ max_tape → byte_effect s (get_or tape i 0) ≡ Err r'
+          → Passed (run s₀ at tape) w first (record { count = count; cuts = cuts; ending = Err (record { reason = r'; place = at + i }) }) out
+      going_refused r' m e =
           let f = run_refused s₀ at tape i s r.ran h e in
           going_passed m (sym (ap (λ (x : Run). x.items) f)) (sym (ap (λ (x : Run). x.ending) f))
 
-    pub going_done : length tape ≤ i → at + length tape ≤ max_tape → Passed (run s₀ at tape) w first (record { count = count; cuts = cuts; ending = Reached s }) out
+    pub going_done : length tape ≤ i → at + length tape ≤ max_tape → Passed (run s₀ at tape) w first (record { count = count; cuts = cuts; ending = Ok s }) out
     going_done h m =
         let all : take i tape ≡ tape = take_all i tape h in
         going_passed m (ap (λ (l : List ℕ). (run s₀ at l).items) all) (sym r.ran ∙ ap (λ (l : List ℕ). (run s₀ at l).ending) all)

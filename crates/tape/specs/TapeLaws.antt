@@ -2,10 +2,10 @@
 --     accepted_tape    all of this
 --     tape_room        what is accepted has room
 -- Assumes nothing.
-use Rattle.std.specs.Prelude.{◌≡◌, refl, Bool, true, false, cond, List, ℕ, ◌≤◌, ltb, length}
+use Rattle.std.specs.Prelude.{◌≡◌, refl, Bool, true, false, cond, List, ℕ, ◌≤◌, ltb, length, Result as ResultOf, Ok, Err}
 use Rattle.std.proofs.Common.{ap, ◌∙◌, suc-ne-zero, arith, ltb-false}
-use Rattle.std.proofs.Math.Option.{Option, none, some}
 use Rattle.octets.specs.Answer.{refusal, written, outcome, if_room, accepted, tape_too_long, after_cut, no_stop, no_galley_room}
+use Rattle.octets.specs.declared.refusal.Reason.{Reason}
 use Rattle.octets.specs.AnswerLaws.{accepted_room}
 use Rattle.galley_file.specs.declared.form.Form.TheVariants.{New}
 use Rattle.galley_file.specs.Form.{max_galley}
@@ -16,11 +16,10 @@ use Rattle.galley_file.specs.Galley.{max_items, AllValid, galley, whole, read_ga
 use Rattle.galley_file.specs.GalleyLaws.{galley_fits, accepts, accepts_check}
 use Rattle.galley_file.specs.Outcome.{check_outcome}
 use Rattle.typesetter.specs.declared.code.Machine.{Machine}
-use Rattle.tape.specs.declared.Ending.{Ending}
-use Rattle.tape.specs.declared.Ending.TheVariants.{Reached, Fault}
 use Rattle.typesetter.specs.declared.machine.State.{State}
 use Rattle.typesetter.specs.Machine.{start}
-use Rattle.tape.specs.Tape.{max_tape, run, closing, read_result, machine_of, on_machine, tape_result}
+use Rattle.typesetter.specs.Code.{machine_of}
+use Rattle.tape.specs.Tape.{Ending, max_tape, run, closing, read_result, on_machine, tape_result}
 use Rattle.tape.specs.RunLaws.{run_length, run_valid}
 use Rattle.typesetter.specs.SoundLaws.{start_sound}
 
@@ -41,7 +40,7 @@ module _ (kind : Machine) (tape : List ℕ) (short : length tape ≤ max_tape) w
 
 pub record AcceptedTape (tape : List ℕ) (machine : ℕ) (bs : List ℕ) : Type 0 where
   pub kind : Machine
-  pub named : machine_of machine ≡ some kind
+  pub named : machine_of machine ≡ Ok kind
   pub short_enough : length tape ≤ max_tape
   pub bytes_are : bs ≡ galley New (items_on kind tape)
   pub valid : AllValid height_end (items_on kind tape)
@@ -73,14 +72,14 @@ galley_from s tape room bs q = go (run s 0 tape).ending q
     uncut false u e = stopped u e
 
     go : (x : Ending) → if_room no_galley_room room (closing (length tape) is x) ≡ written bs → bs ≡ galley New is
-    go (Reached s) e = uncut s.cut s.stopped e
-    go (Fault n p) e = never e
+    go (Ok s) e = uncut s.cut s.stopped e
+    go (Err r) e = never e
 
 pub accepted_tape : (tape : List ℕ) (machine room : ℕ) (bs : List ℕ) → tape_result tape machine room ≡ written bs → AcceptedTape tape machine bs
 unfolding tape_result
 accepted_tape tape machine room bs q = whole_tape_lem (ltb max_tape (length tape)) refl q
   where
-    on : (kind : Machine) → machine_of machine ≡ some kind → length tape ≤ max_tape → bs ≡ galley New (items_on kind tape) → AcceptedTape tape machine bs
+    on : (kind : Machine) → machine_of machine ≡ Ok kind → length tape ≤ max_tape → bs ≡ galley New (items_on kind tape) → AcceptedTape tape machine bs
     on kind m l g =
         let is = items_on kind tape in
         let v = run_valid (start kind) 0 tape (start_sound kind) in
@@ -95,9 +94,9 @@ accepted_tape tape machine room bs q = whole_tape_lem (ltb max_tape (length tape
           size = omega (arith, ap length g, items_fit kind tape l);
         }
 
-    by_machine : (k : Option Machine) → machine_of machine ≡ k → length tape ≤ max_tape → on_machine tape room k ≡ written bs → AcceptedTape tape machine bs
-    by_machine (some kind) m l e = on kind m l (galley_from (start kind) tape room bs e)
-    by_machine none m l e = never e
+    by_machine : (k : ResultOf Machine Reason) → machine_of machine ≡ k → length tape ≤ max_tape → on_machine tape room k ≡ written bs → AcceptedTape tape machine bs
+    by_machine (Ok kind) m l e = on kind m l (galley_from (start kind) tape room bs e)
+    by_machine (Err reason) m l e = never e
 
     whole_tape_lem : (t : Bool) → ltb max_tape (length tape) ≡ t → cond t (refusal tape_too_long 0) (on_machine tape room (machine_of machine)) ≡ written bs → AcceptedTape tape machine bs
     whole_tape_lem true l e = never e
@@ -111,7 +110,7 @@ tape_room tape machine room n = go (ltb max_tape (length tape)) (machine_of mach
     refused : {k p : ℕ} → accepted n ≡ outcome (refusal k p) → n ≤ room
     refused e = absurd (suc-ne-zero 0 cc)
 
-    go : (t : Bool) (k : Option Machine) → accepted n ≡ outcome (cond t (refusal tape_too_long 0) (on_machine tape room k)) → n ≤ room
+    go : (t : Bool) (k : ResultOf Machine Reason) → accepted n ≡ outcome (cond t (refusal tape_too_long 0) (on_machine tape room k)) → n ≤ room
     go true k e = refused e
-    go false none e = refused e
-    go false (some kind) e = accepted_room no_galley_room room n (closing (length tape) (items_on kind tape) (run (start kind) 0 tape).ending) e
+    go false (Err reason) e = refused e
+    go false (Ok kind) e = accepted_room no_galley_room room n (closing (length tape) (items_on kind tape) (run (start kind) 0 tape).ending) e

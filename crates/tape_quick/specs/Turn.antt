@@ -5,9 +5,8 @@
 --     modes_after, size_after    the modes and the size after such a code
 --     settled                  a state with other modes and another size
 --     Leads                    a height that a code leads to
-use Rattle.std.specs.Prelude.{◌≡◌, Bool, true, false, cond, not, ◌&&◌, ℕ, ◌/◌, ◌%◌, eqb}
-use Rattle.measure.specs.declared.Height.{Height}
-use Rattle.measure.specs.declared.Height.TheVariants as height
+use Rattle.std.specs.Prelude.{◌≡◌, Bool, true, false, cond, not, ◌&&◌, ℕ, ◌/◌, ◌%◌, eqb, Option, Some, None, Ok}
+use Rattle.measure.specs.declared.Quanta.{Quanta}
 use Rattle.typesetter.specs.declared.code.Machine.{Machine}
 use Rattle.typesetter.specs.declared.code.Machine.TheVariants.{Four, Eight}
 use Rattle.typesetter.specs.declared.machine.Modes.{Modes}
@@ -52,7 +51,7 @@ settled s m z = with_size (with_modes s m) z
 
 -- ---- leads
 
--- what `height_after` says of a code; of Outside it says nothing
-abbrev pub Leads : State → ℕ → Height → Type 0
-Leads s b (height.At h) = byte_effect s b ≡ Moved (with_height s h)
-Leads s b height.Outside = Unit {0}
+-- what `height_after` says of a code; of None it says nothing
+abbrev pub Leads : State → ℕ → Option Quanta → Type 0
+Leads s b (Some h) = byte_effect s b ≡ Ok (Moved (with_height s h))
+Leads s b None = Unit {0}

@@ -8,8 +8,9 @@ ghost use Rattle.typesetter.specs.Sound.{Sound};
 ghost use Rattle.tape_stretch.specs.Further.{Further};
 ghost use Rattle.tape_quick.specs.Turn.{Leads};
 
-use measure::Height;
+use measure::Quanta;
 use tape_stretch::derived;
+use tape_stretch::derived::Derived;
 use typesetter::code;
 use typesetter::machine::State;
 
@@ -21,27 +22,14 @@ pub struct RunEnd {
     pub count: usize,
 }
 
-// The height after b, where b is a lead of a machine that is ready; Outside is every other code and every refusal.
-pub fn height_after(s: State, b: u8) -> Height
+// The height after b, where b is a lead of a machine that is ready; None is every other code and every refusal.
+pub fn height_after(s: State, b: u8) -> Option<Quanta>
     ensures { Leads s b result }
 {
-    if b >> 5 != 3 {
-        return Height::Outside;
-    }
-    if derived::is_ready(s) {
+    if b >> 5 == 3 && derived::is_ready(s) {
         s.height.lead(code::lead_size(b), s.modes.lead_back)
     } else {
-        Height::Outside
-    }
-}
-
-fn run_end(next: usize, state: State, count: usize) -> RunEnd
-    ensures { result ≡ record { next = next; state = state; count = count } }
-{
-    RunEnd {
-        next: next,
-        state: state,
-        count: count,
+        None
     }
 }
 
@@ -59,36 +47,33 @@ pub fn quick_run(
     ensures { Further writing tape.now out.old first before cuts from result.state result.count result.next out.new }
 {
     let mut s = first;
-    let mut d = derived::derived_of(first);
+    let mut d = Derived::of(first);
     let mut count = before;
     let mut i = from;
-    while i < tape.len() {
+    // A turn stands in `figures::quick_tally` too: one function for both cost reading 6.6 percent (docs/DECISIONS.md, 85).
+    // It takes a stretch of codes, however many, so the place is no counter.
+    loop {
         let r = tape_stretch::quick_stretch(writing, s, d, tape, i, count, cuts, out);
-        let place = r.carriage;
-        s.carriage = place;
+        s.carriage = r.carriage;
         count = r.count;
         i = r.next;
-        if i < tape.len() {
-            let b = tape[i];
-            if turn::takes_turn(s, b) {
-                let modes = turn::modes_after(s.modes, b);
-                let size = turn::size_after(s.size, b);
-                s.modes = modes;
-                s.size = size;
-                d = derived::derived_of(s);
-                i += 1;
-            } else {
-                match height_after(s, b) {
-                    Height::At(h) => {
-                        s.height = h;
-                        i += 1;
-                    }
-                    Height::Outside => {
-                        return run_end(i, s, count);
-                    }
-                }
-            }
+        let Some(&b) = tape.get(i) else {
+            break;
+        };
+        if turn::takes_turn(s, b) {
+            s.modes = turn::modes_after(s.modes, b);
+            s.size = turn::size_after(s.size, b);
+            d = Derived::of(s);
+        } else if let Some(height) = height_after(s, b) {
+            s.height = height;
+        } else {
+            break;
         }
+        i += 1;
     }
-    run_end(i, s, count)
+    RunEnd {
+        next: i,
+        state: s,
+        count,
+    }
 }

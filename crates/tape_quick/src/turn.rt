@@ -11,36 +11,22 @@ use typesetter::machine::{Modes, State};
 fn tilts(machine: Machine) -> bool
     ensures { result ≡ has_tilt machine }
 {
-    match machine {
-        Machine::Four => false,
-        Machine::Eight => true,
-    }
+    matches!(machine, Machine::Eight)
 }
 
-// Whether b turns a mode or sets a size. The machine stays the same all along, so its branch is foreseen.
+// Whether b turns a mode or sets a size.
 fn turns(machine: Machine, b: u8) -> bool
     ensures { result ≡ is_turn machine b }
 {
-    if b >> 5 != 2 {
-        return false;
-    }
     let settles = (b != 0x40) & (b != 0x49) & (b != 0x4B) & (b != 0x4D) & (b != 0x5F);
-    if tilts(machine) {
-        return settles;
-    }
-    settles & (b >> 1 != 0x27)
+    b >> 5 == 2 && settles & (tilts(machine) | (b >> 1 != 0x27))
 }
 
 // Whether the machine is ready, and b turns a mode or sets a size.
 pub fn takes_turn(s: State, b: u8) -> bool
     ensures { result ≡ true → ((Ready s) × (is_turn s.machine b ≡ true)) }
 {
-    if derived::is_ready(s) {
-        let machine = s.machine;
-        turns(machine, b)
-    } else {
-        false
-    }
+    derived::is_ready(s) && turns(s.machine, b)
 }
 
 // A mode after b, which `on` sets and `off` clears.

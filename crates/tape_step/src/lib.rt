@@ -2,185 +2,138 @@
 #![tactic(auto)]
 
 ghost use Rattle.std.specs.Prelude.{◌≡◌};
-ghost use Rattle.typesetter.specs.Machine.{flash_of, escape_of, lead_of, with_size, with_stop, with_cut, instruction_effect, byte_effect};
+ghost use Rattle.typesetter.specs.Machine.{flash_of, escape_of, lead_of, instruction_effect, byte_effect};
 ghost use Rattle.typesetter.specs.Sound.{Sound};
 
 use galley_file::character::Character;
 use galley_file::font;
-use measure::{Carriage, Height, Quanta, Units};
-use octets::answer;
+use measure::{Quanta, Units};
+use octets::refusal::Reason;
 use typesetter::code::{Code, Instruction};
-use typesetter::machine::{Effect, State};
-use typesetter::{code, machine};
+use typesetter::machine;
+use typesetter::machine::{Effect, Modes, State};
 
 // The escape that leaves the left switch.
 const FIRST_ESCAPE: u8 = 16;
 
 // A flash of v.
-fn flash(s: State, v: u8) -> Effect
+#[tactic(auto, unfolding(typesetter::specs::Machine::flash_of))]
+fn flash(s: State, v: u8) -> Result<Effect, Reason>
     requires { Sound s }
     ensures { result ≡ flash_of s v }
 {
-    let size = s.size;
-    let upper = s.modes.upper_half;
     if s.parked {
-        return Effect::Refused(answer::PARKED);
+        return Err(Reason::Parked);
     }
-    if machine::NO_SIZE_YET <= size {
-        return Effect::Refused(answer::NO_SIZE);
+    if machine::NO_SIZE_YET <= s.size {
+        return Err(Reason::NoSize);
     }
-    if machine::past_half(upper, v) {
-        return Effect::Refused(answer::ABOVE_HALF);
+    if s.modes.is_past_half(v) {
+        return Err(Reason::AboveHalf);
     }
-    let x = s.carriage.x(font::is_double(size));
-    let height = s.height;
-    let machine = s.machine;
-    let number = machine::number_in(machine, s.modes, size);
-    let code = machine::code_in(upper, v);
-    Effect::Flashed(Character {
-        x: x,
-        height: height,
-        font: number,
-        code: code,
-    })
+    Ok(Effect::Flashed(Character {
+        x: s.carriage.x(font::is_double(s.size)),
+        height: s.height,
+        font: s.font_number(),
+        code: s.modes.code(v),
+    }))
 }
 
 // An escape; while parked only the one that leaves the switch.
-fn escape(s: State, by: u8) -> Effect
+#[tactic(auto, unfolding(typesetter::specs::Machine::escape_of))]
+fn escape(s: State, by: u8) -> Result<Effect, Reason>
     ensures { result ≡ escape_of s by }
 {
-    let mut next = s;
-    if s.parked {
-        if s.modes.escape_back {
-            return Effect::Refused(answer::PARKED);
-        }
-        if by != FIRST_ESCAPE {
-            return Effect::Refused(answer::PARKED);
-        }
-        let origin = Units(0);
-        next.parked = false;
-        next.carriage = origin;
-        return Effect::Moved(next);
+    if !s.parked {
+        let carriage = s
+            .carriage
+            .escape(by, s.modes.escape_back)
+            .ok_or(Reason::OutOfRange)?;
+        return Ok(Effect::Moved(State { carriage, ..s }));
     }
-    match s.carriage.escape(by, s.modes.escape_back) {
-        Carriage::Outside => Effect::Refused(answer::OUT_OF_RANGE),
-        Carriage::At(c) => {
-            next.carriage = c;
-            Effect::Moved(next)
-        }
+    if s.modes.escape_back || by != FIRST_ESCAPE {
+        return Err(Reason::Parked);
     }
+    Ok(Effect::Moved(State {
+        parked: false,
+        carriage: Units(0),
+        ..s
+    }))
 }
 
 // A lead, parked or not.
-fn lead(s: State, by: u8) -> Effect
+#[tactic(auto, unfolding(typesetter::specs::Machine::lead_of))]
+fn lead(s: State, by: u8) -> Result<Effect, Reason>
     ensures { result ≡ lead_of s by }
 {
-    match s.height.lead(by, s.modes.lead_back) {
-        Height::Outside => Effect::Refused(answer::OUT_OF_RANGE),
-        Height::At(h) => {
-            let mut next = s;
-            next.height = h;
-            Effect::Moved(next)
-        }
-    }
-}
-
-fn with_size(s: State, index: u8) -> State
-    ensures { result ≡ with_size s index }
-{
-    let mut next = s;
-    next.size = index;
-    next
-}
-
-// A stop: nothing but 00 may follow.
-fn with_stop(s: State) -> State
-    ensures { result ≡ with_stop s }
-{
-    let mut next = s;
-    next.stopped = true;
-    next
-}
-
-// A cut ends the page; the next starts at height 0, with initialize.
-fn with_cut(s: State) -> State
-    ensures { result ≡ with_cut s }
-{
-    let mut next = s;
-    let top = Quanta(0);
-    next.cut = true;
-    next.height = top;
-    next
+    let height = s
+        .height
+        .lead(by, s.modes.lead_back)
+        .ok_or(Reason::OutOfRange)?;
+    Ok(Effect::Moved(State { height, ..s }))
 }
 
 // A code other than 00 and initialize, on an initialized machine that has neither stopped nor cut.
-fn execute(s: State, o: Instruction) -> Effect
+#[tactic(auto, unfolding(typesetter::specs::Machine::instruction_effect))]
+fn execute(s: State, o: Instruction) -> Result<Effect, Reason>
     requires { Sound s }
     ensures { result ≡ instruction_effect s o }
 {
-    let mut next = s;
+    let turned = |modes: Modes| Ok(Effect::Moved(State { modes, ..s }));
     match o {
         Instruction::Flash(v) => flash(s, v),
-        Instruction::Rail(up) => {
-            next.modes.upper_rail = up;
-            Effect::Moved(next)
-        }
-        Instruction::Mag(up) => {
-            next.modes.upper_mag = up;
-            Effect::Moved(next)
-        }
-        Instruction::Half(up) => {
-            next.modes.upper_half = up;
-            Effect::Moved(next)
-        }
-        Instruction::EscapeWay(back) => {
-            next.modes.escape_back = back;
-            Effect::Moved(next)
-        }
-        Instruction::LeadWay(back) => {
-            next.modes.lead_back = back;
-            Effect::Moved(next)
-        }
-        Instruction::Tilt(down) => {
-            next.modes.tilt_down = down;
-            Effect::Moved(next)
-        }
-        Instruction::Size(index) => Effect::Moved(with_size(s, index)),
-        Instruction::Stop => Effect::Moved(with_stop(s)),
-        Instruction::Cut => Effect::PageEnded(with_cut(s)),
+        Instruction::Rail(upper_rail) => turned(Modes {
+            upper_rail,
+            ..s.modes
+        }),
+        Instruction::Mag(upper_mag) => turned(Modes {
+            upper_mag,
+            ..s.modes
+        }),
+        Instruction::Half(upper_half) => turned(Modes {
+            upper_half,
+            ..s.modes
+        }),
+        Instruction::EscapeWay(escape_back) => turned(Modes {
+            escape_back,
+            ..s.modes
+        }),
+        Instruction::LeadWay(lead_back) => turned(Modes {
+            lead_back,
+            ..s.modes
+        }),
+        Instruction::Tilt(tilt_down) => turned(Modes {
+            tilt_down,
+            ..s.modes
+        }),
+        Instruction::Size(size) => Ok(Effect::Moved(State { size, ..s })),
+        // Nothing but 00 may follow.
+        Instruction::Stop => Ok(Effect::Moved(State { stopped: true, ..s })),
+        // The next page starts at height 0, with initialize.
+        Instruction::Cut => Ok(Effect::PageEnded(State {
+            cut: true,
+            height: Quanta(0),
+            ..s
+        })),
         Instruction::Lead(by) => lead(s, by),
         Instruction::Escape(by) => escape(s, by),
     }
 }
 
 // One code.
-pub fn step(s: State, b: u8) -> Effect
+#[tactic(auto, unfolding(typesetter::specs::Machine::byte_effect, typesetter::specs::Machine::code_effect))]
+pub fn step(s: State, b: u8) -> Result<Effect, Reason>
     requires { Sound s }
     ensures { result ≡ byte_effect s b }
 {
-    let machine = s.machine;
-    match code::classify(machine, b) {
-        Code::Ignored => Effect::Moved(s),
-        Code::Illegal => Effect::Refused(answer::ILLEGAL_CODE),
-        Code::Initialize => {
-            if s.stopped {
-                Effect::Refused(answer::AFTER_STOP)
-            } else {
-                Effect::Moved(machine::initialized(s))
-            }
-        }
-        Code::Instructs(o) => {
-            if s.initialized {
-                if s.cut {
-                    Effect::Refused(answer::AFTER_CUT)
-                } else if s.stopped {
-                    Effect::Refused(answer::AFTER_STOP)
-                } else {
-                    execute(s, o)
-                }
-            } else {
-                Effect::Refused(answer::NOT_INITIALIZED)
-            }
-        }
+    match s.machine.classify(b) {
+        Code::Ignored => Ok(Effect::Moved(s)),
+        Code::Illegal => Err(Reason::IllegalCode),
+        Code::Initialize if s.stopped => Err(Reason::AfterStop),
+        Code::Initialize => Ok(Effect::Moved(s.after_initialize())),
+        Code::Instructs(_) if !s.initialized => Err(Reason::NotInitialized),
+        Code::Instructs(_) if s.cut => Err(Reason::AfterCut),
+        Code::Instructs(_) if s.stopped => Err(Reason::AfterStop),
+        Code::Instructs(o) => execute(s, o),
     }
 }

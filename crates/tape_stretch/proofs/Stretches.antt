@@ -1,5 +1,6 @@
 -- The codes of a stretch, taken without the whole step: 00, flashes and escapes.
 -- Assumes nothing.
+use Rattle.std.specs.Prelude.{Some, Ok}
 use mathlib.Core.Path.{◌≡◌, refl, sym, ap, subst, ◌∙◌}
 use mathlib.Core.List.{List}
 use mathlib.Core.Bool.{Bool, true, false, cond}
@@ -11,7 +12,6 @@ use lib.ListN.{length, get_or}
 use lib.IntN.{ℤ, pos, ◌+ℤ◌}
 use Rattle.integers.specs.Parts.{integers, sum_parts}
 use Rattle.measure.specs.declared.Units.{Units}
-use Rattle.measure.specs.declared.Carriage.TheVariants as carriage
 use Rattle.measure.specs.declared.Quanta.{Quanta}
 use Rattle.measure.specs.Place.{directed_by, carriage_at}
 use Rattle.measure.specs.PlaceLaws.{carriage_in}
@@ -39,12 +39,12 @@ half_taken true v h = (omega arith, le-ltb _ _ h)
 half_taken false v h = (omega arith, refl)
 
 module _ (s : State) (b : ℕ) where
-  pub quick_ignored : b ≡ 0 → byte_effect s b ≡ Moved (with_carriage s s.carriage)
+  pub quick_ignored : b ≡ 0 → byte_effect s b ≡ Ok (Moved (with_carriage s s.carriage))
   unfolding code_of
   quick_ignored e = sym (step_ignored s b (rw e))
 
   pub quick_set : (d : Derived) → Flashing s d → 1 ≤ b → b ≤ d.last_flash → (x : Units) (k : ℕ) → x.0 ≡ x_of s.carriage.0 (is_double s.size) → k ≡ code_in s.modes.upper_half b
-      → byte_effect s b ≡ Flashed (record { x = x; height = s.height; font = d.font; code = k })
+      → byte_effect s b ≡ Ok (Flashed (record { x = x; height = s.height; font = d.font; code = k }))
   unfolding instruction_effect
   quick_set d f h l x k ex ek =
       let t = half_taken s.modes.upper_half b (omega (arith, f.last)) in
@@ -52,8 +52,8 @@ module _ (s : State) (b : ℕ) where
       (flash_set s b f.runs.unparked (lt-leb _ _ f.sized) t.1 x d.font k ex f.number ek
       ∙ instruction_taken s b (code_flash s.machine b h t.0) f.runs.begun f.runs.uncut f.runs.unstopped)
 
-  pub quick_at : Ready s → 128 ≤ b → b < 255 → (c : Units) → carriage_at (s.carriage.0 +ℤ directed_by s.modes.escape_back (127 - b % 128)) ≡ carriage.At c
-      → byte_effect s b ≡ Moved (with_carriage s c)
+  pub quick_at : Ready s → 128 ≤ b → b < 255 → (c : Units) → carriage_at (s.carriage.0 +ℤ directed_by s.modes.escape_back (127 - b % 128)) ≡ Some c
+      → byte_effect s b ≡ Ok (Moved (with_carriage s c))
   unfolding instruction_effect
   quick_at r h k c e =
       sym (escape_at s (127 - b % 128) r.unparked c e ∙ instruction_taken s b (code_escape s.machine b h k) r.begun r.uncut r.unstopped)
@@ -104,7 +104,7 @@ still_derived s c q f =
     }
 
 -- one code more: it leaves the carriage at c
-module _ (tape : List ℕ) (s : State) (d : Derived) (f : DerivedFrom s d) (r q : Stretch) (p : Strides tape s d.font r q) (h : q.next < length tape) (t : Takes d (get_or tape q.next 0)) (c : Units) (e : carriage_at (q.carriage.0 +ℤ directed_by s.modes.escape_back (escape_by (get_or tape q.next 0))) ≡ carriage.At c) where
+module _ (tape : List ℕ) (s : State) (d : Derived) (f : DerivedFrom s d) (r q : Stretch) (p : Strides tape s d.font r q) (h : q.next < length tape) (t : Takes d (get_or tape q.next 0)) (c : Units) (e : carriage_at (q.carriage.0 +ℤ directed_by s.modes.escape_back (escape_by (get_or tape q.next 0))) ≡ Some c) where
   abbrev b : ℕ
   b = get_or tape q.next 0
 
@@ -121,10 +121,10 @@ module _ (tape : List ℕ) (s : State) (d : Derived) (f : DerivedFrom s d) (r q 
   abbrev After : Units → ℕ → Type 0
   After u n = Strides tape s d.font r (record { next = q.next + 1; carriage = u; count = n })
 
-  moving : byte_effect here b ≡ Moved (with_carriage s c) → NoLead b → flashes_in b ≡ 0 → After c (q.count + flashes_in b)
+  moving : byte_effect here b ≡ Ok (Moved (with_carriage s c)) → NoLead b → flashes_in b ≡ 0 → After c (q.count + flashes_in b)
   moving m l z = let same : q.count ≡ q.count + flashes_in b = omega (arith, z) in subst (After c) same (moves p h m l)
 
-  setting : {k : Character} → byte_effect here b ≡ Flashed k → k.font ≡ d.font → q.carriage ≡ c → flashes_in b ≡ 1 → After c (q.count + flashes_in b)
+  setting : {k : Character} → byte_effect here b ≡ Ok (Flashed k) → k.font ≡ d.font → q.carriage ≡ c → flashes_in b ≡ 1 → After c (q.count + flashes_in b)
   setting m n u z =
       let more : q.count + 1 ≡ q.count + flashes_in b = omega (arith, z) in
       subst (After c) more (subst (λ (v : Units). After v (q.count + 1)) u (sets p h m n))
@@ -138,7 +138,7 @@ module _ (tape : List ℕ) (s : State) (d : Derived) (f : DerivedFrom s d) (r q 
       low : b < 128 → (u : Bool) → eqb b 0 ≡ u → After c (q.count + flashes_in b)
       low l true z =
           let zero = eqb-true b 0 z in
-          moving (quick_ignored here b zero ∙ ap (λ (u : Units). Moved (with_carriage s u)) (stays l)) (λ n. absurd (omega arith)) (ap (λ (u : Bool). cond u 0 (1 - b / 128)) z)
+          moving (quick_ignored here b zero ∙ ap (λ (u : Units). Ok (Moved (with_carriage s u))) (stays l)) (λ n. absurd (omega arith)) (ap (λ (u : Bool). cond u 0 (1 - b / 128)) z)
       low l false z =
           let n = eqb-false b 0 z in
           let k : 1 ≤ b = omega arith in

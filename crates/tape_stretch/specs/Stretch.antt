@@ -6,7 +6,7 @@
 --     Quickly                what the quick step says of a code
 --     Strides                the codes of a stretch
 --     stretch_at              a stretch of no codes
-use Rattle.std.specs.Prelude.{◌≡◌, Bool, true, false, cond, List, ℕ, ◌+◌, ◌-◌, ◌*◌, ◌/◌, ◌%◌, ◌≤◌, ◌<◌, eqb, length, get_or}
+use Rattle.std.specs.Prelude.{◌≡◌, Bool, true, false, cond, List, ℕ, ◌+◌, ◌-◌, ◌*◌, ◌/◌, ◌%◌, ◌≤◌, ◌<◌, eqb, length, get_or, Option, Some, None, Ok}
 use Rattle.measure.specs.declared.Units.{Units}
 use Rattle.galley_file.specs.declared.character.Character.{Character}
 use Rattle.galley_file.specs.Font.{font_number}
@@ -56,11 +56,11 @@ escape_by b = (b / 128) * (127 - b % 128)
 abbrev pub flashes_in : ℕ → ℕ
 flashes_in b = cond (eqb b 0) 0 (1 - b / 128)
 
--- what `quick_step` says of a code; of Slow it says nothing
-abbrev pub Quickly : State → ℕ → Quick → Type 0
-Quickly s b (quick.Set c) = byte_effect s b ≡ Flashed c
-Quickly s b (quick.At place) = byte_effect s b ≡ Moved (with_carriage s place)
-Quickly s b quick.Slow = Unit {0}
+-- what `quick_step` says of a code; of None it says nothing
+abbrev pub Quickly : State → ℕ → Option Quick → Type 0
+Quickly s b (Some (quick.Set c)) = byte_effect s b ≡ Ok (Flashed c)
+Quickly s b (Some (quick.At place)) = byte_effect s b ≡ Ok (Moved (with_carriage s place))
+Quickly s b None = Unit {0}
 
 -- no lead
 abbrev pub NoLead : ℕ → Type 0
@@ -70,10 +70,10 @@ NoLead b = 96 ≤ b → 128 ≤ b
 pub data Strides (tape : List ℕ) (s : State) (font : ℕ) (r : Stretch) : Stretch → Type 0 where
   stands : Strides tape s font r r
   moves : {q : Stretch} {c : Units} → Strides tape s font r q → q.next < length tape
-      → byte_effect (with_carriage s q.carriage) (get_or tape q.next 0) ≡ Moved (with_carriage s c) → NoLead (get_or tape q.next 0)
+      → byte_effect (with_carriage s q.carriage) (get_or tape q.next 0) ≡ Ok (Moved (with_carriage s c)) → NoLead (get_or tape q.next 0)
       → Strides tape s font r (record { next = q.next + 1; carriage = c; count = q.count })
   sets : {q : Stretch} {k : Character} → Strides tape s font r q → q.next < length tape
-      → byte_effect (with_carriage s q.carriage) (get_or tape q.next 0) ≡ Flashed k → k.font ≡ font
+      → byte_effect (with_carriage s q.carriage) (get_or tape q.next 0) ≡ Ok (Flashed k) → k.font ≡ font
       → Strides tape s font r (record { next = q.next + 1; carriage = q.carriage; count = q.count + 1 })
 
 -- a stretch of no codes

@@ -1,13 +1,20 @@
 -- Document 01, "Tape codes (000)", and document 02, "The other machine" and "Software cuts": what each code means.
+--     machine_of    the machine of a number of fonts
 --     tilt_of      a tilt code of either machine
 --     controls    the codes 40 to 4F
 --     code_of      every code
-use Rattle.std.specs.Prelude.{ℕ, ◌-◌, ◌%◌, Bool, true, false, cond, List, [], ◌∷◌, get_or, eqb, ltb}
+use Rattle.std.specs.Prelude.{ℕ, ◌-◌, ◌%◌, Bool, true, false, cond, List, [], ◌∷◌, get_or, eqb, ltb, Result, Ok, Err}
+use Rattle.octets.specs.declared.refusal.Reason.{Reason}
+use Rattle.octets.specs.declared.refusal.Reason.TheVariants.{NoMachine}
 use Rattle.typesetter.specs.declared.code.Machine.{Machine}
 use Rattle.typesetter.specs.declared.code.Machine.TheVariants.{Four, Eight}
 use Rattle.typesetter.specs.declared.code.Instruction.TheVariants.{Flash, Rail, Mag, Half, EscapeWay, LeadWay, Tilt, Size, Stop, Cut, Lead, Escape}
 use Rattle.typesetter.specs.declared.code.Code.{Code}
 use Rattle.typesetter.specs.declared.code.Code.TheVariants.{Ignored, Illegal, Initialize, Instructs}
+
+-- the machine of this number of fonts
+abbrev pub machine_of : ℕ → Result Machine Reason
+machine_of n = cond (eqb n 4) (Ok Four) (cond (eqb n 8) (Ok Eight) (Err NoMachine))
 
 -- "4E and 4F get 2 on a 4-font machine"
 abbrev pub tilt_of : Machine → Bool → Code

@@ -6,19 +6,17 @@
 --     fault_effect     a code is refused under one of those numbers
 --     moved_machine, page_ended_machine    no code changes the machine
 -- Assumes nothing.
-use Rattle.std.specs.Prelude.{◌≡◌, Bool, true, false, ℕ, ◌≤◌, ◌<◌, leb, ℤ, ◌+ℤ◌}
+use Rattle.std.specs.Prelude.{◌≡◌, Bool, true, false, ℕ, ◌≤◌, ◌<◌, leb, ℤ, ◌+ℤ◌, Option, Some, None, Ok, Err}
 use Rattle.std.proofs.Math.Path.{refl, subst}
 use Rattle.std.proofs.Math.Bool.{cond}
 use Rattle.std.proofs.Common.{leb-false}
 use Rattle.std.proofs.Math.Dec.{lit≤}
 use Rattle.integers.specs.Parts.{integers}
-use Rattle.octets.specs.Answer.{not_initialized, after_cut, after_stop, still_parked, no_size, above_half}
+use Rattle.octets.specs.Answer.{number_in}
+use Rattle.octets.specs.declared.refusal.Reason.{Reason}
+use Rattle.octets.specs.declared.refusal.Reason.TheVariants.{AboveHalf, AfterCut, AfterStop, NoSize, NotInitialized, Parked}
 use Rattle.measure.specs.declared.Units.{Units}
 use Rattle.measure.specs.declared.Quanta.{Quanta}
-use Rattle.measure.specs.declared.Carriage.{Carriage}
-use Rattle.measure.specs.declared.Carriage.TheVariants as carriage
-use Rattle.measure.specs.declared.Height.{Height}
-use Rattle.measure.specs.declared.Height.TheVariants as height
 use Rattle.measure.specs.Place.{carriage_end, directed_by, carriage_at, height_at}
 use Rattle.measure.specs.PlaceLaws.{InRange, carriage_in}
 use Rattle.typesetter.specs.declared.code.Instruction.{Instruction}
@@ -27,10 +25,9 @@ use Rattle.typesetter.specs.declared.code.Code.{Code}
 use Rattle.typesetter.specs.declared.code.Code.TheVariants.{Ignored, Illegal, Initialize, Instructs}
 use Rattle.typesetter.specs.declared.machine.Modes.{Modes}
 use Rattle.typesetter.specs.declared.machine.State.{State}
-use Rattle.typesetter.specs.declared.machine.Effect.{Effect}
-use Rattle.typesetter.specs.declared.machine.Effect.TheVariants.{Moved, Flashed, PageEnded, Refused}
+use Rattle.typesetter.specs.declared.machine.Effect.TheVariants.{Moved, Flashed, PageEnded}
 use Rattle.typesetter.specs.Code.{code_of}
-use Rattle.typesetter.specs.Machine.{no_size_yet, origin, initialized_of, past_half, character_in, leaves_switch, with_modes, with_size, with_stop, off_switch_at, with_height, with_cut, to_carriage, to_height, flash_of, escape_of, lead_of, instruction_effect, code_effect, byte_effect}
+use Rattle.typesetter.specs.Machine.{Step, no_size_yet, origin, initialized_of, past_half, character_in, leaves_switch, with_modes, with_size, with_stop, off_switch_at, with_height, with_cut, to_carriage, to_height, flash_of, escape_of, lead_of, instruction_effect, code_effect, byte_effect}
 
 pub data Turning : Instruction → Type 0 where
   rails : {up : Bool} → Turning (Rail up)
@@ -43,46 +40,46 @@ pub data Turning : Instruction → Type 0 where
 abbrev pub IsFault : ℕ → Type 0
 IsFault n = (2 ≤ n) × (n ≤ 10)
 
-pub data Causes (s : State) : Code → Effect → Type 0 where
-  refuses : {k : Code} {n : ℕ} → IsFault n → Causes s k (Refused n)
-  ignores : Causes s Ignored (Moved s)
-  initializes : Causes s Initialize (Moved (initialized_of s))
-  flashes : {v : ℕ} → s.size < no_size_yet → past_half s.modes.upper_half v ≡ false → Causes s (Instructs (Flash v)) (Flashed (character_in s v))
-  turns : {o : Instruction} {m : Modes} → Turning o → Causes s (Instructs o) (Moved (with_modes s m))
-  sizes : {index : ℕ} → Causes s (Instructs (Size index)) (Moved (with_size s index))
-  stops : s.stopped ≡ false → Causes s (Instructs Stop) (Moved (with_stop s))
-  cuts : s.stopped ≡ false → Causes s (Instructs Cut) (PageEnded (with_cut s))
-  leads : {n : ℕ} {h : Quanta} → s.stopped ≡ false → height_at (s.height.0 +ℤ directed_by s.modes.lead_back n) ≡ height.At h → Causes s (Instructs (Lead n)) (Moved (with_height s h))
-  escapes : {n : ℕ} {c : Units} → InRange carriage_end c.0 → Causes s (Instructs (Escape n)) (Moved (off_switch_at s c))
+pub data Causes (s : State) : Code → Step → Type 0 where
+  refuses : {k : Code} {r : Reason} → IsFault (number_in r) → Causes s k (Err r)
+  ignores : Causes s Ignored (Ok (Moved s))
+  initializes : Causes s Initialize (Ok (Moved (initialized_of s)))
+  flashes : {v : ℕ} → s.size < no_size_yet → past_half s.modes.upper_half v ≡ false → Causes s (Instructs (Flash v)) (Ok (Flashed (character_in s v)))
+  turns : {o : Instruction} {m : Modes} → Turning o → Causes s (Instructs o) (Ok (Moved (with_modes s m)))
+  sizes : {index : ℕ} → Causes s (Instructs (Size index)) (Ok (Moved (with_size s index)))
+  stops : s.stopped ≡ false → Causes s (Instructs Stop) (Ok (Moved (with_stop s)))
+  cuts : s.stopped ≡ false → Causes s (Instructs Cut) (Ok (PageEnded (with_cut s)))
+  leads : {n : ℕ} {h : Quanta} → s.stopped ≡ false → height_at (s.height.0 +ℤ directed_by s.modes.lead_back n) ≡ Some h → Causes s (Instructs (Lead n)) (Ok (Moved (with_height s h)))
+  escapes : {n : ℕ} {c : Units} → InRange carriage_end c.0 → Causes s (Instructs (Escape n)) (Ok (Moved (off_switch_at s c)))
 
 pub at_origin : InRange carriage_end origin.0
 at_origin = record { low = omega integers; high = omega integers }
 
 module _ (s : State) where
-  either_way : (k : Code) (t : Bool) (x y : Effect) → (t ≡ true → Causes s k x) → (t ≡ false → Causes s k y) → Causes s k (cond t x y)
+  either_way : (k : Code) (t : Bool) (x y : Step) → (t ≡ true → Causes s k x) → (t ≡ false → Causes s k y) → Causes s k (cond t x y)
   either_way k true x y f g = f refl
   either_way k false x y f g = g refl
 
-  refused_if : (k : Code) (n : ℕ) → IsFault n → {X : Type 0} → X → Causes s k (Refused n)
-  refused_if k n h e = refuses h
+  refused_if : (k : Code) (r : Reason) → IsFault (number_in r) → {X : Type 0} → X → Causes s k (Err r)
+  refused_if k r h e = refuses h
 
   causes_flash : (v : ℕ) → Causes s (Instructs (Flash v)) (flash_of s v)
   unfolding flash_of
   causes_flash v =
       let k = Instructs (Flash v) in
       let past = past_half s.modes.upper_half v in
-      let done = cond past (Refused above_half) (Flashed (character_in s v)) in
-      either_way k s.parked (Refused still_parked) (cond (leb no_size_yet s.size) (Refused no_size) done) (refused_if k still_parked (lit≤ tt, lit≤ tt)) (λ _.
-      either_way k (leb no_size_yet s.size) (Refused no_size) done (refused_if k no_size (lit≤ tt, lit≤ tt)) (λ z.
-      either_way k past (Refused above_half) (Flashed (character_in s v)) (refused_if k above_half (lit≤ tt, lit≤ tt)) (flashes (leb-false no_size_yet s.size z))))
+      let done = cond past (Err AboveHalf) (Ok (Flashed (character_in s v))) in
+      either_way k s.parked (Err Parked) (cond (leb no_size_yet s.size) (Err NoSize) done) (refused_if k Parked (lit≤ tt, lit≤ tt)) (λ _.
+      either_way k (leb no_size_yet s.size) (Err NoSize) done (refused_if k NoSize (lit≤ tt, lit≤ tt)) (λ z.
+      either_way k past (Err AboveHalf) (Ok (Flashed (character_in s v))) (refused_if k AboveHalf (lit≤ tt, lit≤ tt)) (flashes (leb-false no_size_yet s.size z))))
 
-  causes_height : (n : ℕ) (r : Height) → s.stopped ≡ false → height_at (s.height.0 +ℤ directed_by s.modes.lead_back n) ≡ r → Causes s (Instructs (Lead n)) (to_height s r)
-  causes_height n (height.At h) f e = leads f e
-  causes_height n height.Outside f e = refuses (lit≤ tt, lit≤ tt)
+  causes_height : (n : ℕ) (r : Option Quanta) → s.stopped ≡ false → height_at (s.height.0 +ℤ directed_by s.modes.lead_back n) ≡ r → Causes s (Instructs (Lead n)) (to_height s r)
+  causes_height n (Some h) f e = leads f e
+  causes_height n None f e = refuses (lit≤ tt, lit≤ tt)
 
-  causes_carriage : (n : ℕ) (z : ℤ) (r : Carriage) → carriage_at z ≡ r → Causes s (Instructs (Escape n)) (to_carriage s r)
-  causes_carriage n z (carriage.At c) e = escapes (carriage_in z c e).1
-  causes_carriage n z carriage.Outside e = refuses (lit≤ tt, lit≤ tt)
+  causes_carriage : (n : ℕ) (z : ℤ) (r : Option Units) → carriage_at z ≡ r → Causes s (Instructs (Escape n)) (to_carriage s r)
+  causes_carriage n z (Some c) e = escapes (carriage_in z c e).1
+  causes_carriage n z None e = refuses (lit≤ tt, lit≤ tt)
 
   causes_escape : (n : ℕ) → Causes s (Instructs (Escape n)) (escape_of s n)
   unfolding escape_of
@@ -90,8 +87,8 @@ module _ (s : State) where
       let k = Instructs (Escape n) in
       let back = s.modes.escape_back in
       let z = s.carriage.0 +ℤ directed_by back n in
-      either_way k s.parked (cond (leaves_switch back n) (Moved (off_switch_at s origin)) (Refused still_parked)) (to_carriage s (carriage_at z))
-      (λ _. either_way k (leaves_switch back n) (Moved (off_switch_at s origin)) (Refused still_parked) (λ _. escapes at_origin) (refused_if k still_parked (lit≤ tt, lit≤ tt)))
+      either_way k s.parked (cond (leaves_switch back n) (Ok (Moved (off_switch_at s origin))) (Err Parked)) (to_carriage s (carriage_at z))
+      (λ _. either_way k (leaves_switch back n) (Ok (Moved (off_switch_at s origin))) (Err Parked) (λ _. escapes at_origin) (refused_if k Parked (lit≤ tt, lit≤ tt)))
       (λ _. causes_carriage n z (carriage_at z) refl)
 
   causes_instruction : (o : Instruction) → s.stopped ≡ false → Causes s (Instructs o) (instruction_effect s o)
@@ -113,29 +110,29 @@ module _ (s : State) where
   unfolding code_effect
   causes_code Ignored = ignores
   causes_code Illegal = refuses (lit≤ tt, lit≤ tt)
-  causes_code Initialize = either_way Initialize s.stopped (Refused after_stop) (Moved (initialized_of s)) (refused_if Initialize after_stop (lit≤ tt, lit≤ tt)) (λ _. initializes)
+  causes_code Initialize = either_way Initialize s.stopped (Err AfterStop) (Ok (Moved (initialized_of s))) (refused_if Initialize AfterStop (lit≤ tt, lit≤ tt)) (λ _. initializes)
   causes_code (Instructs o) =
       let k = Instructs o in
-      let taken = cond s.stopped (Refused after_stop) (instruction_effect s o) in
-      either_way k s.initialized (cond s.cut (Refused after_cut) taken) (Refused not_initialized)
-      (λ _. either_way k s.cut (Refused after_cut) taken (refused_if k after_cut (lit≤ tt, lit≤ tt)) (λ _.
-      either_way k s.stopped (Refused after_stop) (instruction_effect s o) (refused_if k after_stop (lit≤ tt, lit≤ tt)) (causes_instruction o)))
-      (refused_if k not_initialized (lit≤ tt, lit≤ tt))
+      let taken = cond s.stopped (Err AfterStop) (instruction_effect s o) in
+      either_way k s.initialized (cond s.cut (Err AfterCut) taken) (Err NotInitialized)
+      (λ _. either_way k s.cut (Err AfterCut) taken (refused_if k AfterCut (lit≤ tt, lit≤ tt)) (λ _.
+      either_way k s.stopped (Err AfterStop) (instruction_effect s o) (refused_if k AfterStop (lit≤ tt, lit≤ tt)) (causes_instruction o)))
+      (refused_if k NotInitialized (lit≤ tt, lit≤ tt))
 
-  pub causes : (b : ℕ) {x : Effect} → byte_effect s b ≡ x → Causes s (code_of s.machine b) x
+  pub causes : (b : ℕ) {x : Step} → byte_effect s b ≡ x → Causes s (code_of s.machine b) x
   unfolding byte_effect
   causes b e = subst (Causes s (code_of s.machine b)) e (causes_code (code_of s.machine b))
 
-  abbrev pub FaultOf : Effect → Type 0
-  FaultOf (Moved t) = Unit {0}
-  FaultOf (Flashed c) = Unit {0}
-  FaultOf (PageEnded t) = Unit {0}
-  FaultOf (Refused n) = IsFault n
+  abbrev pub FaultOf : Step → Type 0
+  FaultOf (Ok (Moved t)) = Unit {0}
+  FaultOf (Ok (Flashed c)) = Unit {0}
+  FaultOf (Ok (PageEnded t)) = Unit {0}
+  FaultOf (Err r) = IsFault (number_in r)
 
-  pub fault_effect : (b : ℕ) {x : Effect} → byte_effect s b ≡ x → FaultOf x
+  pub fault_effect : (b : ℕ) {x : Step} → byte_effect s b ≡ x → FaultOf x
   fault_effect b e = go (causes b e)
     where
-      go : {k : Code} {x : Effect} → Causes s k x → FaultOf x
+      go : {k : Code} {x : Step} → Causes s k x → FaultOf x
       go (refuses h) = h
       go ignores = tt
       go initializes = tt
@@ -148,13 +145,13 @@ module _ (s : State) where
       go (escapes r) = tt
 
   -- an effect leaves the machine as it is
-  abbrev Kept : Effect → Type 0
-  Kept (Moved t) = t.machine ≡ s.machine
-  Kept (Flashed c) = Unit {0}
-  Kept (PageEnded t) = t.machine ≡ s.machine
-  Kept (Refused n) = Unit {0}
+  abbrev Kept : Step → Type 0
+  Kept (Ok (Moved t)) = t.machine ≡ s.machine
+  Kept (Ok (Flashed c)) = Unit {0}
+  Kept (Ok (PageEnded t)) = t.machine ≡ s.machine
+  Kept (Err r) = Unit {0}
 
-  kept_by : {k : Code} {x : Effect} → Causes s k x → Kept x
+  kept_by : {k : Code} {x : Step} → Causes s k x → Kept x
   kept_by (refuses h) = tt
   kept_by ignores = refl
   kept_by initializes = refl
@@ -166,8 +163,8 @@ module _ (s : State) where
   kept_by (leads f e) = refl
   kept_by (escapes r) = refl
 
-  pub moved_machine : (b : ℕ) {t : State} → byte_effect s b ≡ Moved t → t.machine ≡ s.machine
+  pub moved_machine : (b : ℕ) {t : State} → byte_effect s b ≡ Ok (Moved t) → t.machine ≡ s.machine
   moved_machine b e = kept_by (causes b e)
 
-  pub page_ended_machine : (b : ℕ) {t : State} → byte_effect s b ≡ PageEnded t → t.machine ≡ s.machine
+  pub page_ended_machine : (b : ℕ) {t : State} → byte_effect s b ≡ Ok (PageEnded t) → t.machine ≡ s.machine
   page_ended_machine b e = kept_by (causes b e)

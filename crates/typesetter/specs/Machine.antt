@@ -4,18 +4,16 @@
 --     off_switch_at, with_cut         a state after an escape, and after a cut
 --     start, initialized_of         the state before the first code, and a state after initialize
 --     font_in, character_in          the font in force, 1 to 4 or 1 to 8, and the character that a flash sets
+--     Step                           what a code does, or the reason that it is refused for
 --     flash_of, escape_of, lead_of    the effect of a flash, an escape and a lead
 --     instruction_effect            the effect of a code other than 00 and initialize, on an initialized machine that has neither stopped nor cut
 --     code_effect                   the effect of a code, by its class
 --     byte_effect                     the effect of a byte
-use Rattle.std.specs.Prelude.{ℕ, ◌+◌, ◌*◌, Bool, true, false, cond, leb, ltb, eqb, pos, ◌+ℤ◌}
-use Rattle.octets.specs.Answer.{illegal_code, not_initialized, after_cut, after_stop, still_parked, no_size, out_of_range, above_half}
+use Rattle.std.specs.Prelude.{ℕ, ◌+◌, ◌*◌, Bool, true, false, cond, leb, ltb, eqb, pos, ◌+ℤ◌, Option, Some, None, Result, Ok, Err}
+use Rattle.octets.specs.declared.refusal.Reason.{Reason}
+use Rattle.octets.specs.declared.refusal.Reason.TheVariants.{IllegalCode, NotInitialized, AfterCut, AfterStop, Parked, NoSize, OutOfRange, AboveHalf}
 use Rattle.measure.specs.declared.Units.{Units}
 use Rattle.measure.specs.declared.Quanta.{Quanta}
-use Rattle.measure.specs.declared.Carriage.{Carriage}
-use Rattle.measure.specs.declared.Carriage.TheVariants as carriage
-use Rattle.measure.specs.declared.Height.{Height}
-use Rattle.measure.specs.declared.Height.TheVariants as height
 use Rattle.measure.specs.Place.{directed_by, carriage_at, height_at}
 use Rattle.measure.specs.Target.{x_of}
 use Rattle.galley_file.specs.declared.character.Character.{Character}
@@ -29,7 +27,7 @@ use Rattle.typesetter.specs.declared.code.Code.TheVariants.{Ignored, Illegal, In
 use Rattle.typesetter.specs.declared.machine.Modes.{Modes}
 use Rattle.typesetter.specs.declared.machine.State.{State}
 use Rattle.typesetter.specs.declared.machine.Effect.{Effect}
-use Rattle.typesetter.specs.declared.machine.Effect.TheVariants.{Moved, Flashed, PageEnded, Refused}
+use Rattle.typesetter.specs.declared.machine.Effect.TheVariants.{Moved, Flashed, PageEnded}
 use Rattle.typesetter.specs.Code.{code_of}
 
 -- ---- parts of a state
@@ -140,13 +138,17 @@ character_in s v =
       code = code_in s.modes.upper_half v;
     }
 
+-- an effect, or the reason of a refusal
+abbrev pub Step : Type 0
+Step = Result Effect Reason
+
 -- a flash of v: 5 parked; 6 no size yet; 8 upper half above 45
-unfoldable pub flash_of : State → ℕ → Effect
+unfoldable pub flash_of : State → ℕ → Step
 flash_of s v =
-    cond s.parked (Refused still_parked)
-    (cond (leb no_size_yet s.size) (Refused no_size)
-    (cond (past_half s.modes.upper_half v) (Refused above_half)
-    (Flashed (character_in s v))))
+    cond s.parked (Err Parked)
+    (cond (leb no_size_yet s.size) (Err NoSize)
+    (cond (past_half s.modes.upper_half v) (Err AboveHalf)
+    (Ok (Flashed (character_in s v)))))
 
 -- ---- motions
 
@@ -156,51 +158,51 @@ leaves_switch true n = false
 leaves_switch false n = eqb n 16
 
 -- 7 where the carriage, or the height, would leave its range
-abbrev pub to_carriage : State → Carriage → Effect
-to_carriage s (carriage.At c) = Moved (off_switch_at s c)
-to_carriage s carriage.Outside = Refused out_of_range
+abbrev pub to_carriage : State → Option Units → Step
+to_carriage s (Some c) = Ok (Moved (off_switch_at s c))
+to_carriage s None = Err OutOfRange
 
-abbrev pub to_height : State → Height → Effect
-to_height s (height.At h) = Moved (with_height s h)
-to_height s height.Outside = Refused out_of_range
+abbrev pub to_height : State → Option Quanta → Step
+to_height s (Some h) = Ok (Moved (with_height s h))
+to_height s None = Err OutOfRange
 
 -- an escape of n: 5 parked and not forward 16; else a motion
-unfoldable pub escape_of : State → ℕ → Effect
+unfoldable pub escape_of : State → ℕ → Step
 escape_of s n =
     cond s.parked
-    (cond (leaves_switch s.modes.escape_back n) (Moved (off_switch_at s origin)) (Refused still_parked))
+    (cond (leaves_switch s.modes.escape_back n) (Ok (Moved (off_switch_at s origin))) (Err Parked))
     (to_carriage s (carriage_at (s.carriage.0 +ℤ directed_by s.modes.escape_back n)))
 
 -- a lead of n, parked or not
-unfoldable pub lead_of : State → ℕ → Effect
+unfoldable pub lead_of : State → ℕ → Step
 lead_of s n = to_height s (height_at (s.height.0 +ℤ directed_by s.modes.lead_back n))
 
 -- ---- one code
 
-unfoldable pub instruction_effect : State → Instruction → Effect
+unfoldable pub instruction_effect : State → Instruction → Step
 instruction_effect s (Flash v) = flash_of s v
-instruction_effect s (Rail up) = Moved (with_modes s (with_rail s.modes up))
-instruction_effect s (Mag up) = Moved (with_modes s (with_mag s.modes up))
-instruction_effect s (Half up) = Moved (with_modes s (with_half s.modes up))
-instruction_effect s (EscapeWay back) = Moved (with_modes s (with_escape s.modes back))
-instruction_effect s (LeadWay back) = Moved (with_modes s (with_lead s.modes back))
-instruction_effect s (Tilt down) = Moved (with_modes s (with_tilt s.modes down))
-instruction_effect s (Size index) = Moved (with_size s index)
-instruction_effect s Stop = Moved (with_stop s)
-instruction_effect s Cut = PageEnded (with_cut s)
+instruction_effect s (Rail up) = Ok (Moved (with_modes s (with_rail s.modes up)))
+instruction_effect s (Mag up) = Ok (Moved (with_modes s (with_mag s.modes up)))
+instruction_effect s (Half up) = Ok (Moved (with_modes s (with_half s.modes up)))
+instruction_effect s (EscapeWay back) = Ok (Moved (with_modes s (with_escape s.modes back)))
+instruction_effect s (LeadWay back) = Ok (Moved (with_modes s (with_lead s.modes back)))
+instruction_effect s (Tilt down) = Ok (Moved (with_modes s (with_tilt s.modes down)))
+instruction_effect s (Size index) = Ok (Moved (with_size s index))
+instruction_effect s Stop = Ok (Moved (with_stop s))
+instruction_effect s Cut = Ok (PageEnded (with_cut s))
 instruction_effect s (Lead n) = lead_of s n
 instruction_effect s (Escape n) = escape_of s n
 
 -- 00 is ignored everywhere; 2 illegal; 3 before the first initialize; 10 after a cut, unless initialize; 4 after stop; then the code's
 -- own rules
-unfoldable pub code_effect : State → Code → Effect
-code_effect s Ignored = Moved s
-code_effect s Illegal = Refused illegal_code
-code_effect s Initialize = cond s.stopped (Refused after_stop) (Moved (initialized_of s))
+unfoldable pub code_effect : State → Code → Step
+code_effect s Ignored = Ok (Moved s)
+code_effect s Illegal = Err IllegalCode
+code_effect s Initialize = cond s.stopped (Err AfterStop) (Ok (Moved (initialized_of s)))
 code_effect s (Instructs o) =
     cond s.initialized
-    (cond s.cut (Refused after_cut) (cond s.stopped (Refused after_stop) (instruction_effect s o)))
-    (Refused not_initialized)
+    (cond s.cut (Err AfterCut) (cond s.stopped (Err AfterStop) (instruction_effect s o)))
+    (Err NotInitialized)
 
-unfoldable pub byte_effect : State → ℕ → Effect
+unfoldable pub byte_effect : State → ℕ → Step
 byte_effect s b = code_effect s (code_of s.machine b)

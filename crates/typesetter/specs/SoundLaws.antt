@@ -4,7 +4,7 @@
 --     flashed_valid                     a valid character
 --     font_range                        the font in force is 1 to 8
 -- Assumes nothing.
-use Rattle.std.specs.Prelude.{◌≡◌, refl, Bool, true, false, cond, List, [], ◌∷◌, ℕ, zero, suc, ◌-◌, ◌%◌, ◌≤◌, ◌<◌, ltb, eqb, ℤ, pos, negsuc, ◌+ℤ◌, ◌-ℤ◌, get_or}
+use Rattle.std.specs.Prelude.{◌≡◌, refl, Bool, true, false, cond, List, [], ◌∷◌, ℕ, zero, suc, ◌-◌, ◌%◌, ◌≤◌, ◌<◌, ltb, eqb, ℤ, pos, negsuc, ◌+ℤ◌, ◌-ℤ◌, get_or, Ok, Err}
 use Rattle.std.proofs.Common.{ap, ◌∙◌, arith, ltb-true, ltb-false, lit≤}
 use Rattle.std.proofs.lemmas.Bool.{eqb-false}
 use Rattle.integers.specs.Parts.{integers, dif_parts, true_le_z}
@@ -22,10 +22,9 @@ use Rattle.typesetter.specs.declared.code.Instruction.TheVariants.{Flash, Rail, 
 use Rattle.typesetter.specs.declared.code.Code.{Code}
 use Rattle.typesetter.specs.declared.code.Code.TheVariants.{Ignored, Illegal, Initialize, Instructs}
 use Rattle.typesetter.specs.declared.machine.State.{State}
-use Rattle.typesetter.specs.declared.machine.Effect.{Effect}
-use Rattle.typesetter.specs.declared.machine.Effect.TheVariants.{Moved, Flashed, PageEnded, Refused}
+use Rattle.typesetter.specs.declared.machine.Effect.TheVariants.{Moved, Flashed, PageEnded}
 use Rattle.typesetter.specs.Code.{tilt_of, code_of, controls}
-use Rattle.typesetter.specs.Machine.{start, pair_of, font_at, font_in, past_half, code_in, character_in, byte_effect}
+use Rattle.typesetter.specs.Machine.{Step, start, pair_of, font_at, font_in, past_half, code_in, character_in, byte_effect}
 use Rattle.typesetter.specs.EffectLaws.{Causes, refuses, ignores, initializes, flashes, turns, sizes, stops, cuts, leads, escapes, causes, at_origin}
 use Rattle.typesetter.specs.Sound.{Sound}
 
@@ -131,11 +130,11 @@ set_valid s r v fv z a =
 -- ---- effects
 
 -- the state left is sound, the character set is valid
-abbrev Good : Effect → Type 0
-Good (Moved t) = Sound t
-Good (Flashed c) = valid height_end c ≡ true
-Good (PageEnded t) = Sound t
-Good (Refused n) = Unit {0}
+abbrev Good : Step → Type 0
+Good (Ok (Moved t)) = Sound t
+Good (Ok (Flashed c)) = valid height_end c ≡ true
+Good (Ok (PageEnded t)) = Sound t
+Good (Err r) = Unit {0}
 
 module _ (s : State) (r : Sound s) where
   -- the same carriage and height
@@ -145,7 +144,7 @@ module _ (s : State) (r : Sound s) where
   at_top : InRange height_end (pos 0)
   at_top = record { low = omega integers; high = omega integers }
 
-  good_by : {k : Code} {x : Effect} → Fine k → Causes s k x → Good x
+  good_by : {k : Code} {x : Step} → Fine k → Causes s k x → Good x
   good_by f (refuses h) = tt
   good_by f ignores = r
   good_by f initializes = record { carriage_in = at_origin; height_in_lem = r.height_in_lem }
@@ -157,16 +156,16 @@ module _ (s : State) (r : Sound s) where
   good_by f (leads {n} {h} p e) = record { carriage_in = r.carriage_in; height_in_lem = (height_in_lem (s.height.0 +ℤ directed_by s.modes.lead_back n) h e).1 }
   good_by f (escapes c) = record { carriage_in = c; height_in_lem = r.height_in_lem }
 
-  good : (b : ℕ) {x : Effect} → byte_effect s b ≡ x → Good x
+  good : (b : ℕ) {x : Step} → byte_effect s b ≡ x → Good x
   good b e = good_by (fine_code s.machine b) (causes s b e)
 
-  pub stays_sound : (b : ℕ) {t : State} → byte_effect s b ≡ Moved t → Sound t
+  pub stays_sound : (b : ℕ) {t : State} → byte_effect s b ≡ Ok (Moved t) → Sound t
   stays_sound b e = good b e
 
-  pub page_ended_sound : (b : ℕ) {t : State} → byte_effect s b ≡ PageEnded t → Sound t
+  pub page_ended_sound : (b : ℕ) {t : State} → byte_effect s b ≡ Ok (PageEnded t) → Sound t
   page_ended_sound b e = good b e
 
-  pub flashed_valid : (b : ℕ) {c : Character} → byte_effect s b ≡ Flashed c → valid height_end c ≡ true
+  pub flashed_valid : (b : ℕ) {c : Character} → byte_effect s b ≡ Ok (Flashed c) → valid height_end c ≡ true
   flashed_valid b e = good b e
 
 pub start_sound : (machine : Machine) → Sound (start machine)

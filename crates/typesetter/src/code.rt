@@ -1,16 +1,18 @@
 // The codes of a tape (document 01, "Tape codes").
 ghost use Rattle.std.specs.Prelude.{◌≡◌, ◌-◌, ◌%◌, get_or};
-ghost use Rattle.typesetter.specs.Code.{tilt_of, code_of, controls};
+ghost use Rattle.typesetter.specs.Code.{machine_of, tilt_of, code_of, controls};
+
+use octets::refusal::Reason;
 
 // The two kinds of machine, by their number of fonts.
-#[derive(Clone, Copy)]
+#[derive(Clone, Copy, PartialEq, Eq)]
 pub enum Machine {
     Four,
     Eight,
 }
 
 // What a code asks of an initialized machine. A bool is true for upper, backward and down.
-#[derive(Clone, Copy)]
+#[derive(Clone, Copy, PartialEq, Eq)]
 pub enum Instruction {
     Flash(u8),
     Rail(bool),
@@ -27,7 +29,7 @@ pub enum Instruction {
 }
 
 // The class of a code.
-#[derive(Clone, Copy)]
+#[derive(Clone, Copy, PartialEq, Eq)]
 pub enum Code {
     Ignored,
     Illegal,
@@ -49,59 +51,69 @@ pub fn lead_size(b: u8) -> u8
     !b & 31
 }
 
-// A tilt code: the 4-font machine has none.
-fn tilt(machine: Machine, down: bool) -> Code
-    ensures { result ≡ tilt_of machine down }
-{
-    match machine {
-        Machine::Four => Code::Illegal,
-        Machine::Eight => Code::Instructs(Instruction::Tilt(down)),
+impl TryFrom<u32> for Machine {
+    type Error = Reason;
+
+    ghost try_from_gives = { λ fonts r. r ≡ machine_of fonts };
+
+    fn try_from(fonts: u32) -> Result<Machine, Reason> {
+        match fonts {
+            4 => Ok(Machine::Four),
+            8 => Ok(Machine::Eight),
+            _ => Err(Reason::NoMachine),
+        }
     }
 }
 
-// The code 0x40 + low.
-fn control(machine: Machine, low: u8) -> Code
-    ensures { result ≡ get_or (controls machine) low Code.Illegal }
-{
-    match low {
-        0 => Code::Initialize,
-        1 => Code::Instructs(Instruction::Rail(false)),
-        2 => Code::Instructs(Instruction::Rail(true)),
-        3 => Code::Instructs(Instruction::Mag(true)),
-        4 => Code::Instructs(Instruction::Mag(false)),
-        5 => Code::Instructs(Instruction::Half(false)),
-        6 => Code::Instructs(Instruction::Half(true)),
-        7 => Code::Instructs(Instruction::EscapeWay(false)),
-        8 => Code::Instructs(Instruction::EscapeWay(true)),
-        9 => Code::Instructs(Instruction::Stop),
-        10 => Code::Instructs(Instruction::LeadWay(false)),
-        11 => Code::Instructs(Instruction::Cut),
-        12 => Code::Instructs(Instruction::LeadWay(true)),
-        14 => tilt(machine, false),
-        15 => tilt(machine, true),
-        _ => Code::Illegal,
+impl Machine {
+    // A tilt code: the 4-font machine has none.
+    fn tilt(self, down: bool) -> Code
+        ensures { result ≡ tilt_of self down }
+    {
+        match self {
+            Machine::Four => Code::Illegal,
+            Machine::Eight => Code::Instructs(Instruction::Tilt(down)),
+        }
     }
-}
 
-// The top bits sort a code.
-pub fn classify(machine: Machine, b: u8) -> Code
-    ensures { result ≡ code_of machine b }
-{
-    if b == 0 {
-        Code::Ignored
-    } else if b == 255 {
-        Code::Illegal
-    } else if b >> 7 == 1 {
-        Code::Instructs(Instruction::Escape(escape_size(b)))
-    } else if b >> 6 == 0 {
-        Code::Instructs(Instruction::Flash(b))
-    } else if b >> 5 == 3 {
-        Code::Instructs(Instruction::Lead(lead_size(b)))
-    } else if b >> 4 == 4 {
-        control(machine, b & 15)
-    } else if b == 95 {
-        Code::Illegal
-    } else {
-        Code::Instructs(Instruction::Size(b & 15))
+    // The code 0x40 + low.
+    fn control(self, low: u8) -> Code
+        ensures { result ≡ get_or (controls self) low Code.Illegal }
+    {
+        match low {
+            0 => Code::Initialize,
+            1 => Code::Instructs(Instruction::Rail(false)),
+            2 => Code::Instructs(Instruction::Rail(true)),
+            3 => Code::Instructs(Instruction::Mag(true)),
+            4 => Code::Instructs(Instruction::Mag(false)),
+            5 => Code::Instructs(Instruction::Half(false)),
+            6 => Code::Instructs(Instruction::Half(true)),
+            7 => Code::Instructs(Instruction::EscapeWay(false)),
+            8 => Code::Instructs(Instruction::EscapeWay(true)),
+            9 => Code::Instructs(Instruction::Stop),
+            10 => Code::Instructs(Instruction::LeadWay(false)),
+            11 => Code::Instructs(Instruction::Cut),
+            12 => Code::Instructs(Instruction::LeadWay(true)),
+            14 => self.tilt(false),
+            15 => self.tilt(true),
+            _ => Code::Illegal,
+        }
+    }
+
+    // The class of a code.
+    #[tactic(auto, unfolding(crate::specs::Code::code_of))]
+    pub fn classify(self, b: u8) -> Code
+        ensures { result ≡ code_of self b }
+    {
+        match b {
+            0x00 => Code::Ignored,
+            0x01..=0x3F => Code::Instructs(Instruction::Flash(b)),
+            0x40..=0x4F => self.control(b - 0x40),
+            0x50..=0x5E => Code::Instructs(Instruction::Size(b - 0x50)),
+            0x5F => Code::Illegal,
+            0x60..=0x7F => Code::Instructs(Instruction::Lead(lead_size(b))),
+            0x80..=0xFE => Code::Instructs(Instruction::Escape(escape_size(b))),
+            0xFF => Code::Illegal,
+        }
     }
 }

@@ -9,7 +9,7 @@ use galley_file::font;
 use measure::{Quanta, Units};
 
 // What initialize resets.
-#[derive(Clone, Copy)]
+#[derive(Clone, Copy, PartialEq, Eq)]
 pub struct Modes {
     pub escape_back: bool,
     pub lead_back: bool,
@@ -19,6 +19,7 @@ pub struct Modes {
     pub tilt_down: bool,
 }
 
+// Carriage and height have no invariant here: a running tape's state is made of any words that C lends (`spatecanter_running::words`).
 #[derive(Clone, Copy)]
 pub struct State {
     pub machine: Machine,
@@ -28,19 +29,18 @@ pub struct State {
     // A cut came last: initialize has to follow.
     pub cut: bool,
     pub modes: Modes,
-    // The size index, or NO_SIZE_YET.
+    // The size index, or NO_SIZE_YET. No Option: C keeps the number as it is in a running tape's words, where any number is possible.
     pub size: u8,
     pub carriage: Units,
     pub height: Quanta,
 }
 
-// What one code does: it leaves another state, sets a character, ends the page, or is refused.
+// What a code that is not refused does: it leaves another state, sets a character, or ends the page.
 #[derive(Clone, Copy)]
 pub enum Effect {
     Moved(State),
     Flashed(Character),
     PageEnded(State),
-    Refused(u8),
 }
 
 pub const NO_SIZE_YET: u8 = font::SIZES;
@@ -50,104 +50,98 @@ pub const LOWER_HALF: u8 = 63;
 
 pub const UPPER_HALF: u8 = 45;
 
-fn first_modes() -> Modes
-    ensures { result ≡ first_modes }
-{
-    Modes {
-        escape_back: false,
-        lead_back: false,
-        upper_half: false,
-        upper_rail: false,
-        upper_mag: false,
-        tilt_down: true,
-    }
-}
-
-// The state before the first code.
-pub fn at_start(machine: Machine) -> State
-    ensures { result ≡ start machine }
-{
-    let modes = first_modes();
-    State {
-        machine: machine,
-        initialized: false,
-        parked: false,
-        stopped: false,
-        cut: false,
-        modes: modes,
-        size: NO_SIZE_YET,
-        carriage: Units(0),
-        height: Quanta(0),
-    }
-}
-
-// Initialize: the modes anew and the carriage parked; size and height stay.
-pub fn initialized(s: State) -> State
-    ensures { result ≡ initialized_of s }
-{
-    let modes = first_modes();
-    let height = s.height;
-    let machine = s.machine;
-    State {
-        machine: machine,
-        initialized: true,
-        parked: true,
-        stopped: s.stopped,
-        cut: false,
-        modes: modes,
-        size: s.size,
-        carriage: Units(0),
-        height: height,
-    }
-}
-
-// The pair of rail and mag in force, 0 to 3.
-fn pair_in(m: Modes) -> u8
-    ensures { (result ≡ pair_of m.upper_rail m.upper_mag) × (result ≤ 3) }
-{
-    if m.upper_mag {
-        if m.upper_rail { 3 } else { 2 }
-    } else {
-        if m.upper_rail { 1 } else { 0 }
-    }
-}
-
-// The font in force.
-fn font_in(machine: Machine, m: Modes) -> u8
-    ensures { (result ≡ font_in machine m) × ((1 ≤ result) × (result ≤ 8)) }
-{
-    let pair = pair_in(m);
-    match machine {
-        Machine::Four => pair + 1,
-        Machine::Eight => {
-            if m.tilt_down {
-                2 * pair + 2
-            } else {
-                2 * pair + 1
-            }
+impl Modes {
+    // The modes after initialize.
+    fn first() -> Modes
+        ensures { result ≡ first_modes }
+    {
+        Modes {
+            escape_back: false,
+            lead_back: false,
+            upper_half: false,
+            upper_rail: false,
+            upper_mag: false,
+            tilt_down: true,
         }
     }
+
+    // The pair of rail and mag in force, 0 to 3.
+    fn pair(self) -> u8
+        ensures { (result ≡ pair_of self.upper_rail self.upper_mag) × (result ≤ 3) }
+    {
+        match (self.upper_mag, self.upper_rail) {
+            (false, false) => 0,
+            (false, true) => 1,
+            (true, false) => 2,
+            (true, true) => 3,
+        }
+    }
+
+    // The font in force.
+    fn font(self, machine: Machine) -> u8
+        ensures { (result ≡ font_in machine self) × ((1 ≤ result) × (result ≤ 8)) }
+    {
+        let pair = self.pair();
+        match machine {
+            Machine::Four => pair + 1,
+            Machine::Eight if self.tilt_down => 2 * pair + 2,
+            Machine::Eight => 2 * pair + 1,
+        }
+    }
+
+    // Whether a flash of v is past the end of the half.
+    pub fn is_past_half(self, v: u8) -> bool
+        ensures { result ≡ past_half self.upper_half v }
+    {
+        self.upper_half && UPPER_HALF < v
+    }
+
+    // The character that a flash of v sets.
+    pub fn code(self, v: u8) -> u8
+        requires { past_half self.upper_half v ≡ false }
+        ensures { result ≡ code_in self.upper_half v }
+    {
+        if self.upper_half { LOWER_HALF + v } else { v }
+    }
 }
 
-// The font number in force.
-pub fn number_in(machine: Machine, m: Modes, size: u8) -> u8
-    requires { size < no_size_yet }
-    ensures { result ≡ font_number (font_in machine m) size }
-{
-    font::font_number(font_in(machine, m), size)
-}
+impl State {
+    // The state before the first code.
+    pub fn at_start(machine: Machine) -> State
+        ensures { result ≡ start machine }
+    {
+        State {
+            machine,
+            initialized: false,
+            parked: false,
+            stopped: false,
+            cut: false,
+            modes: Modes::first(),
+            size: NO_SIZE_YET,
+            carriage: Units(0),
+            height: Quanta(0),
+        }
+    }
 
-// Whether a flash of v is past the end of the half.
-pub fn past_half(upper: bool, v: u8) -> bool
-    ensures { result ≡ past_half upper v }
-{
-    if upper { UPPER_HALF < v } else { false }
-}
+    // Initialize: the modes anew and the carriage parked; size and height stay.
+    pub fn after_initialize(self) -> State
+        ensures { result ≡ initialized_of self }
+    {
+        State {
+            initialized: true,
+            parked: true,
+            cut: false,
+            modes: Modes::first(),
+            carriage: Units(0),
+            ..self
+        }
+    }
 
-// The character that a flash of v sets.
-pub fn code_in(upper: bool, v: u8) -> u8
-    requires { past_half upper v ≡ false }
-    ensures { result ≡ code_in upper v }
-{
-    if upper { LOWER_HALF + v } else { v }
+    // The font number in force.
+    pub fn font_number(self) -> u8
+        requires { self.size < no_size_yet }
+        ensures { result ≡ font_number (font_in self.machine self.modes) self.size }
+    {
+        font::font_number(self.modes.font(self.machine), self.size)
+    }
 }

@@ -3,7 +3,7 @@
 --     step_sound                        a code has its bytes in the file; fields and pages are few
 --     run_next, run_refuse, run_end     what the rest shows, by the step that the code there makes
 -- Assumes nothing.
-use Rattle.std.specs.Prelude.{◌≡◌, refl, Bool, true, false, cond, ◌&&◌, List, [], ◌∷◌, ℕ, zero, suc, ◌+◌, ◌≤◌, ◌<◌, ℤ, pos, ◌+ℤ◌, length, get_or, drop}
+use Rattle.std.specs.Prelude.{◌≡◌, refl, Bool, true, false, cond, ◌&&◌, List, [], ◌∷◌, ℕ, zero, suc, ◌+◌, ◌≤◌, ◌<◌, ℤ, pos, ◌+ℤ◌, length, get_or, drop, Result, Ok, Err}
 use Rattle.std.proofs.Math.Path.{ap}
 use Rattle.std.proofs.Common.{◌∙◌, add-zero, add-one, arith, drop_of_length-le, length-append, drop-drop}
 use Rattle.std.proofs.Math.Seq.{drop-cons}
@@ -19,7 +19,7 @@ use Rattle.xgp.specs.File.{Step, refuse, go_on, after_effect, after_code, step, 
 use Rattle.xgp_code.specs.declared.Code.{Code}
 use Rattle.xgp_code.specs.declared.Code.TheVariants.{Null, Char, LineFeed, FormFeed, Return, Font, Column, Increment, Adjust}
 use Rattle.xgp_code.specs.declared.Decoded.{Decoded}
-use Rattle.xgp_code.specs.declared.Decoded.TheVariants.{Fault, Whole}
+use Rattle.octets.specs.declared.refusal.Reason.{Reason}
 use Rattle.xgp.specs.declared.state.State.{State}
 
 -- ---- what holds of every step
@@ -97,10 +97,10 @@ unfolding after_effect
 effect_sound k n s (fault r) h g = tt
 effect_sound k n s (moved t ms) h g = (h, g)
 
-code_sound : (ws : List ℤ) (spacing k : ℕ) (s : State) (d : Decoded) → Held k d → SoundStep k s (after_code ws spacing s d)
+code_sound : (ws : List ℤ) (spacing k : ℕ) (s : State) (d : Result Decoded Reason) → Held k d → SoundStep k s (after_code ws spacing s d)
 unfolding after_code
-code_sound ws spacing k s (Fault r) h = tt
-code_sound ws spacing k s (Whole c n) h = effect_sound k n s (effect ws spacing s c) h (few_effect ws spacing s c)
+code_sound ws spacing k s (Err r) h = tt
+code_sound ws spacing k s (Ok d) h = effect_sound k d.after s (effect ws spacing s d.code) h (few_effect ws spacing s d.code)
 
 pub step_sound : (ws : List ℤ) (spacing : ℕ) (s : State) (b : ℕ) (bs : List ℕ) → SoundStep (length bs) s (step ws spacing s b bs)
 unfolding step

@@ -4,22 +4,21 @@ use mathlib.Core.Path.{◌≡◌, sym, ap, ◌∙◌}
 use mathlib.Core.Bool.{true}
 use mathlib.Core.List.{List, [], ◌∷◌}
 use Prim.Native.Nat.{ℕ, ◌≤◌, ◌<◌}
-use native.Mathlib.Omega.{arith}
 use lib.IntN.{ℤ, pos, ◌+ℤ◌}
 use Rattle.octets.specs.Octets.{fits32}
 use Rattle.sheet.specs.Sheet.{char_mark}
 use Rattle.xgp_code.specs.declared.Code.TheVariants.{Char}
-use Rattle.xgp_code.specs.declared.Decoded.TheVariants.{Whole}
 use Rattle.xgp.specs.declared.state.State.{State}
 use Rattle.xgp_code.specs.Measure.{in_dots}
-use Rattle.xgp_code.specs.Code.{read, decode}
+use Rattle.xgp_code.specs.Code.{usual, of_seven_bits, read, decode}
 use Rattle.xgp.specs.State.{with_x, after_char, moved, page_marks, set_marks, y_in, width_in, set_char, effect}
 use Rattle.xgp.specs.File.{go_on, after_effect, after_code, step}
-use Rattle.xgp_code.proofs.Codes.{decode_row, us_normal}
+use Rattle.std.specs.Prelude.{Ok}
+use Rattle.std.proofs.Common.{rules, tests}
 
-plain_code : (b : ℕ) (bs : List ℕ) → 14 ≤ b → b < 127 → decode b bs ≡ Whole (Char b) 0
-unfolding read
-plain_code b bs h g = decode_row b (omega arith) (us_normal b h g) bs
+plain_code : (b : ℕ) (bs : List ℕ) → 14 ≤ b → b < 127 → decode b bs ≡ Ok (record { code = Char b; after = 0 })
+unfolding decode of_seven_bits usual read
+plain_code b bs h g = search (rules, tests)
 
 module _ (ws : List ℤ) (s : State) (b : ℕ) (h : 14 ≤ b) (g : b < 127) (begun : s.started ≡ true) where
   set_effect : (y z : ℤ) → fits32 y ≡ true → fits32 z ≡ true → set_char s b y z ≡ moved (with_x s (in_dots z)) (char_mark s.x.0 y (pos s.font) b ∷ [])

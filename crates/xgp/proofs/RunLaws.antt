@@ -2,7 +2,7 @@
 --     null_skipped     a null changes nothing
 --     run_all          an induction over the codes of a file
 -- Assumes nothing.
-use Rattle.std.specs.Prelude.{◌≡◌, refl, ℤ}
+use Rattle.std.specs.Prelude.{◌≡◌, refl, ℤ, Result, Ok, Err}
 use Rattle.std.proofs.Math.Path.{subst}
 use mathlib.Core.List.{List, [], ◌∷◌, ◌++◌}
 use Prim.Native.Nat.{ℕ, zero, suc}
@@ -16,7 +16,7 @@ use Rattle.xgp.specs.State.{Effect, fault, moved, effect}
 use Rattle.xgp.specs.File.{Step, refuse, go_on, after_effect, after_code, step, follow, run}
 use Rattle.xgp_code.specs.declared.Code.{Code}
 use Rattle.xgp_code.specs.declared.Decoded.{Decoded}
-use Rattle.xgp_code.specs.declared.Decoded.TheVariants.{Fault, Whole}
+use Rattle.octets.specs.declared.refusal.Reason.{Reason}
 use Rattle.xgp.specs.declared.state.State.{State}
 
 -- ---- "Null - byte is ignored"
@@ -43,10 +43,10 @@ module _ (ws : List ℤ) (spacing : ℕ) (P : State → List Mark → Type 0) wh
     after_effect_lem s n (fault r) h = tt
     after_effect_lem s n (moved t ns) h = h
 
-    after_code_lem : (s : State) (d : Decoded) → Known d → Steps s (after_code ws spacing s d)
+    after_code_lem : (s : State) (d : Result Decoded Reason) → Known d → Steps s (after_code ws spacing s d)
     unfolding after_code
-    after_code_lem s (Fault r) h = tt
-    after_code_lem s (Whole c n) h = after_effect_lem s n (effect ws spacing s c) (onward s c h)
+    after_code_lem s (Err r) h = tt
+    after_code_lem s (Ok d) h = after_effect_lem s d.after (effect ws spacing s d.code) (onward s d.code h)
 
     steps : (s : State) (b : ℕ) (bs : List ℕ) → Steps s (step ws spacing s b bs)
     unfolding step

@@ -3,13 +3,14 @@
 --     step        the step that each code makes
 --     run         what the rest of a file shows
 --     read_xgp     what a file shows, with these widths and this line spacing
-use Rattle.std.specs.Prelude.{ℕ, zero, suc, List, [], ◌∷◌, ℤ}
+use Rattle.std.specs.Prelude.{ℕ, zero, suc, List, [], ◌∷◌, ℤ, Result, Ok, Err}
+use Rattle.octets.specs.Answer.{number_in}
+use Rattle.octets.specs.declared.refusal.Reason.{Reason}
 use Rattle.sheet.specs.Sheet.{Mark}
 use Rattle.sheet.specs.Shown.{Shown, refused_at, shows, shows_first}
 use Rattle.xgp_code.specs.Code.{decode}
 use Rattle.xgp.specs.State.{start, Effect, fault, moved, effect}
 use Rattle.xgp_code.specs.declared.Decoded.{Decoded}
-use Rattle.xgp_code.specs.declared.Decoded.TheVariants.{Fault, Whole}
 use Rattle.xgp.specs.declared.state.State.{State}
 
 pub data Step : Type 0 where
@@ -22,9 +23,9 @@ unfoldable pub after_effect : ℕ → Effect → Step
 after_effect n (fault r) = refuse r
 after_effect n (moved t ms) = go_on t ms n
 
-unfoldable pub after_code : List ℤ → ℕ → State → Decoded → Step
-after_code ws spacing s (Fault r) = refuse r
-after_code ws spacing s (Whole c n) = after_effect n (effect ws spacing s c)
+unfoldable pub after_code : List ℤ → ℕ → State → Result Decoded Reason → Step
+after_code ws spacing s (Err r) = refuse (number_in r)
+after_code ws spacing s (Ok d) = after_effect d.after (effect ws spacing s d.code)
 
 -- the code with first byte b, before the bytes bs
 unfoldable pub step : List ℤ → ℕ → State → ℕ → List ℕ → Step

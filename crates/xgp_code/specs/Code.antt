@@ -6,14 +6,14 @@
 --     operations     the operation codes of XGP ESCAPE 1
 --     read           the code that bytes make after a byte of that meaning
 --     decode         the code with this first byte, before these bytes
-use Rattle.std.specs.Prelude.{ℕ, suc, ◌+◌, ◌*◌, cond, List, [], ◌∷◌, ltb, pos}
+use Rattle.std.specs.Prelude.{ℕ, suc, ◌+◌, ◌*◌, cond, List, [], ◌∷◌, ltb, pos, Result, Ok, Err}
 use Rattle.octets.specs.Octets.{twos}
-use Rattle.octets.specs.Answer.{outside_part, reserved_code, code_cut_short}
 use Rattle.xgp_code.specs.Measure.{in_dots, in_lines}
 use Rattle.xgp_code.specs.declared.Code.{Code}
 use Rattle.xgp_code.specs.declared.Code.TheVariants.{Null, Char, LineFeed, FormFeed, Return, Font, Column, Increment, Adjust}
 use Rattle.xgp_code.specs.declared.Decoded.{Decoded}
-use Rattle.xgp_code.specs.declared.Decoded.TheVariants.{Fault, Whole}
+use Rattle.octets.specs.declared.refusal.Reason.{Reason}
+use Rattle.octets.specs.declared.refusal.Reason.TheVariants.{OutsidePart, ReservedCode, CodeCutShort}
 
 -- ---- the tables
 
@@ -84,22 +84,27 @@ usual b =
 -- ---- codes in bytes
 
 -- 60: a byte above 127, wherever it stands in a code
-unfoldable pub of_seven_bits : ℕ → Decoded → Decoded
-of_seven_bits b d = cond (ltb b 128) d (Fault outside_part)
+unfoldable pub of_seven_bits : ℕ → Result Decoded Reason → Result Decoded Reason
+of_seven_bits b d = cond (ltb b 128) d (Err OutsidePart)
 
 -- a code with one byte more
-unfoldable pub one_more : Decoded → Decoded
-one_more (Fault r) = Fault r
-one_more (Whole c n) = Whole c (suc n)
+unfoldable pub one_more : Result Decoded Reason → Result Decoded Reason
+one_more (Err r) = Err r
+one_more (Ok d) = Ok (record { code = d.code; after = suc d.after })
 
 -- The code that the bytes make, and how many of them. 62: no byte is left. What the bytes that are there tell comes first, so that at one
 -- code 60 and 61 come before 62; and no byte has both 60 and 61.
-unfoldable pub read : Meaning → List ℕ → Decoded
-read outside bs = Fault outside_part
-read reserved bs = Fault reserved_code
-read (whole c) bs = Whole c 0
-read (further f) [] = Fault code_cut_short
+unfoldable pub read : Meaning → List ℕ → Result Decoded Reason
+read outside bs = Err OutsidePart
+read reserved bs = Err ReservedCode
+read (whole c) bs = Ok (record { code = c; after = 0 })
+read (further f) [] = Err CodeCutShort
 read (further f) (b ∷ bs) = of_seven_bits b (one_more (read (f b) bs))
 
-unfoldable pub decode : ℕ → List ℕ → Decoded
+unfoldable pub decode : ℕ → List ℕ → Result Decoded Reason
 decode b bs = of_seven_bits b (read (usual b) bs)
+
+-- how a code goes on after its next byte, if that is one
+abbrev pub after_byte : Result ℕ Reason → (ℕ → Result Decoded Reason) → Result Decoded Reason
+after_byte (Ok b) f = f b
+after_byte (Err r) f = Err r

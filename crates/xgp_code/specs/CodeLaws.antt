@@ -2,7 +2,7 @@
 --     decode_held       a code has its bytes in the file
 --     decode_known      characters of seven bits, four fonts, columns of 14 bits
 -- Assumes nothing.
-use Rattle.std.specs.Prelude.{◌≡◌, refl, Bool, true, cond, List, [], ◌∷◌, ℕ, suc, ◌+◌, ◌*◌, ◌≤◌, ◌<◌, ltb, pos, length}
+use Rattle.std.specs.Prelude.{◌≡◌, refl, Bool, true, cond, List, [], ◌∷◌, ℕ, suc, ◌+◌, ◌*◌, ◌≤◌, ◌<◌, ltb, pos, length, Result, Ok, Err}
 use Rattle.std.proofs.Common.{arith, ltb-true}
 use Rattle.octets.specs.OctetsLaws.{by_cond}
 use Rattle.xgp_code.specs.Measure.{in_dots}
@@ -10,23 +10,23 @@ use Rattle.xgp_code.specs.Code.{Meaning, outside, reserved, whole, further, norm
 use Rattle.xgp_code.specs.declared.Code.{Code}
 use Rattle.xgp_code.specs.declared.Code.TheVariants.{Null, Char, LineFeed, FormFeed, Return, Font, Column, Increment, Adjust}
 use Rattle.xgp_code.specs.declared.Decoded.{Decoded}
-use Rattle.xgp_code.specs.declared.Decoded.TheVariants.{Fault, Whole}
+use Rattle.octets.specs.declared.refusal.Reason.{Reason}
 
 -- ---- the bytes of a code
 
 -- at most k bytes after the first
-abbrev pub Held : ℕ → Decoded → Type 0
-Held k (Fault r) = Unit {0}
-Held k (Whole c n) = n ≤ k
+abbrev pub Held : ℕ → Result Decoded Reason → Type 0
+Held k (Err r) = Unit {0}
+Held k (Ok d) = d.after ≤ k
 
-held_if : (k b : ℕ) (d : Decoded) → Held k d → Held k (of_seven_bits b d)
+held_if : (k b : ℕ) (d : Result Decoded Reason) → Held k d → Held k (of_seven_bits b d)
 unfolding of_seven_bits
 held_if k b d h = by_cond (Held k) (ltb b 128) d _ (λ _. h) (λ _. tt)
 
-held_more : (k : ℕ) (d : Decoded) → Held k d → Held (suc k) (one_more d)
+held_more : (k : ℕ) (d : Result Decoded Reason) → Held k d → Held (suc k) (one_more d)
 unfolding one_more
-held_more k (Fault r) h = tt
-held_more k (Whole c n) h = omega arith
+held_more k (Err r) h = tt
+held_more k (Ok d) h = omega arith
 
 held : (f : Meaning) (bs : List ℕ) → Held (length bs) (read f bs)
 unfolding read
@@ -98,18 +98,18 @@ good_usual b h =
     (good_if (ltb b 14) (whole Return) _ (λ _. tt)
     (good_if (ltb b 127) (normal b) _ (λ _. h) good_escaped)))))))
 
-abbrev pub Known : Decoded → Type 0
-Known (Fault r) = Unit {0}
-Known (Whole c n) = InPart c
+abbrev pub Known : Result Decoded Reason → Type 0
+Known (Err r) = Unit {0}
+Known (Ok d) = InPart d.code
 
-known_if : (b : ℕ) (d : Decoded) → (b < 128 → Known d) → Known (of_seven_bits b d)
+known_if : (b : ℕ) (d : Result Decoded Reason) → (b < 128 → Known d) → Known (of_seven_bits b d)
 unfolding of_seven_bits
 known_if b d h = by_cond Known (ltb b 128) d _ (λ e. h (ltb-true b 128 e)) (λ _. tt)
 
-known_more : (d : Decoded) → Known d → Known (one_more d)
+known_more : (d : Result Decoded Reason) → Known d → Known (one_more d)
 unfolding one_more
-known_more (Fault r) h = tt
-known_more (Whole c n) h = h
+known_more (Err r) h = tt
+known_more (Ok d) h = h
 
 known_read : (f : Meaning) (bs : List ℕ) → Good f → Known (read f bs)
 unfolding read

@@ -3,12 +3,12 @@
 
 pub mod measure;
 
-ghost use Rattle.std.specs.Prelude.{◌≡◌, List, ℕ, ◌<◌, drop};
+ghost use Rattle.std.specs.Prelude.{◌≡◌, ℕ, ◌+◌, ◌<◌, ◌^◌, drop, IfOk};
 ghost use Rattle.octets.specs.Octets.{twos};
-ghost use Rattle.xgp_code.specs.Code.{further, escaped, operations, columns, adjusts, increments, one_more, read, decode as decodeOf};
+ghost use Rattle.xgp_code.specs.Code.{Meaning, further, escaped, operations, columns, adjusts, increments, one_more, after_byte, read, decode as decodeOf};
 
 use measure::{Dots, Lines};
-use octets::answer;
+use octets::refusal::Reason;
 
 // The largest byte of seven bits, which is ESCAPE.
 pub const ESCAPE: u8 = 127;
@@ -26,11 +26,11 @@ pub enum Code {
     Adjust(Lines),
 }
 
-// A code with the number of its bytes after the first, or the number of its refusal.
+// A code, and the number of its bytes after the first.
 #[derive(Clone, Copy)]
-pub enum Decoded {
-    Fault(u8),
-    Whole(Code, usize),
+pub struct Decoded {
+    pub code: Code,
+    pub after: usize,
 }
 
 // The two's complement number of seven bits.
@@ -39,183 +39,119 @@ fn signed7(b: u8) -> i32
     ensures { result ≡ twos 128 b }
 {
     if b < 64 {
-        b as i32
+        i32::from(b)
     } else {
-        -1 - ((127 - b) as i32)
+        i32::from(b) - 128
+    }
+}
+
+// The byte at `at`, one of seven bits, on which a code goes on.
+#[tactic(auto, unfolding(crate::specs::Code::read, crate::specs::Code::of_seven_bits))]
+fn next_byte(s: &[u8], at: usize) -> Result<u8, Reason>
+    ensures decides { (f : ℕ → Meaning) → read (further f) (drop at s.now) ≡ after_byte result (λ b. one_more (read (f b) (drop (at + 1) s.now))) }
+    ensures bounds { IfOk result (λ b. (b < 128) × (at + 1 < 2 ^ 64)) }
+{
+    match s.get(at) {
+        None => Err(Reason::CodeCutShort),
+        Some(b) if ESCAPE < *b => Err(Reason::OutsidePart),
+        Some(b) => Ok(*b),
     }
 }
 
 // XGP ESCAPE 2, from its third byte on.
-fn increment(s: &[u8], at: usize) -> Decoded
+#[tactic(auto, unfolding(crate::specs::Code::increments, crate::specs::Code::read, crate::specs::Code::one_more))]
+fn increment(s: &[u8], at: usize) -> Result<Decoded, Reason>
     ensures { result ≡ one_more (read increments (drop at s.now)) }
 {
-    if s.len() <= at {
-        return Decoded::Fault(answer::CODE_CUT_SHORT);
-    }
-    let b = s[at];
-    if ESCAPE < b {
-        return Decoded::Fault(answer::OUTSIDE_PART);
-    }
-    let by = signed7(b);
-    Decoded::Whole(Code::Increment(Dots(by)), 2)
+    let b = next_byte(s, at)?;
+    Ok(Decoded {
+        code: Code::Increment(Dots(signed7(b))),
+        after: 2,
+    })
 }
 
 // Base-line adjust, from its fourth byte on.
-fn adjust(s: &[u8], at: usize) -> Decoded
+#[tactic(auto, unfolding(crate::specs::Code::adjusts, crate::specs::Code::read, crate::specs::Code::one_more))]
+fn adjust(s: &[u8], at: usize) -> Result<Decoded, Reason>
     ensures { result ≡ one_more (one_more (read adjusts (drop at s.now))) }
 {
-    if s.len() <= at {
-        return Decoded::Fault(answer::CODE_CUT_SHORT);
-    }
-    let b = s[at];
-    if ESCAPE < b {
-        return Decoded::Fault(answer::OUTSIDE_PART);
-    }
-    let up = signed7(b);
-    Decoded::Whole(Code::Adjust(Lines(up)), 3)
+    let b = next_byte(s, at)?;
+    Ok(Decoded {
+        code: Code::Adjust(Lines(signed7(b))),
+        after: 3,
+    })
 }
 
 // The column selector, from its fourth byte on: the high byte first.
-fn column(s: &[u8], at: usize) -> Decoded
+#[tactic(auto, unfolding(crate::specs::Code::columns, crate::specs::Code::read, crate::specs::Code::one_more))]
+fn column(s: &[u8], at: usize) -> Result<Decoded, Reason>
     ensures { result ≡ one_more (one_more (read columns (drop at s.now))) }
 {
-    if s.len() <= at {
-        return Decoded::Fault(answer::CODE_CUT_SHORT);
-    }
-    let high = s[at];
-    if ESCAPE < high {
-        return Decoded::Fault(answer::OUTSIDE_PART);
-    }
-    if s.len() <= at + 1 {
-        return Decoded::Fault(answer::CODE_CUT_SHORT);
-    }
-    let low = s[at + 1];
-    if ESCAPE < low {
-        return Decoded::Fault(answer::OUTSIDE_PART);
-    }
-    let n = 128 * (high as u16) + (low as u16);
-    Decoded::Whole(Code::Column(Dots(n as i32)), 4)
+    let high = next_byte(s, at)?;
+    let low = next_byte(s, at + 1)?;
+    let n = 128 * i32::from(high) + i32::from(low);
+    Ok(Decoded {
+        code: Code::Column(Dots(n)),
+        after: 4,
+    })
 }
 
-// XGP ESCAPE 1, from its operation code on.
-fn operation(s: &[u8], at: usize) -> Decoded
-    ensures { result ≡ one_more (read (further operations) (drop at s.now)) }
+// XGP ESCAPE 1 with the operation code b, before the bytes from `at`.
+#[tactic(auto, unfolding(crate::specs::Code::operations, crate::specs::Code::read, crate::specs::Code::one_more))]
+fn operation(s: &[u8], at: usize, b: u8) -> Result<Decoded, Reason>
+    requires { b < 128 }
+    ensures { result ≡ one_more (one_more (read (operations b) (drop at s.now))) }
 {
-    if s.len() <= at {
-        return Decoded::Fault(answer::CODE_CUT_SHORT);
+    match b {
+        0x00..=0x03 => Ok(Decoded {
+            code: Code::Font(b),
+            after: 2,
+        }),
+        0x20 => column(s, at),
+        0x23 => adjust(s, at),
+        0x21..=0x22 | 0x24..=0x28 => Err(Reason::OutsidePart),
+        _ => Err(Reason::ReservedCode),
     }
-    let b = s[at];
-    if ESCAPE < b {
-        return Decoded::Fault(answer::OUTSIDE_PART);
-    }
-    if b < 0x04 {
-        return Decoded::Whole(Code::Font(b), 2);
-    }
-    if b < 0x20 {
-        return Decoded::Fault(answer::RESERVED_CODE);
-    }
-    if b < 0x21 {
-        return column(s, at + 1);
-    }
-    if b < 0x23 {
-        return Decoded::Fault(answer::OUTSIDE_PART);
-    }
-    if b < 0x24 {
-        return adjust(s, at + 1);
-    }
-    if b < 0x29 {
-        return Decoded::Fault(answer::OUTSIDE_PART);
-    }
-    Decoded::Fault(answer::RESERVED_CODE)
 }
 
-// What the byte b after ESCAPE means, XGP ESCAPE 1 and 2 apart.
-fn after_escape(b: u8) -> Decoded
-    requires { (b < 128) × ((b ≡ 1 → ⊥) × (b ≡ 2 → ⊥)) }
-    ensures { (bs : List ℕ) → result ≡ one_more (read (escaped b) bs) }
+// ESCAPE with the second byte b, before the bytes from `at`.
+#[tactic(auto, unfolding(crate::specs::Code::escaped, crate::specs::Code::read, crate::specs::Code::one_more))]
+fn escape(s: &[u8], at: usize, b: u8) -> Result<Decoded, Reason>
+    requires { b < 128 }
+    ensures { result ≡ one_more (read (escaped b) (drop at s.now)) }
 {
-    if b < 0x01 {
-        return Decoded::Whole(Code::Char(b), 1);
+    match b {
+        0x01 => {
+            let code = next_byte(s, at)?;
+            operation(s, at + 1, code)
+        }
+        0x02 => increment(s, at),
+        0x03..=0x04 => Err(Reason::OutsidePart),
+        0x05..=0x08 | 0x0B | 0x0E..=0x1F => Err(Reason::ReservedCode),
+        _ => Ok(Decoded {
+            code: Code::Char(b),
+            after: 1,
+        }),
     }
-    if b < 0x05 {
-        return Decoded::Fault(answer::OUTSIDE_PART);
-    }
-    if b < 0x09 {
-        return Decoded::Fault(answer::RESERVED_CODE);
-    }
-    if b < 0x0B {
-        return Decoded::Whole(Code::Char(b), 1);
-    }
-    if b < 0x0C {
-        return Decoded::Fault(answer::RESERVED_CODE);
-    }
-    if b < 0x0E {
-        return Decoded::Whole(Code::Char(b), 1);
-    }
-    if b < 0x20 {
-        return Decoded::Fault(answer::RESERVED_CODE);
-    }
-    Decoded::Whole(Code::Char(b), 1)
 }
 
-// ESCAPE, from its second byte on.
-fn escape(s: &[u8], at: usize) -> Decoded
-    ensures { result ≡ read (further escaped) (drop at s.now) }
-{
-    if s.len() <= at {
-        return Decoded::Fault(answer::CODE_CUT_SHORT);
-    }
-    let b = s[at];
-    if ESCAPE < b {
-        return Decoded::Fault(answer::OUTSIDE_PART);
-    }
-    if b == 1 {
-        return operation(s, at + 1);
-    }
-    if b == 2 {
-        return increment(s, at + 1);
-    }
-    after_escape(b)
-}
-
-// What the byte b means by itself, 0 to 15 octal.
-fn control(b: u8) -> Decoded
-    requires { b < 14 }
-    ensures { (bs : List ℕ) → result ≡ decodeOf b bs }
-{
-    if b < 0x01 {
-        return Decoded::Whole(Code::Null, 0);
-    }
-    if b < 0x08 {
-        return Decoded::Whole(Code::Char(b), 0);
-    }
-    if b < 0x0A {
-        return Decoded::Fault(answer::OUTSIDE_PART);
-    }
-    if b < 0x0B {
-        return Decoded::Whole(Code::LineFeed, 0);
-    }
-    if b < 0x0C {
-        return Decoded::Whole(Code::Char(b), 0);
-    }
-    if b < 0x0D {
-        return Decoded::Whole(Code::FormFeed, 0);
-    }
-    Decoded::Whole(Code::Return, 0)
-}
-
-// The code with first byte b, before the bytes from `at`. Ordinary characters come first, being the commonest.
-pub fn decode(s: &[u8], at: usize, b: u8) -> Decoded
+// The code with first byte b, before the bytes from `at`.
+#[tactic(auto, unfolding(crate::specs::Code::decode, crate::specs::Code::of_seven_bits, crate::specs::Code::usual, crate::specs::Code::read))]
+pub fn decode(s: &[u8], at: usize, b: u8) -> Result<Decoded, Reason>
     ensures { result ≡ decodeOf b (drop at s.now) }
 {
-    if b < 0x0E {
-        return control(b);
-    }
-    if b < ESCAPE {
-        return Decoded::Whole(Code::Char(b), 0);
-    }
-    if b == ESCAPE {
-        return escape(s, at);
-    }
-    Decoded::Fault(answer::OUTSIDE_PART)
+    let code = match b {
+        0x00 => Code::Null,
+        0x01..=0x07 | 0x0B | 0x0E..=0x7E => Code::Char(b),
+        0x0A => Code::LineFeed,
+        0x0C => Code::FormFeed,
+        0x0D => Code::Return,
+        ESCAPE => {
+            let second = next_byte(s, at)?;
+            return escape(s, at + 1, second);
+        }
+        0x08..=0x09 => return Err(Reason::OutsidePart),
+        0x80..=0xFF => return Err(Reason::OutsidePart),
+    };
+    Ok(Decoded { code, after: 0 })
 }

@@ -1,2 +1,1 @@
 mod Passes
-mod Widths

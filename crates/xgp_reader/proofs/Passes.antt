@@ -12,9 +12,17 @@ use Rattle.sheet.specs.Shown.{refused_at, shows, shows_first}
 use Rattle.sheet.specs.ShownLaws.{shows_first_nil, shows_first_append}
 use Rattle.xgp_code.specs.Measure.{in_dots}
 use Rattle.xgp.specs.State.{start, with_x}
-use Rattle.xgp.specs.File.{refuse, go_on, run, read_xgp}
+use Rattle.xgp.specs.File.{refuse, go_on, after_effect, run, read_xgp}
 use Rattle.xgp.proofs.FileLaws.{due, Few, SoundStep, step_sound, step_here, run_next, run_refuse, run_end}
 use Rattle.xgp.specs.declared.state.State.{State}
+use Rattle.std.specs.Prelude.{Result, Ok, Err, Some, MatchResult, IsErrAnd}
+use Rattle.std.proofs.Common.{refl, suc-ne-zero}
+use Rattle.octets.specs.declared.refusal.Reason.{Reason}
+use Rattle.octets.specs.declared.refusal.Refusal.{Refusal}
+use Rattle.xgp.specs.Effect.{effect_of}
+use Rattle.xgp.specs.declared.state.Effect.{Effect}
+use Rattle.xgp.specs.declared.state.Effect.TheVariants.{Moved, Set}
+use Rattle.xgp_step.specs.declared.Stepped.{Stepped}
 use Rattle.xgp_step.specs.Stretch.{Ran}
 
 pub record Standing (ws : List ℤ) (spacing : ℕ) (file : List ℕ) (s : State) (at : ℕ) (ms : List Mark) : Type 0 where
@@ -71,3 +79,23 @@ module _ (ws : List ℤ) (spacing : ℕ) (file : List ℕ) (s : State) (from : �
         within = r.within;
         pages = omega (arith, b.pages, r.long);
       }
+
+-- ---- a step whose refusal gets its place
+
+-- P is what the place makes of a reason
+pub stepped_off : (P : Reason → Refusal → Type 0) (r : Result Stepped Reason) (m : Result Stepped Refusal) {f : Refusal} → MatchResult r (λ (t : Stepped). m ≡ Ok t) (λ (k : Reason). IsErrAnd m (P k)) → m ≡ Err f
+    → (k : Reason) × (r ≡ Err k) × P k f
+stepped_off P (Ok t) m h e = absurd (suc-ne-zero 0 cc)
+stepped_off P (Err k) (Ok t) h e = absurd h
+stepped_off P (Err k) (Err g) {f} h e = let d : g ≡ f = cc in (k, refl, subst (P k) d h)
+
+pub stepped_on : (P : Reason → Refusal → Type 0) (r : Result Stepped Reason) (m : Result Stepped Refusal) {t : Stepped} → MatchResult r (λ (t : Stepped). m ≡ Ok t) (λ (k : Reason). IsErrAnd m (P k)) → m ≡ Ok t → r ≡ Ok t
+stepped_on P (Ok u) m {t} h e = let d : u ≡ t = cc in ap Ok d
+stepped_on P (Err k) (Ok u) h e = absurd h
+stepped_on P (Err k) (Err g) h e = absurd (suc-ne-zero 0 cc)
+
+-- a step has its bytes in the file
+pub stepped_within : (k n : ℕ) (s : State) (e : Effect) → SoundStep k s (after_effect n (effect_of s (Some e))) → n ≤ k
+unfolding after_effect
+stepped_within k n s (Moved t) h = h.0
+stepped_within k n s (Set t y c) h = h.0

@@ -9,11 +9,11 @@ ghost use Rattle.sheet.specs.Readable.{max_file};
 ghost use Rattle.xgp.specs.File.{read_xgp};
 ghost use Rattle.xgp.specs.Sheet.{any_negative, xgp_result};
 
-use octets::answer::Answer;
-use octets::pass::Reading;
-use octets::{answer, field, pass};
-use xgp::state;
-use xgp_step::{Stepped, fields, stretch};
+use octets::pass::TwoPass;
+use octets::refusal::{Answer, Reason};
+use octets::{field, pass};
+use xgp::state::{Effect, State};
+use xgp_step::{fields, stretch};
 
 // The widths of four fonts.
 pub const FOUR_FONTS: usize = 4 * sheet::FONT_CHARS;
@@ -22,75 +22,73 @@ pub const FOUR_FONTS: usize = 4 * sheet::FONT_CHARS;
 fn has_negative(widths: &[i32]) -> bool
     ensures { result ≡ any_negative widths.now }
 {
-    let mut i: usize = 0;
-    while i < widths.len() {
-        let w = widths[i];
-        if w < 0 {
-            return true;
-        }
-        i += 1;
-    }
-    false
+    widths.iter().any(|w| *w < 0)
 }
 
 // One pass over a file within the limit. It writes the sheet, if writing.
-fn pass(file: &[u8], spacing: u16, widths: &[i32], out: &mut [u8], writing: bool) -> Reading
+fn pass(file: &[u8], spacing: u16, widths: &[i32], out: &mut [u8], writing: bool) -> Answer
     requires file_len_bound { length file.now ≤ max_file }
     requires roomy { writing ≡ true → Roomy (shown_result (read_xgp widths.now spacing file.now)) (length out.old) }
     ensures { Passed (shown_result (read_xgp widths.now spacing file.now)) writing out.old result out.new }
 {
-    let mut s = state::start(spacing);
-    let mut at: usize = 0;
-    let mut to: usize = 0;
-    let mut count: u32 = 0;
+    let mut s = State::start(spacing);
+    let mut at = 0;
+    let mut to = 0;
+    let mut count = 0;
+    // An index, and no iterator: a turn reads a stretch and a code, each of as many bytes as it says.
     while at < file.len() {
         let q = stretch::set_run(file, spacing, widths, out, at, to, s, writing);
-        count = count + (q.next - at) as u32;
+        count += (q.next - at) as u32;
         to = q.to;
-        let x = q.x;
-        s.x = x;
+        s.x = q.x;
         at = q.next;
         if at < file.len() {
-            let r = xgp_step::step(file, spacing, widths, at, s);
-            match r {
-                Stepped::Refuse(k) => {
-                    return Reading::Fault(k, at);
-                }
-                Stepped::Go(t, n) => {
+            let found = xgp_step::step(file, spacing, widths, at, s);
+            let stepped = found.map_err(|reason| reason.at(at))?;
+            at = at + 1 + stepped.after;
+            match stepped.effect {
+                Effect::Moved(t) => s = t,
+                Effect::Set(t, y, c) => {
+                    to = fields::show_set(out, to, s, y, c, writing);
+                    count += fields::number(s);
                     s = t;
-                    at = at + 1 + n;
-                }
-                Stepped::Set(t, y, c, n) => {
-                    let next = fields::show_set(out, to, s, y, c, writing);
-                    let more = fields::number(s);
-                    to = next;
-                    count = count + more;
-                    s = t;
-                    at = at + 1 + n;
                 }
             }
         }
     }
     field::show_end(out, to, count, writing);
-    Reading::Needs(to + field::END_FIELD)
+    Ok(to + field::END_FIELD)
+}
+
+// What a call is lent to read, a file within the limit.
+#[derive(Clone, Copy)]
+struct Input<'a> {
+    file: &'a [u8],
+    spacing: u16,
+    widths: &'a [i32],
+    ghost within: { length file.now ≤ max_file },
+}
+
+impl TwoPass for Input<'_> {
+    ghost made = { λ input. shown_result (read_xgp input.widths.now input.spacing input.file.now) };
+
+    fn pass(&self, out: &mut [u8], writing: bool) -> Answer {
+        pass(self.file, self.spacing, self.widths, out, writing)
+    }
 }
 
 // Reads a file of XGP character mode into the lent sheet buffer.
 pub fn read_xgp(file: &[u8], spacing: u16, widths: &[i32], sheet: &mut [u8]) -> Answer
     ensures { Gives (outcome_of result) (xgp_result file.now spacing widths.now) sheet.old sheet.new }
 {
-    let number = sheet::call_refusal(file.len(), widths.len() == FOUR_FONTS);
-    if number != 0 {
-        return Answer::Refused(number, 0);
-    }
+    sheet::call_refusal(file.len(), widths.len() == FOUR_FONTS)?;
     if has_negative(widths) {
-        return Answer::Refused(answer::NEGATIVE_WIDTH, 0);
+        return Err(Reason::NegativeWidth.at(0));
     }
-    let found = pass(file, spacing, widths, sheet, false);
-    let given = pass::answered(found, sheet.len(), answer::NO_SHEET_ROOM);
-    let Answer::Accepted(_) = given else {
-        return given;
+    let input = Input {
+        file,
+        spacing,
+        widths,
     };
-    pass(file, spacing, widths, sheet, true);
-    given
+    pass::in_two_passes(&input, sheet, Reason::NoSheetRoom)
 }

@@ -16,8 +16,7 @@ fn show_first(out: &mut [u8], to: usize, s: State, writing: bool) -> usize
     if s.started {
         return to;
     }
-    let n = s.page;
-    sheet::show_page(out, to, n as i32, writing)
+    sheet::show_page(out, to, s.page as i32, writing)
 }
 
 // Writes the field of the character c at y, if writing; gives the place after it.
@@ -25,9 +24,7 @@ fn show_char(out: &mut [u8], to: usize, s: State, y: Lines, c: u8, writing: bool
     requires { (to ≤ last_place) × (writing ≡ true → to + 16 ≤ length out.old) }
     ensures { Put writing out.old to (mark_fields (char_mark s.x.0 y.0 (pos s.font) c ∷ [])) out.new result }
 {
-    let x = s.x;
-    let font = s.font;
-    sheet::show_char(out, to, x.0, y.0, font as i32, c, writing)
+    sheet::show_char(out, to, s.x.0, y.0, i32::from(s.font), c, writing)
 }
 
 // The two together.

@@ -6,7 +6,6 @@ ghost use Rattle.xgp.specs.State.{y_in};
 ghost use Rattle.xgp_step.specs.Stretch.{Stretched, Room};
 
 use octets::reach;
-use octets::reach::Reach;
 use xgp::state;
 use xgp::state::State;
 use xgp_code::measure::{Dots, Lines};
@@ -20,29 +19,6 @@ pub struct Stretch {
     pub next: usize,
     pub to: usize,
     pub x: Dots,
-}
-
-// A stretch that ends here.
-fn stretch_to(next: usize, to: usize, x: i32) -> Stretch
-    ensures { result ≡ record { next = next; to = to; x = in_dots x } }
-{
-    Stretch {
-        next: next,
-        to: to,
-        x: Dots(x),
-    }
-}
-
-// No character.
-fn no_stretch(s: State, from: usize, first: usize) -> Stretch
-    ensures { result ≡ record { next = from; to = first; x = s.x } }
-{
-    let x = s.x;
-    Stretch {
-        next: from,
-        to: first,
-        x: x,
-    }
 }
 
 // The ordinary characters from `from` on, at y, on a page whose field was given.
@@ -61,34 +37,27 @@ fn set_stretch(
     requires room { writing ≡ true → Room widths.now spacing file.now s from first (length out.old) }
     ensures { Stretched widths.now spacing file.now s from first writing out.old out.new result }
 {
-    let place = s.x;
-    let mut x = place.0;
+    let mut x = s.x.0;
     let mut at = from;
     let mut to = first;
+    // An index, and no `for` over the bytes: the place where the stretch ends is part of what it gives.
     while at < file.len() {
         let b = file[at];
-        if b < FIRST_ORDINARY {
-            return stretch_to(at, to, x);
+        if b < FIRST_ORDINARY || xgp_code::ESCAPE <= b {
+            break;
         }
-        if xgp_code::ESCAPE <= b {
-            return stretch_to(at, to, x);
-        }
-        let font = s.font;
-        let w = state::width_of(widths, font, b);
-        let sum = reach::sum(x, w);
-        match sum {
-            Reach::To(v) => {
-                let next = sheet::show_char(out, to, x, y.0, font as i32, b, writing);
-                to = next;
-                x = v;
-                at = at + 1;
-            }
-            Reach::Off => {
-                return stretch_to(at, to, x);
-            }
-        }
+        let Some(v) = reach::sum(x, state::width_of(widths, s.font, b)) else {
+            break;
+        };
+        to = sheet::show_char(out, to, x, y.0, i32::from(s.font), b, writing);
+        x = v;
+        at += 1;
     }
-    stretch_to(at, to, x)
+    Stretch {
+        next: at,
+        to,
+        x: Dots(x),
+    }
 }
 
 // The same, where the page's field was given and y fits; else nothing.
@@ -106,25 +75,24 @@ pub fn set_run(
     requires room { writing ≡ true → Room widths.now spacing file.now s from first (length out.old) }
     ensures { Stretched widths.now spacing file.now s from first writing out.old out.new result }
 {
-    if s.started {
-        let y = state::y_in(s);
-        match y {
-            Reach::To(v) => {
-                set_stretch(
-                    file,
-                    spacing,
-                    widths,
-                    out,
-                    from,
-                    first,
-                    s,
-                    Lines(v),
-                    writing,
-                )
-            }
-            Reach::Off => no_stretch(s, from, first),
-        }
-    } else {
-        no_stretch(s, from, first)
+    if s.started
+        && let Some(y) = s.y_in()
+    {
+        return set_stretch(
+            file,
+            spacing,
+            widths,
+            out,
+            from,
+            first,
+            s,
+            Lines(y),
+            writing,
+        );
+    }
+    Stretch {
+        next: from,
+        to: first,
+        x: s.x,
     }
 }

@@ -124,15 +124,29 @@ fn the_header_has_the_package_s_numbers() {
 /// A refusal has one name and one number, in the proved code, in the header and in this package.
 #[test]
 fn a_refusal_has_one_name() {
-    let source = fs::read_to_string(host().join("../crates/octets/src/answer.rt")).unwrap();
-    let proved: BTreeMap<&str, usize> = source
+    let source = fs::read_to_string(host().join("../crates/octets/src/refusal.rt")).unwrap();
+    let proved: BTreeMap<String, usize> = source
         .lines()
-        .filter_map(|line| line.strip_prefix("pub const ")?.strip_suffix(';')?.split_once(": u8 = "))
-        .map(|(name, number)| (name, number.parse().unwrap()))
+        .filter_map(|line| line.trim().strip_suffix(',')?.split_once(" = "))
+        .map(|(name, number)| (constant_name(name), number.parse().unwrap()))
         .collect();
-    let told: BTreeMap<&str, usize> =
-        Refusal::TABLE.iter().map(|(name, number, _)| (*name, *number)).collect();
+    let told: BTreeMap<String, usize> =
+        Refusal::TABLE.iter().map(|(name, number, _)| (name.to_string(), *number)).collect();
     assert_eq!(told, proved);
+}
+
+/// The name of a constant for a variant: `OUT_OF_32_BITS` for `OutOf32Bits`.
+fn constant_name(variant: &str) -> String {
+    let mut name = String::new();
+    let mut last = '_';
+    for letter in variant.chars() {
+        if !name.is_empty() && (letter.is_uppercase() || letter.is_ascii_digit() && !last.is_ascii_digit()) {
+            name.push('_');
+        }
+        name.extend(letter.to_uppercase());
+        last = letter;
+    }
+    name
 }
 
 /// A program in C that prints names with their values.

@@ -1,14 +1,18 @@
 -- `conversion::convert` meets its contract: the galley's length gives that of the other form, and the room decides.
 -- Assumes nothing.
-use mathlib.Core.Path.{◌≡◌, refl, ap}
-use Prim.Native.Nat.{ℕ, ◌+◌, ◌-◌, ◌*◌}
-use native.Mathlib.Omega.{arith}
-use lib.ListN.{length}
+use Rattle.std.proofs.Common.{◌≡◌, ℕ, ◌+◌, ◌-◌, ◌*◌, List, length, take, refl, ap, arith}
+use Rattle.octets.specs.Octets.{Bytes}
+use Rattle.octets.specs.Answer.{accepted}
 use Rattle.octets.specs.AnswerLaws.{gives}
-use Rattle.octets.specs.Write.{length_wrote}
+use Rattle.octets.specs.Write.{named, length_wrote}
+use Rattle.galley_file.specs.declared.form.Form.{Form}
+use Rattle.galley_file.specs.declared.item.Item.{Item}
 use Rattle.galley_file.specs.Form.{character_size}
 use Rattle.galley_file.specs.FormLaws.{size_times}
-use Rattle.galley_file.specs.Galley.{galley, items_of}
+use Rattle.galley_file.specs.Galley.{fields, galley, items_of}
+use Rattle.galley_file.specs.Fields.{field_items, WholeFields}
+use Rattle.galley_file.specs.FieldsLaws.{galley_long, galley_fields, galley_run}
+use Rattle.galley_file.specs.Outcome.{check_outcome}
 use Rattle.conversion.proofs.Forms.{length_is, few, needed_is, fields_fit, all_written, no_room, with_room}
 use Rattle.conversion.proofs.convert.Goals as goal
 use Rattle.conversion.proofs.convert.Goals.{After-character_size, After-character_size-2}
@@ -30,7 +34,7 @@ pub overflow_mul-needed : goal.overflow_mul-needed
 overflow_mul-needed c = omega (arith, to_is c, size_times c.args.to c.args.count, few _ c.args.to _ _ c.requires)
 
 needed : (c : After-character_size-2) → length c.args.g.now - c.character_size.result * c.args.count + c.character_size-2.result * c.args.count ≡ length (galley c.args.to (items_of c.args.from c.args.g.now))
-needed c = needed_is _ _ _ _ c.requires _ _ (from_is (record { before = c.before.before; type_inv = record { out = c.type_inv.out; g = c.type_inv.g } })) (to_is c)
+needed c = needed_is _ _ _ _ c.requires _ _ (ap (λ (n : ℕ). n * c.args.count) c.character_size.ensures.0) (to_is c)
 
 pub overflow_add-needed : goal.overflow_add-needed
 overflow_add-needed c =
@@ -40,20 +44,33 @@ pub returns-then-out-needed : goal.returns-then-out-needed
 returns-then-out-needed c =
     let a = c.args in
     let q = no_room a.from a.to a.g.now a.count c.requires a.out.now _ (needed (goal.at.returns-then-out-needed c).After-character_size-2) c.if-out-needed.true in
-    gives q refl refl
+    rw c.at.ensures (gives q refl refl)
+
+-- the items are the galley's
+run : (from : Form) (g : List ℕ) (count : ℕ) → accepted count ≡ check_outcome from g → Bytes g → (field_items from (take (length g - 7) g) ≡ items_of from g) × WholeFields from (take (length g - 7) g)
+run from g count e b = galley_run from g count e (galley_fields from g count e b)
+
+pub invariant_of-items : goal.invariant_of-items
+invariant_of-items c = record { whole = (run _ _ _ c.requires (λ i. (c.type_inv.g i).fits)).1 }
+
+pub slice_bounds-items-count : goal.slice_bounds-items-count
+slice_bounds-items-count c = omega (arith, galley_long _ _ _ c.requires)
 
 pub put_items-next-requires : goal.put_items-next-requires
 put_items-next-requires c =
-    (c.requires, omega (arith, fields_fit _ c.args.to _ _ c.requires, needed (goal.at.put_items-next-requires c).After-character_size-2, c.if-out-needed.false))
+    let at = goal.at.put_items-next-requires c in
+    omega (arith, ap (λ (is : List Item). length (fields c.args.to is)) (run _ _ _ c.requires (λ i. (c.type_inv.g i).fits)).0, fields_fit _ c.args.to _ _ c.requires, needed at.After-character_size-2, c.if-out-needed.false)
 
 pub overflow_cast-count : goal.overflow_cast-count
 overflow_cast-count c = omega (arith, few _ c.args.to _ _ c.requires)
 
 pub put_end-requires : goal.put_end-requires
 put_end-requires c =
+    let at = goal.at.put_end-requires c in
     let w = c.put_items-next.ensures in
-    omega (arith, fields_fit _ c.args.to _ _ c.requires, needed (goal.at.put_end-requires c).After-character_size-2, c.if-out-needed.false, w.next_is, length_wrote w)
+    omega (arith, ap (λ (is : List Item). length (fields c.args.to is)) (run _ _ _ c.requires (λ i. (c.type_inv.g i).fits)).0, fields_fit _ c.args.to _ _ c.requires, needed at.After-character_size-2, c.if-out-needed.false, w.next_is, length_wrote w)
 
 pub returns : goal.returns
 returns c =
-    with_room _ _ _ _ c.requires _ _ (needed (goal.at.returns c).After-character_size-2) c.if-out-needed.false _ (all_written _ _ _ _ c.requires _ _ _ _ _ c.put_items-next.ensures c.put_end.ensures)
+    let w = named (ap (fields c.args.to) (run _ _ _ c.requires (λ i. (c.type_inv.g i).fits)).0) c.put_items-next.ensures in
+    with_room _ _ _ _ c.requires _ _ (needed (goal.at.returns c).After-character_size-2) c.if-out-needed.false _ (all_written _ _ _ _ c.requires _ _ _ _ _ w c.put_end.ensures)

@@ -1,30 +1,28 @@
 -- `conversion::galley_to_new` meets its contract: what the check refuses is refused, and a checked galley is converted.
--- Assumes nothing.
-use mathlib.Core.Path.{◌≡◌, refl, sym, ap, ◌∙◌}
-use lib.ListN.{length}
+use Rattle.std.proofs.Common.{◌≡◌, length, refl, sym, ap, ◌∙◌, rules}
 use Rattle.octets.specs.Answer.{accepted, outcome_of}
 use Rattle.octets.specs.AnswerLaws.{gives, gives_same}
 use Rattle.galley_file.specs.declared.form.Form.TheVariants.{Old}
 use Rattle.galley_file.specs.Outcome.{check_outcome}
+use Rattle.conversion.specs.Conversion.{new_result}
 use Rattle.conversion.proofs.Forms.{new_refused, new_accepted}
 use Rattle.conversion.proofs.galley_to_new.Goals as goal
-use Rattle.conversion.proofs.galley_to_new.Goals.{In-Accepted}
+use Rattle.conversion.proofs.galley_to_new.Goals.{In_ok-count}
 
--- the answer of the check, in the arm for an accepted galley
-counted : (c : In-Accepted) → accepted c.in-Accepted.count ≡ check_outcome Old c.args.old.now
-counted c = sym (ap outcome_of c.in-Accepted.is) ∙ c.check_form-checked.ensures
+counted : (c : In_ok-count) → accepted c.in_ok-count.count ≡ check_outcome Old c.args.old.now
+counted c = sym (ap outcome_of c.in_ok-count.was) ∙ c.check_form.ensures
 
 pub convert-requires : goal.convert-requires
-convert-requires c = counted (goal.at.convert-requires c).In-Accepted
+convert-requires c = counted (goal.at.convert-requires c).In_ok-count
 
-pub returns-in-Refused : goal.returns-in-Refused
-returns-in-Refused c =
+pub returns-in_err-count : goal.returns-in_err-count
+returns-in_err-count c =
     let a = c.args in
-    let q = new_refused a.old.now (length a.new.now) _ _ (sym (ap outcome_of c.in-Refused.is) ∙ c.check_form-checked.ensures) in
-    gives q refl refl
+    let q = new_refused a.old.now (length a.new.now) _ _ (sym (ap outcome_of c.in_err-count.was) ∙ c.check_form.ensures) in
+    let same = gives {result = new_result a.old.now} {buffer = a.new.now} q refl refl in
+    search rules
 
-pub returns-in-Accepted : goal.returns-in-Accepted
-returns-in-Accepted c =
+pub returns : goal.returns
+returns c =
     let a = c.args in
-    let q = new_accepted a.old.now (length a.new.now) _ (counted (goal.at.returns-in-Accepted c).In-Accepted) in
-    gives_same q c.convert.ensures
+    gives_same (new_accepted a.old.now (length a.new.now) _ (counted (goal.at.returns c).In_ok-count)) c.convert.ensures

@@ -1,30 +1,28 @@
 -- `conversion::galley_to_old` meets its contract: what the check refuses is refused, and a checked galley is converted.
--- Assumes nothing.
-use mathlib.Core.Path.{◌≡◌, refl, sym, ap, ◌∙◌}
-use lib.ListN.{length}
+use Rattle.std.proofs.Common.{◌≡◌, length, refl, sym, ap, ◌∙◌, rules}
 use Rattle.octets.specs.Answer.{accepted, outcome_of}
 use Rattle.octets.specs.AnswerLaws.{gives, gives_same}
 use Rattle.galley_check.specs.Low.{low_outcome}
 use Rattle.galley_check.specs.LowLaws.{low_checked}
+use Rattle.conversion.specs.Conversion.{old_result}
 use Rattle.conversion.proofs.Forms.{old_refused, old_accepted}
 use Rattle.conversion.proofs.galley_to_old.Goals as goal
-use Rattle.conversion.proofs.galley_to_old.Goals.{In-Accepted}
+use Rattle.conversion.proofs.galley_to_old.Goals.{In_ok-count}
 
--- the answer of the check, in the arm for an accepted galley
-counted : (c : In-Accepted) → accepted c.in-Accepted.count ≡ low_outcome c.args.new.now
-counted c = sym (ap outcome_of c.in-Accepted.is) ∙ c.check_low-checked.ensures
+counted : (c : In_ok-count) → accepted c.in_ok-count.count ≡ low_outcome c.args.new.now
+counted c = sym (ap outcome_of c.in_ok-count.was) ∙ c.check_low.ensures
 
 pub convert-requires : goal.convert-requires
-convert-requires c = (low_checked _ _ (counted (goal.at.convert-requires c).In-Accepted)).checked
+convert-requires c = (low_checked _ _ (counted (goal.at.convert-requires c).In_ok-count)).checked
 
-pub returns-in-Refused : goal.returns-in-Refused
-returns-in-Refused c =
+pub returns-in_err-count : goal.returns-in_err-count
+returns-in_err-count c =
     let a = c.args in
-    let q = old_refused a.new.now (length a.old.now) _ _ (sym (ap outcome_of c.in-Refused.is) ∙ c.check_low-checked.ensures) in
-    gives q refl refl
+    let q = old_refused a.new.now (length a.old.now) _ _ (sym (ap outcome_of c.in_err-count.was) ∙ c.check_low.ensures) in
+    let same = gives {result = old_result a.new.now} {buffer = a.old.now} q refl refl in
+    search rules
 
-pub returns-in-Accepted : goal.returns-in-Accepted
-returns-in-Accepted c =
+pub returns : goal.returns
+returns c =
     let a = c.args in
-    let q = old_accepted a.new.now (length a.old.now) _ (counted (goal.at.returns-in-Accepted c).In-Accepted) in
-    gives_same q c.convert.ensures
+    gives_same (old_accepted a.new.now (length a.old.now) _ (counted (goal.at.returns c).In_ok-count)) c.convert.ensures

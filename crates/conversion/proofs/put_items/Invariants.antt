@@ -1,10 +1,6 @@
-use Prim.Native.Nat.{◌-◌}
-use lib.ListN.{length}
-use Rattle.conversion.proofs.Forms.{Converted}
+use Rattle.octets.specs.Write.{Wrote}
+use Rattle.galley_file.specs.Galley.{fields}
 use Rattle.conversion.proofs.put_items.Given as goal
 
-abbrev pub invariant-loop-at : goal.invariant-loop-at
-invariant-loop-at l = Converted l.from l.to l.g l.at l.initial.out l.out l.next
-
-abbrev pub decreases-loop-at : goal.decreases-loop-at
-decreases-loop-at l = length l.g - l.at
+abbrev pub invariant-loop-item : goal.invariant-loop-item
+invariant-loop-item l = Wrote l.initial.out 0 (fields l.to l.yielded) l.out l.next

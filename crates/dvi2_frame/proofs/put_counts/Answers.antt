@@ -1,25 +1,25 @@
--- `dvi2_frame::put_counts` meets its contract: one write after the other.
+-- `dvi2_frame::put_counts` meets its contract: the number is written, and zeros fill what follows it.
 -- Assumes nothing.
-use mathlib.Core.Path.{refl}
-use native.Mathlib.Omega.{arith}
+use Rattle.std.proofs.Common.{◌≡◌, ◌+◌, ◌-◌, ◌≤◌, refl, length, arith}
 use Rattle.octets.specs.Octets.{bytes}
 use Rattle.octets.specs.Write.{then, room_after}
+use Rattle.octets.specs.Fill.{wrote_filled}
 use Rattle.dvi2_frame.proofs.put_counts.Goals as goal
+use Rattle.dvi2_frame.proofs.put_counts.Goals.{After-put_nat4-zeros}
 
-pub put_zeros-to-requires : goal.put_zeros-to-requires
+-- there is room for the zeros
+room : (c : After-put_nat4-zeros) → c.put_nat4-zeros.result + 36 ≤ length c.put_nat4-zeros.new.out
 unfolding bytes
-put_zeros-to-requires c = omega (arith, room_after c.put_nat4-to.ensures 4 36 refl c.requires)
+room c = room_after c.put_nat4-zeros.ensures 4 36 refl c.requires
 
-pub put_zeros-to-requires-2 : goal.put_zeros-to-requires-2
-unfolding bytes
-put_zeros-to-requires-2 c = omega (arith, room_after (then c.put_nat4-to.ensures c.put_zeros-to.ensures) 16 24 refl c.requires)
+pub overflow_add-to : goal.overflow_add-to
+overflow_add-to c = omega (arith, room (goal.at.overflow_add-to c).After-put_nat4-zeros)
 
-pub put_zeros-requires : goal.put_zeros-requires
-unfolding bytes
-put_zeros-requires c =
-    room_after (then c.put_nat4-to.ensures (then c.put_zeros-to.ensures c.put_zeros-to-2.ensures)) 28 12 refl c.requires
+pub slice_bounds-fill-end : goal.slice_bounds-fill-end
+slice_bounds-fill-end c = omega (arith, room (goal.at.slice_bounds-fill-end c).After-put_nat4-zeros)
 
 pub returns : goal.returns
 unfolding bytes
 returns c =
-    then c.put_nat4-to.ensures (then c.put_zeros-to.ensures (then c.put_zeros-to-2.ensures c.put_zeros.ensures))
+    let k : c.put_nat4-zeros.result + 36 - c.put_nat4-zeros.result ≡ 36 = omega arith in
+    then c.put_nat4-zeros.ensures (wrote_filled _ _ _ 36 0 _ k (c.fill.ensures.after (λ y e. e)) (room (goal.at.returns c).After-put_nat4-zeros))

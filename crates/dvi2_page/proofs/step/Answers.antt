@@ -10,8 +10,8 @@ returns-then-is_ready c =
     let a = c.args in
     λ is l k. s_end a.s.now a.at a.h is c.if-op.true (sym c.is_ready.ensures ∙ c.if-is_ready.true)
 
-pub returns-then-op : goal.returns-then-op
-returns-then-op c =
+pub returns-else-is_ready : goal.returns-else-is_ready
+returns-else-is_ready c =
     let a = c.args in
     λ is l k. s_early a.s.now a.at a.h is c.if-op.true (sym c.is_ready.ensures ∙ c.if-is_ready.false)
 

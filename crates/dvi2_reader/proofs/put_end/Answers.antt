@@ -14,5 +14,5 @@ returns-then-out-at c = put_if_room_counted _ _ _ 7 refl c.if-out-at.true
 pub overflow_cast-count : goal.overflow_cast-count
 overflow_cast-count c = omega (arith, c.requires.1)
 
-pub returns : goal.returns
-returns c = put_if_room_written c.put_end.ensures
+pub returns-else-out-at : goal.returns-else-out-at
+returns-else-out-at c = put_if_room_written c.put_end.ensures

@@ -19,5 +19,5 @@ returns-then-out-at c = put_if_room_counted _ _ _ _ (length_item_field New c.arg
 pub put_item-requires : goal.put_item-requires
 put_item-requires c = omega (arith, c.if-out-at.false, c.item_size-size.ensures)
 
-pub returns : goal.returns
-returns c = put_if_room_written c.put_item.ensures
+pub returns-else-out-at : goal.returns-else-out-at
+returns-else-out-at c = put_if_room_written c.put_item.ensures

@@ -131,8 +131,8 @@ module _ (ws : List ℤ) (d at : ℕ) (p : S.Page) (s : List ℕ) (w : Bool) (be
               record { accepted = room.accepted; enough = omega (arith, room.enough, g.same) },
         )
 
-pub read_run-read_item-r-requires : goal.read_run-read_item-r-requires
-read_run-read_item-r-requires t c =
+pub read_run-read_item-requires : goal.read_run-read_item-requires
+read_run-read_item-requires t c =
     let h = c.requires.s_bound in
     (omega (arith, c.decreases), asks _ _ _ _ _ _ _ _ _ c.loop-i.invariant.1 c.loop-i-test.true c.if-s-i.false h.0 h.1 c.requires.roomy_run)
 
@@ -153,7 +153,7 @@ pub read_run-loop-i-preserved : goal.read_run-loop-i-preserved
 read_run-loop-i-preserved t c =
     let a = c.args in
     let d = item_done a.widths.now a.depth (a.at + c.loop-i.i) (page_of c.loop-i.q []) a.s.now c.loop-i.i c.in-Past.ensures in
-    (_, going_past _ _ _ _ _ _ _ _ _ c.loop-i.invariant.1 c.loop-i-test.true c.if-s-i.false (sym d.found) d.put d.counted c.read_item-r.auto.out)
+    (_, going_past _ _ _ _ _ _ _ _ _ c.loop-i.invariant.1 c.loop-i-test.true c.if-s-i.false (sym d.found) d.put d.counted c.read_item.auto.out)
 
 -- EOP shows nothing
 none-shown : {x : B.Item} → x ≡ page_end → mark_fields (item_marks x) ≡ []

@@ -4,7 +4,7 @@ use mathlib.Core.Path.{◌≡◌, refl, sym, subst}
 use mathlib.Core.List.{[]}
 use Prim.Native.Nat.{◌+◌}
 use native.Mathlib.Omega.{arith}
-use Rattle.octets.specs.Answer.{entries_left}
+use Rattle.octets.specs.declared.refusal.Reason.TheVariants.{EntriesLeft}
 use Rattle.dvi_brackets.specs.Reading.{LeavesAt, LeftBy}
 use Rattle.dvi_brackets.specs.declared.Item.{Item}
 use Rattle.dvi_brackets.specs.declared.Item.TheVariants as I
@@ -30,7 +30,7 @@ pub overflow_add-result-in-Eop-2 : goal.overflow_add-result-in-Eop-2
 overflow_add-result-in-Eop-2 c = omega (arith, near (goal.at.overflow_add-result-in-Eop-2 c).Start c.in-Eop.is)
 
 pub returns-in-Fault : goal.returns-in-Fault
-returns-in-Fault c = left (goal.at.returns-in-Fault c).Start (I.Fault c.in-Fault.k c.in-Fault.i) c.in-Fault.is refl
+returns-in-Fault c = left (goal.at.returns-in-Fault c).Start (I.Fault c.in-Fault.reason c.in-Fault.place) c.in-Fault.is refl
 
 pub returns-in-Pop : goal.returns-in-Pop
 returns-in-Pop c =
@@ -38,4 +38,4 @@ returns-in-Pop c =
 
 pub returns-in-Eop : goal.returns-in-Eop
 returns-in-Eop c =
-    left (goal.at.returns-in-Eop c).Start (I.Fault entries_left (c.args.at + 1 + c.in-Eop.n)) c.in-Eop.is refl
+    left (goal.at.returns-in-Eop c).Start (I.Fault EntriesLeft (c.args.at + 1 + c.in-Eop.n)) c.in-Eop.is refl

@@ -2,6 +2,7 @@
 -- Assumes nothing.
 use mathlib.Core.Path.{◌≡◌, sym, ap, subst, ◌∙◌}
 use mathlib.Core.List.{List}
+use Rattle.std.proofs.Common.{inl, inr}
 use borrow.Author.Rules.{rules}
 use mir.Syntax.{w32}
 use lib.IntN.{ℤ}
@@ -32,17 +33,13 @@ returns-in-SetChar c l = c.set_char.ensures l ∙ found (goal.at.returns-in-SetC
 
 pub returns-in-Nop : goal.returns-in-Nop
 unfolding effect
-returns-in-Nop c l = found (goal.at.returns-in-Nop c).Start l c.in-Nop.is
+returns-in-Nop c l =
+    let s = (goal.at.returns-in-Nop c).Start in
+    elim c.in-Nop.is [ inl e ↦ found s l e | inr g ↦ elim g [ inl e ↦ absurd (bracket s e) | inr e ↦ absurd (bracket s e) ] ]
 
 pub returns-in-Eop : goal.returns-in-Eop
 unfolding effect
-returns-in-Eop c l = c.end_page.ensures l ∙ found (goal.at.returns-in-Eop c).Start l c.in-Eop.is
-
-pub returns-in-Push : goal.returns-in-Push
-returns-in-Push c l = absurd (bracket (goal.at.returns-in-Push c).Start c.in-Push.is)
-
-pub returns-in-Pop : goal.returns-in-Pop
-returns-in-Pop c l = absurd (bracket (goal.at.returns-in-Pop c).Start c.in-Pop.is)
+returns-in-Eop c l = c.end.ensures l ∙ found (goal.at.returns-in-Eop c).Start l c.in-Eop.is
 
 -- ---- rules, HORZCHAR, fonts
 

@@ -20,6 +20,10 @@ use Rattle.dvi_brackets.specs.Reading.{run_marks, bracket_run, RoomyRun, RunDone
 use Rattle.dvi_brackets.specs.declared.Run.{Run}
 use Rattle.dvi_plain.specs.Page.{bop_bytes, page_run}
 use Rattle.dvi_plain.proofs.Paging.{WithinFile, run_within}
+use Rattle.octets.specs.Answer.{number_in}
+use Rattle.octets.specs.declared.refusal.Refusal.{Refusal}
+use Rattle.octets.specs.declared.refusal.Reason.{Reason}
+use Rattle.sheet.specs.Shown.{Shown, refused_at}
 use Rattle.dvi_plain.proofs.read_page.Goals as goal
 use Rattle.dvi_plain.proofs.read_page.Goals.{After-read_run-r}
 
@@ -59,7 +63,7 @@ read_run-r-requires c =
       roomy_run = (λ w.
           let r = c.requires.roomy_run w in
           let k = c.show_mark-first.auto.out in
-          subst (λ (x : B.Run). RoomyRun x c.show_mark-first.result (length c.show_mark-first.new.out)) (sym (body_is a.widths.now a.dvi.now a.at (c.new_page-p.ensures [])))
+          subst (λ (x : B.Run). RoomyRun x c.show_mark-first.result (length c.show_mark-first.new.out)) (sym (body_is a.widths.now a.dvi.now a.at (c.new.ensures [])))
           (record { accepted = r.accepted; enough = omega (arith, r.enough, shown.place, k) }));
     }
 
@@ -77,7 +81,7 @@ module _ (c : After-read_run-r) where
   done : {r : Run} → c.read_run-r.result ≡ r → Done page r
   done e =
       subst (Done page) e
-      (subst (λ (x : B.Run). Done x c.read_run-r.result) (body_is c.args.widths.now c.args.dvi.now c.args.at (c.new_page-p.ensures [])) c.read_run-r.ensures)
+      (subst (λ (x : B.Run). Done x c.read_run-r.result) (body_is c.args.widths.now c.args.dvi.now c.args.at (c.new.ensures [])) c.read_run-r.ensures)
 
   found : {r : Run} → c.read_run-r.result ≡ r → page ≡ bracket_run r (run_marks page)
   found e = sym (done e).found
@@ -88,24 +92,28 @@ module _ (c : After-read_run-r) where
   still : c.args.writing ≡ false → later ≡ c.args.out.now
   still e = put_still e (done refl).put ∙ put_still e c.show_mark-first.ensures
 
+pub overflow_add-start-in-Pop : goal.overflow_add-start-in-Pop
+overflow_add-start-in-Pop c = record { fits = omega (arith, within (goal.at.overflow_add-start-in-Pop c).After-read_run-r c.in-Pop.is, c.requires.bop_bytes_in_bounds) }
+
 pub overflow_add-result : goal.overflow_add-result
-overflow_add-result c = record { fits = omega (arith, within (goal.at.overflow_add-result c).After-read_run-r c.in-Pop.is, c.requires.bop_bytes_in_bounds) }
+overflow_add-result c = record { fits = omega (arith, within (goal.at.overflow_add-result c).After-read_run-r c.in-Eop.is, c.requires.bop_bytes_in_bounds) }
 
 pub overflow_add-result-in-Eop : goal.overflow_add-result-in-Eop
 overflow_add-result-in-Eop c = record { fits = omega (arith, within (goal.at.overflow_add-result-in-Eop c).After-read_run-r c.in-Eop.is, c.requires.bop_bytes_in_bounds) }
 
-pub overflow_add-result-in-Eop-2 : goal.overflow_add-result-in-Eop-2
-overflow_add-result-in-Eop-2 c = record { fits = omega (arith, within (goal.at.overflow_add-result-in-Eop-2 c).After-read_run-r c.in-Eop.is, c.requires.bop_bytes_in_bounds) }
+-- a refusal that is made at a place
+made : {r : Refusal} {q : Reason} {i : ℕ} {x : Shown} → r ≡ record { reason = q; place = i } → x ≡ refused_at (number_in q) i → x ≡ refused_at (number_in r.reason) r.place
+made e h = h ∙ ap (λ (r : Refusal). refused_at (number_in r.reason) r.place) (sym e)
 
 pub returns-in-Fault : goal.returns-in-Fault
 unfolding page_then
 returns-in-Fault c =
-    (λ rest. ap (λ (x : B.Run). page_then (c.args.at + bop_bytes) x rest) (found (goal.at.returns-in-Fault c).After-read_run-r c.in-Fault.is), still (goal.at.returns-in-Fault c).After-read_run-r)
+    (λ rest. made c.at.ensures (ap (λ (x : B.Run). page_then (c.args.at + bop_bytes) x rest) (found (goal.at.returns-in-Fault c).After-read_run-r c.in-Fault.is)), still (goal.at.returns-in-Fault c).After-read_run-r)
 
 pub returns-in-Pop : goal.returns-in-Pop
 unfolding page_then
 returns-in-Pop c =
-    (λ rest. ap (λ (x : B.Run). page_then (c.args.at + bop_bytes) x rest) (found (goal.at.returns-in-Pop c).After-read_run-r c.in-Pop.is), still (goal.at.returns-in-Pop c).After-read_run-r)
+    (λ rest. made c.at-in-Pop.ensures (ap (λ (x : B.Run). page_then (c.args.at + bop_bytes) x rest) (found (goal.at.returns-in-Pop c).After-read_run-r c.in-Pop.is)), still (goal.at.returns-in-Pop c).After-read_run-r)
 
 pub returns-in-Eop : goal.returns-in-Eop
 unfolding mark_fields

@@ -1,48 +1,33 @@
--- `dvi_reader::read_dvi` meets its contract: what the first pass finds, and the room, decide the result; the second pass writes it.
+-- `dvi_reader::read_dvi` meets its contract: the tests of the whole call, and then the two passes.
 -- Assumes nothing.
-use mathlib.Core.Path.{◌≡◌, refl, sym}
-use mathlib.Core.Bool.{true, true≢false}
-use Prim.Native.Nat.{◌≤◌}
-use lib.ListN.{length}
-use Rattle.octets.specs.Answer.{if_room, no_sheet_room}
-use Rattle.octets.specs.AnswerLaws.{gives}
-use Rattle.octets.specs.PassLaws.{pass_refused, pass_roomy, pass_whole}
+use Rattle.std.proofs.Common.{◌≡◌, refl, sym, ◌∙◌, true, ◌≤◌, length, Err}
+use Rattle.octets.specs.Answer.{outcome_of, if_room, no_sheet_room}
+use Rattle.octets.specs.AnswerLaws.{gives, gives_same, gives_answer, handed_on}
 use Rattle.sheet.specs.Readable.{max_file}
-use Rattle.sheet.specs.ReadableLaws.{call_refused, call_passed, readable}
+use Rattle.sheet.specs.ReadableLaws.{answer_refused, answer_passed, readable}
 use Rattle.sheet.specs.Shown.{shown_result}
 use Rattle.dvi.specs.File.{read_dvi}
 use Rattle.dvi.specs.Sheet.{whole_fonts, sheet_result}
 use Rattle.dvi_reader.proofs.read_dvi.Goals as goal
-use Rattle.dvi_reader.proofs.read_dvi.Goals.{Else-number-ne0}
+use Rattle.dvi_reader.proofs.read_dvi.Goals.{In_ok-call_refusal}
 
-pub returns-then-number-ne0 : goal.returns-then-number-ne0
+pub returns-in_err-call_refusal : goal.returns-in_err-call_refusal
 unfolding sheet_result
-returns-then-number-ne0 c =
+returns-in_err-call_refusal c =
     let a = c.args in
-    gives (call_refused a.dvi.now (whole_fonts a.widths.now) c.call_refusal-number.ensures _ c.if-number-ne0.true) refl refl
+    gives_answer (handed_on {x = Err c.in_err-call_refusal.field-0.0} c.from_residual.ensures.1 refl)
+    (gives (answer_refused a.dvi.now (whole_fonts a.widths.now) (sym c.in_err-call_refusal.was ∙ c.call_refusal.ensures) _) refl refl)
 
 -- the tests of the whole call are passed
-module _ (c : Else-number-ne0) where
-  passed : (length c.args.dvi.now ≤ max_file) × (whole_fonts c.args.widths.now ≡ true)
-  passed = call_passed c.args.dvi.now (whole_fonts c.args.widths.now) c.call_refusal-number.ensures c.if-number-ne0.false
+passed : (c : In_ok-call_refusal) → (length c.args.dvi.now ≤ max_file) × (whole_fonts c.args.widths.now ≡ true)
+passed c = answer_passed c.args.dvi.now (whole_fonts c.args.widths.now) (sym c.in_ok-call_refusal.was ∙ c.call_refusal.ensures)
 
-  reads : sheet_result c.args.dvi.now c.args.widths.now (length c.args.sheet.now)
-      ≡ if_room no_sheet_room (length c.args.sheet.now) (shown_result (read_dvi c.args.widths.now c.args.dvi.now))
-  unfolding sheet_result
-  reads = readable c.args.dvi.now (whole_fonts c.args.widths.now) _ passed.0 passed.1
-
-pub pass-found-requires : goal.pass-found-requires
-pass-found-requires c = record { dvi_len_bound = (passed (goal.at.pass-found-requires c).Else-number-ne0).0; roomy = λ w. absurd (true≢false (sym w)) }
-
-pub returns-in_default : goal.returns-in_default
-returns-in_default c =
-    pass_refused no_sheet_room c.answered-given.result c.pass-found.ensures c.answered-given.ensures (reads (goal.at.returns-in_default c).Else-number-ne0) c.in_default.is
-
-pub pass-requires : goal.pass-requires
-pass-requires c =
-    record { dvi_len_bound = (passed (goal.at.pass-requires c).Else-number-ne0).0; roomy = λ _. pass_roomy no_sheet_room c.answered-given.result c.pass-found.ensures c.answered-given.ensures c.in-Accepted.is }
+pub invariant_of-in_two_passes : goal.invariant_of-in_two_passes
+invariant_of-in_two_passes c = record { within = (passed (goal.at.invariant_of-in_two_passes c).In_ok-call_refusal).0 }
 
 pub returns : goal.returns
+unfolding sheet_result
 returns c =
-    let second = c.pass.ensures in
-    pass_whole no_sheet_room c.answered-given.result c.pass-found.ensures c.answered-given.ensures (reads (goal.at.returns c).Else-number-ne0) c.in-Accepted.is second
+    let a = c.args in
+    let p = passed (goal.at.returns c).In_ok-call_refusal in
+    gives_same (readable a.dvi.now (whole_fonts a.widths.now) _ p.0 p.1) c.in_two_passes.ensures

@@ -26,20 +26,20 @@ returns-then-dvi-at-lt-BOP_LENGTH c l =
     let k = length-drop (a.at + 1) a.dvi.now in
     begin_short a.last a.at (drop (a.at + 1) a.dvi.now) (omega arith)
 
-pub returns-then-previous-last : goal.returns-then-previous-last
-returns-then-previous-last c l =
+pub returns-then-signed4_at-last : goal.returns-then-signed4_at-last
+returns-then-signed4_at-last c l =
     let a = c.args in
     let s = a.dvi.now in
     let k = length-drop (a.at + 1) s in
-    begin_off a.last a.at (drop (a.at + 1) s) (omega arith) (λ e. c.if-previous-last.true (ap (of_z w32) (c.signed4_at-previous.ensures ∙ second s a.at ∙ e)))
+    begin_off a.last a.at (drop (a.at + 1) s) (omega arith) (λ e. c.if-signed4_at-last.true (ap (of_z w32) (c.signed4_at.ensures ∙ second s a.at ∙ e)))
 
 pub returns : goal.returns
 returns c l =
     let a = c.args in
     let s = a.dvi.now in
     let k = length-drop (a.at + 1) s in
-    let o = c.signed4_at-previous in
+    let o = c.signed4_at in
     let n = returned w32 c.signed4_at-n.type_inv c.signed4_at-n.ensures in
-    let e = sym (o.ensures ∙ second s a.at) ∙ same_bits {w = w32} (record { sfits = o.type_inv }) c.ranges.last c.if-previous-last.false in
-    (λ i. go_on (inside (to_z_pos w32 a.at (omega arith) i) (c.new_page-p.ensures l i)) (page_mark (n i) ∷ []) 8)
+    let e = sym (o.ensures ∙ second s a.at) ∙ same_bits {w = w32} (record { sfits = o.type_inv }) c.ranges.last c.if-signed4_at-last.false in
+    (λ i. go_on (inside (to_z_pos w32 a.at (omega arith) i) (c.new.ensures l i)) (page_mark (n i) ∷ []) 8)
     ∙ begin_on a.last a.at (drop (a.at + 1) s) (omega arith) e

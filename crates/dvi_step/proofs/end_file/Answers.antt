@@ -29,5 +29,5 @@ tested c =
 pub returns-then-is_postamble : goal.returns-then-is_postamble
 returns-then-is_postamble c ws l = end_good ws _ _ _ (after-page (goal.at.returns-then-is_postamble c).Else-last-lt0) (tested (goal.at.returns-then-is_postamble c).After-is_postamble ∙ c.if-is_postamble.true)
 
-pub returns : goal.returns
-returns c ws l = end_bad ws _ _ _ (after-page (goal.at.returns c).Else-last-lt0) (tested (goal.at.returns c).After-is_postamble ∙ c.if-is_postamble.false)
+pub returns-else-is_postamble : goal.returns-else-is_postamble
+returns-else-is_postamble c ws l = end_bad ws _ _ _ (after-page (goal.at.returns-else-is_postamble c).Else-last-lt0) (tested (goal.at.returns-else-is_postamble c).After-is_postamble ∙ c.if-is_postamble.false)

@@ -16,7 +16,7 @@ use Rattle.dvi_step.proofs.step.Goals as goal
 
 pub in_page-requires : goal.in_page-requires
 in_page-requires c =
-    (c.requires.0, (c.requires.1.1.0, subst (λ (k : State). depth_of k ≤ max_stack) c.in-Inside.is c.requires.1.1.1))
+    (c.requires.0, subst (λ (k : State). depth_of k ≤ max_stack) c.in-Inside.is c.requires.1.1)
 
 pub returns-in-Between : goal.returns-in-Between
 returns-in-Between c =

@@ -1,38 +1,39 @@
--- `extents::with_fields` meets its contract. The extents are those of the items behind; what is left of the fields falls.
--- Assumes nothing.
-use mathlib.Core.Path.{sym, subst}
-use Prim.Native.Nat.{◌-◌}
-use native.Mathlib.Omega.{arith}
-use borrow.Author.Rules.{rules}
-use lib.ListN.{length}
+-- `extents::with_fields` meets its contract: the extents are those of the items gone by.
+use Rattle.std.proofs.Common.{List, refl, sym, ap, subst, ◌∙◌}
+use Rattle.measure.specs.Place.{height_end}
 use Rattle.galley_file.specs.declared.form.Form.TheVariants.{New}
-use Rattle.galley_file.specs.ItemLaws.{size_least}
-use Rattle.extents.proofs.FieldRuns.{ExtentsAt, extents_at_start, ItemNext, extents_at_next, extents_at_whole, extents_at_end}
+use Rattle.galley_file.specs.declared.item.Item.{Item}
+use Rattle.galley_file.specs.Item.{characters_of}
+use Rattle.galley_file.specs.Galley.{AllValid, fields}
+use Rattle.galley_file.specs.Items.{items_left}
+use Rattle.galley_file.specs.ItemsLaws.{items_turn, items_over}
+use Rattle.galley_file.specs.FieldsLaws.{valid_turn}
+use Rattle.extents.specs.declared.Extents.{Extents}
+use Rattle.extents.specs.Extents.{with_characters, with_one_item}
+use Rattle.extents.proofs.ExtentsLaws.{with_item}
+use Rattle.extents.proofs.FieldsLaws.{same_items}
 use Rattle.extents.proofs.with_fields.Goals as goal
-use Rattle.extents.proofs.with_fields.Goals.{After-item_at-i}
 
-pub loop-at-init : goal.loop-at-init
-loop-at-init c = extents_at_start c.args.s.now c.args.first c.requires
+pub invariant_of-item-items : goal.invariant_of-item-items
+invariant_of-item-items c = record { whole = c.requires.fields_are ∙ ap (fields New) (sym (same_items c.args.s.now)) }
 
-pub item_at-i-requires : goal.item_at-i-requires
-item_at-i-requires c = extents_at_whole _ _ _ _ c.loop-at.invariant c.loop-at-test.true
-
--- the item that was read comes next
-next-item : (c : After-item_at-i)
-    → let a = c.args in ItemNext a.s.now a.first c.loop-at.e c.loop-at.at c.item_at-i.result
-next-item c = subst (ItemNext _ _ _ _) (sym c.item_at-i.ensures) (extents_at_next _ _ _ _ c.loop-at.invariant c.loop-at-test.true)
+pub loop-item-init : goal.loop-item-init
+unfolding characters_of with_characters
+loop-item-init c = refl
 
 pub with_item-e-requires : goal.with_item-e-requires
-with_item-e-requires c = (next-item c).is_valid
+with_item-e-requires c =
+    let l = c.loop-item in
+    let turn = sym (ap items_left c.into_iter-item-iterator.ensures.into_iter_gives) ∙ items_turn _ _ c.next.new.self l.yielded _ l.yielded_by c.next.ensures.steps c.in-Some.item c.in-Some.is in
+    valid_turn height_end l.yielded _ c.in-Some.item (subst (AllValid height_end) (sym (same_items c.args.s.now) ∙ turn) c.requires.all_valid)
 
-pub overflow_add-at : goal.overflow_add-at
-overflow_add-at c = omega (arith, (next-item (goal.at.overflow_add-at c).After-item_at-i).room, c.item_size-at.ensures, c.well_formed)
-
-pub loop-at-smaller : goal.loop-at-smaller
-loop-at-smaller c = omega (arith, (next-item (goal.at.loop-at-smaller c).After-item_at-i).room, c.item_size-at.ensures, size_least New c.item_at-i.result)
-
-pub loop-at-preserved : goal.loop-at-preserved
-loop-at-preserved c = rw (c.item_size-at.ensures, c.with_item-e.ensures) (next-item (goal.at.loop-at-preserved c).After-item_at-i).next
+pub loop-item-preserved : goal.loop-item-preserved
+loop-item-preserved c =
+    let l = c.loop-item in
+    c.with_item-e.ensures ∙ ap (λ (e : Extents). with_one_item e c.in-Some.item) l.invariant ∙ sym (with_item c.args.first l.yielded c.in-Some.item)
 
 pub returns : goal.returns
-returns c = extents_at_end _ _ _ _ c.loop-at.invariant c.loop-at-test.false
+returns c =
+    let l = c.loop-item in
+    let all = sym (ap items_left c.into_iter-item-iterator.ensures.into_iter_gives) ∙ items_over _ _ c.next.new.self l.yielded _ l.yielded_by c.next.ensures.steps c.in-None.is in
+    l.invariant ∙ sym (ap (λ (is : List Item). with_characters c.args.first (characters_of is)) (sym (same_items c.args.s.now) ∙ all))

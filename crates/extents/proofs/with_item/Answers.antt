@@ -1,7 +1,6 @@
 -- `extents::with_item` meets its contract, by the kinds of item.
 -- Assumes nothing.
 use mathlib.Core.Path.{sym, ap, ◌∙◌}
-use borrow.Author.Rules.{rules}
 use Rattle.measure.specs.Place.{height_end}
 use Rattle.galley_file.specs.Item.{valid_item}
 use Rattle.galley_file.specs.CharacterLaws.{valid_parts}

@@ -13,7 +13,7 @@ pub returns-then-max_galley-g : goal.returns-then-max_galley-g
 unfolding check_outcome
 returns-then-max_galley-g c =
     let a = c.args in
-    rw (lt-ltb (max_galley a.f) (length a.g.now) (omega (arith, c.max_galley.ensures, c.if-max_galley-g.true)))
+    rw (c.at.ensures, lt-ltb (max_galley a.f) (length a.g.now) (omega (arith, c.max_galley.ensures, c.if-max_galley-g.true)))
 
 pub check_fields-requires : goal.check_fields-requires
 check_fields-requires c =

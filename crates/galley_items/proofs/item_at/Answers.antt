@@ -11,7 +11,7 @@ use Rattle.galley_items.proofs.Places.{past_end, here_character, here_cut, here_
 use Rattle.galley_items.proofs.item_at.Goals as goal
 
 pub returns-then-g-at : goal.returns-then-g-at
-returns-then-g-at c = past_end _ _ c.if-g-at.true
+returns-then-g-at c = rw c.at.ensures (past_end _ _ c.if-g-at.true)
 
 pub character_at-requires : goal.character_at-requires
 character_at-requires c =
@@ -27,4 +27,4 @@ pub returns-then-is_cut : goal.returns-then-is_cut
 returns-then-is_cut c = here_cut _ _ (sym c.is_character.ensures ∙ c.if-is_character.false) (sym c.is_cut.ensures ∙ c.if-is_cut.true)
 
 pub returns : goal.returns
-returns c = here_none _ _ (sym c.is_character.ensures ∙ c.if-is_character.false) (sym c.is_cut.ensures ∙ c.if-is_cut.false)
+returns c = rw c.at-2.ensures (here_none _ _ (sym c.is_character.ensures ∙ c.if-is_character.false) (sym c.is_cut.ensures ∙ c.if-is_cut.false))

@@ -1,7 +1,6 @@
 -- `measure::directed` meets its contract: a byte fits, and so does its negative.
 -- Assumes nothing.
 use mathlib.Core.Bool.{true, false}
-use borrow.Author.Rules.{rules}
 use lib.IntN.{+ℤ_idl}
 use mir.Syntax.{w32}
 use Rattle.integers.specs.Parts.{integers}
@@ -9,12 +8,6 @@ use Rattle.integers.specs.Bits.{plain, plain_pos}
 use Rattle.measure.specs.Place.{directed_by}
 use Rattle.measure.specs.PlaceLaws.{directed_fits}
 use Rattle.measure.proofs.directed.Goals as goal
-
-pub overflow_sub-result : goal.overflow_sub-result
-unfolding directed_by
-overflow_sub-result c =
-    let n = c.args.by in
-    rw (plain_pos {w = w32} (directed_fits false n (omega integers)), +ℤ_idl) (directed_fits true n (omega integers))
 
 pub returns-then-backward : goal.returns-then-backward
 unfolding directed_by

@@ -1,26 +1,30 @@
 -- `report::amount_of` meets its contract: each test is the definition's.
 -- Assumes nothing.
-use Rattle.std.proofs.Common.{sym, ◌∙◌}
-use Rattle.report.proofs.Entries.{amount_tapes, amount_number, amount_other, amount_accepted, amount_refused, amount_forward, amount_backward}
+use Rattle.std.proofs.Common.{ℕ, ◌∙◌, eqb, ap, subst}
+use mir.Val.{bool_byte}
+use Rattle.figures.specs.Counting.{Tally, Tallied}
+use Rattle.report.proofs.Entries.{amount_tapes, amount_number, amount_accepted, amount_refused, amount_forward, amount_backward}
 use Rattle.report.proofs.amount_of.Goals as goal
 
 pub returns-then-i-eq0 : goal.returns-then-i-eq0
-returns-then-i-eq0 c = λ f r. let a = c.args in amount_tapes a.t a.fonts.now a.i f r c.if-i-eq0.true
-
-pub returns-then-i-number_entry : goal.returns-then-i-number_entry
-returns-then-i-number_entry c = λ f r. let a = c.args in amount_number a.t a.fonts.now a.i f r c.if-i-eq0.false c.if-i-lt-FIRST_FONT.true (c.if-i-number_entry.true ∙ c.number_entry.ensures)
+returns-then-i-eq0 c = λ f r. amount_tapes c.args.fonts.now c.args.i f c.if-i-eq0.true
 
 pub returns-then-i-lt-FIRST_FONT : goal.returns-then-i-lt-FIRST_FONT
-returns-then-i-lt-FIRST_FONT c = λ f r. let a = c.args in amount_other a.t a.fonts.now a.i f r c.if-i-eq0.false c.if-i-lt-FIRST_FONT.true (λ e. c.if-i-number_entry.false (e ∙ sym c.number_entry.ensures))
+returns-then-i-lt-FIRST_FONT c = λ f r. let a = c.args in
+    ap (λ (e : ℕ). bool_byte (eqb a.i e)) c.entry_of.ensures ∙ amount_number a.fonts.now a.i f c.if-i-eq0.false a.tally r c.if-i-lt-FIRST_FONT.true
 
-pub returns-then-t-eq0 : goal.returns-then-t-eq0
-returns-then-t-eq0 c = λ f r. let a = c.args in amount_accepted a.t a.fonts.now a.i f r c.if-i-eq0.false c.if-i-lt-FIRST_FONT.false c.if-i-lt-FORWARD.true c.if-t-eq0.true
+pub returns-in-Err : goal.returns-in-Err
+returns-in-Err c = λ f r. let a = c.args in
+    amount_refused a.fonts.now a.i f c.if-i-eq0.false c.if-i-lt-FIRST_FONT.false c.in-Err.field-0 (subst (λ (t : Tally). Tallied f t a.fonts.now) c.in-Err.is r)
 
-pub returns-then-i-lt-FORWARD : goal.returns-then-i-lt-FORWARD
-returns-then-i-lt-FORWARD c = λ f r. let a = c.args in amount_refused a.t a.fonts.now a.i f r c.if-i-eq0.false c.if-i-lt-FIRST_FONT.false c.if-i-lt-FORWARD.true c.if-t-eq0.false
+pub returns-in-Ok : goal.returns-in-Ok
+returns-in-Ok c = λ f r. let a = c.args in
+    amount_accepted a.fonts.now a.i f c.if-i-eq0.false c.if-i-lt-FIRST_FONT.false _ (subst (λ (t : Tally). Tallied f t a.fonts.now) c.in-Ok.is r) c.if-i-lt-FORWARD.true
 
-pub returns-then-i-eq-FORWARD : goal.returns-then-i-eq-FORWARD
-returns-then-i-eq-FORWARD c = λ f r. let a = c.args in amount_forward a.t a.fonts.now a.i f r c.if-i-eq0.false c.if-i-lt-FIRST_FONT.false c.if-i-lt-FORWARD.false c.if-i-eq-FORWARD.true
+pub returns-in-Ok-2 : goal.returns-in-Ok-2
+returns-in-Ok-2 c = λ f r. let a = c.args in
+    amount_forward a.fonts.now a.i f c.if-i-eq0.false c.if-i-lt-FIRST_FONT.false _ (subst (λ (t : Tally). Tallied f t a.fonts.now) c.in-Ok-2.is r) c.if-i-lt-FORWARD.false c.if-i-eq-FORWARD.true
 
-pub returns : goal.returns
-returns c = λ f r. let a = c.args in amount_backward a.t a.fonts.now a.i f r c.if-i-eq0.false c.if-i-lt-FIRST_FONT.false c.if-i-lt-FORWARD.false c.if-i-eq-FORWARD.false
+pub returns-in-Ok-3 : goal.returns-in-Ok-3
+returns-in-Ok-3 c = λ f r. let a = c.args in
+    amount_backward a.fonts.now a.i f c.if-i-eq0.false c.if-i-lt-FIRST_FONT.false _ (subst (λ (t : Tally). Tallied f t a.fonts.now) c.in-Ok-3.is r) c.if-i-lt-FORWARD.false c.if-i-eq-FORWARD.false

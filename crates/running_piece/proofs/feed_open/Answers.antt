@@ -2,55 +2,43 @@
 -- Assumes nothing.
 use mathlib.Core.Path.{◌≡◌, refl, sym, ◌∙◌}
 use mathlib.Core.Bool.{true}
-use mathlib.Core.List.{List}
-use Prim.Native.Nat.{ℕ, ◌+◌, ◌≤◌, ◌<◌}
+use Prim.Native.Nat.{◌+◌, ◌≤◌, ◌<◌}
 use native.Mathlib.Omega.{arith}
 use lib.ListN.{length}
 use Rattle.tape.specs.Tape.{max_tape}
-use Rattle.running.specs.declared.Running.{Running}
 use Rattle.running.specs.Running.{is_sound}
 use Rattle.running.specs.RunningLaws.{sound_tape, feed_unsound, feed_long, feed_fits, leaves_same}
-use Rattle.running.proofs.Replies.{refuses, fails}
+use Rattle.running.proofs.Replies.{refuses_now, fails}
 use Rattle.running_piece.proofs.feed_open.Goals as goal
-use Rattle.running_piece.proofs.feed_open.Goals.{Then-is_sound, Else-total-piece}
+use Rattle.running_piece.proofs.feed_open.Goals.{Else-not-is_sound, Else-tape-piece}
 
--- a sound tape
-module _ (k : Then-is_sound) where
-  abbrev tape : Running
-  tape = k.args.tape
+sound : (k : Else-not-is_sound) → is_sound k.args.tape ≡ true
+sound k = sym k.is_sound.ensures ∙ k.if-not-is_sound.false
 
-  abbrev piece : List ℕ
-  piece = k.args.piece.now
+pub returns-then-not-is_sound : goal.returns-then-not-is_sound
+returns-then-not-is_sound c =
+    let a = c.args in
+    refuses_now a.tape (feed_unsound a.tape a.piece.now (length a.out.now) (sym c.is_sound.ensures ∙ c.if-not-is_sound.true)) c.refusing.ensures c.at.ensures refl
 
-  abbrev room : ℕ
-  room = length k.args.out.now
+pub overflow_sub-tape : goal.overflow_sub-tape
+overflow_sub-tape c = omega (arith, (sound_tape c.args.tape (sound (goal.at.overflow_sub-tape c).Else-not-is_sound)).short)
 
-  sound : is_sound tape ≡ true
-  sound = sym k.is_sound.ensures ∙ k.if-is_sound.true
-
-pub overflow_sub-total : goal.overflow_sub-total
-overflow_sub-total c = omega (arith, (sound_tape (tape c) (sound c)).short)
-
-pub returns-then-total-piece : goal.returns-then-total-piece
-returns-then-total-piece c =
-    let k = (goal.at.returns-then-total-piece c).Then-is_sound in
-    let long : max_tape < (tape k).total + length (piece k) = omega (arith, c.if-total-piece.true, (sound_tape (tape k) (sound k)).short) in
-    fails (tape k) (feed_long (tape k) (piece k) (room k) (sound k) long) c.failing.ensures refl
+pub returns-then-tape-piece : goal.returns-then-tape-piece
+returns-then-tape-piece c =
+    let a = c.args in
+    let s = sound (goal.at.returns-then-tape-piece c).Else-not-is_sound in
+    let long : max_tape < a.tape.total + length a.piece.now = omega (arith, c.if-tape-piece.true, (sound_tape a.tape s).short) in
+    fails a.tape (feed_long a.tape a.piece.now (length a.out.now) s long) c.failing.ensures c.at-then-tape-piece.ensures refl
 
 -- within the limit
-fits : (e : Else-total-piece) → e.args.tape.total + length e.args.piece.now ≤ max_tape
-fits e = omega (arith, e.if-total-piece.false, (sound_tape e.args.tape (sym e.is_sound.ensures ∙ e.if-is_sound.true)).short)
+fits : (e : Else-tape-piece) → e.args.tape.total + length e.args.piece.now ≤ max_tape
+fits e = omega (arith, e.if-tape-piece.false, (sound_tape e.args.tape (sym e.is_sound.ensures ∙ e.if-not-is_sound.false)).short)
 
 pub feed_within-requires : goal.feed_within-requires
-feed_within-requires c = (sound (goal.at.feed_within-requires c).Then-is_sound, fits (goal.at.feed_within-requires c).Else-total-piece)
+feed_within-requires c =
+    (sound (goal.at.feed_within-requires c).Else-not-is_sound, fits (goal.at.feed_within-requires c).Else-tape-piece)
 
-pub returns-else-total-piece : goal.returns-else-total-piece
-returns-else-total-piece c =
-    let k = (goal.at.returns-else-total-piece c).Then-is_sound in
-    leaves_same (feed_fits (tape k) (piece k) (room k) (sound k) (fits (goal.at.returns-else-total-piece c).Else-total-piece)) c.feed_within.ensures
-
-pub returns-else-is_sound : goal.returns-else-is_sound
-returns-else-is_sound c =
+pub returns : goal.returns
+returns c =
     let a = c.args in
-    let unsound = feed_unsound a.tape a.piece.now (length a.out.now) (sym c.is_sound.ensures ∙ c.if-is_sound.false) in
-    refuses a.tape unsound c.refusing.ensures refl
+    leaves_same (feed_fits a.tape a.piece.now (length a.out.now) (sound (goal.at.returns c).Else-not-is_sound) (fits (goal.at.returns c).Else-tape-piece)) c.feed_within.ensures

@@ -15,8 +15,8 @@ use Rattle.tape.specs.Tape.{run}
 use Rattle.tape.specs.ResultLaws.{fields_counted}
 use Rattle.running.specs.declared.Running.{Running}
 use Rattle.running.specs.Running.{refusing, grown}
-use Rattle.running.specs.RunningLaws.{SoundTape, sound_tape, piece_fault, piece_short, piece_whole}
-use Rattle.running.proofs.Replies.{refuses, fails, puts, grew}
+use Rattle.running.specs.RunningLaws.{SoundTape, sound_tape, piece_short, piece_whole}
+use Rattle.running.proofs.Replies.{refuses_now, puts, grew}
 use Rattle.running_piece.proofs.feed_within.Goals as goal
 use Rattle.running_piece.proofs.feed_within.Goals.{After-pass-r}
 
@@ -42,42 +42,32 @@ pub pass-r-requires : goal.pass-r-requires
 pass-r-requires c =
     record { sound = ((sound_tape c.args.tape c.requires.0).state_sound, omega (arith, c.requires.1)); tape_in_bounds = λ h. absurd (true≢false (sym h)) }
 
-pub overflow_add-next : goal.overflow_add-next
-overflow_add-next c = omega (arith, c.requires.1)
-
-pub overflow_add-next-in-Reached : goal.overflow_add-next-in-Reached
-overflow_add-next-in-Reached c =
-    let s = sound (goal.at.overflow_add-next-in-Reached c).After-pass-r in
-    omega (arith, s.short, s.few, c.pass-r.ensures.few)
+pub overflow_add-result-2 : goal.overflow_add-result-2
+overflow_add-result-2 c =
+    let s = sound (goal.at.overflow_add-result-2 c).After-pass-r in
+    record { fits = omega (arith, s.short, s.few, c.pass-r.ensures.few) }
 
 pub returns-then-out-needed : goal.returns-then-out-needed
 returns-then-out-needed c =
     let a = c.args in
-    let n = length a.piece.now in
-    let room = length a.out.now in
-    let e = sym c.pass-r.ensures.ended ∙ c.in-Reached.is in
-    let short : room < length (fields New (items (goal.at.returns-then-out-needed c).After-pass-r)) = omega (arith, counted (goal.at.returns-then-out-needed c).After-pass-r, c.if-out-needed.true, ap length c.pass-r.ensures.buffer) in
-    refuses (tape (goal.at.returns-then-out-needed c).After-pass-r) (piece_short (tape (goal.at.returns-then-out-needed c).After-pass-r) n (items (goal.at.returns-then-out-needed c).After-pass-r) room e short ∙ ap (refusing (tape (goal.at.returns-then-out-needed c).After-pass-r) no_galley_room) (sym (counted (goal.at.returns-then-out-needed c).After-pass-r)))
-    c.refusing.ensures c.pass-r.ensures.buffer
+    let p = (goal.at.returns-then-out-needed c).After-pass-r in
+    let e = sym c.pass-r.ensures.ended ∙ c.in-Ok.is in
+    let short : length a.out.now < length (fields New (items p)) = omega (arith, counted p, c.if-out-needed.true, ap length c.pass-r.ensures.buffer) in
+    refuses_now a.tape (piece_short a.tape (length a.piece.now) (items p) (length a.out.now) e short ∙ ap (refusing a.tape no_galley_room) (sym (counted p)))
+    c.refusing.ensures c.at.ensures c.pass-r.ensures.buffer
 
-pub put_piece-met-requires : goal.put_piece-met-requires
-put_piece-met-requires c =
-    record { tape_value = c.requires; needed_value = (counted (goal.at.put_piece-met-requires c).After-pass-r, omega (arith, c.if-out-needed.false)) }
+pub put_piece-requires-clause-needed_value : goal.put_piece-requires-clause-needed_value
+put_piece-requires-clause-needed_value c =
+    (counted (goal.at.put_piece-requires-clause-needed_value c).After-pass-r, omega (arith, c.if-out-needed.false))
 
-pub returns-in-Fault : goal.returns-in-Fault
-returns-in-Fault c =
+pub returns : goal.returns
+returns c =
     let a = c.args in
-    let e = sym c.pass-r.ensures.ended ∙ c.in-Fault.is in
-    fails (tape (goal.at.returns-in-Fault c).After-pass-r) (piece_fault (tape (goal.at.returns-in-Fault c).After-pass-r) (length a.piece.now) (items (goal.at.returns-in-Fault c).After-pass-r) (length a.out.now) e) c.failing.ensures c.pass-r.ensures.buffer
-
-pub returns-else-out-needed : goal.returns-else-out-needed
-returns-else-out-needed c =
-    let a = c.args in
+    let p = (goal.at.returns c).After-pass-r in
     let n = length a.piece.now in
-    let is = items (goal.at.returns-else-out-needed c).After-pass-r in
-    let e = sym c.pass-r.ensures.ended ∙ c.in-Reached.is in
-    let room : length (fields New is) ≤ length a.out.now = omega (arith, counted (goal.at.returns-else-out-needed c).After-pass-r, c.if-out-needed.false, ap length c.pass-r.ensures.buffer) in
-    let q = c.put_piece-met.ensures in
+    let is = items p in
+    let e = sym c.pass-r.ensures.ended ∙ c.in-Ok.is in
+    let room : length (fields New is) ≤ length a.out.now = omega (arith, counted p, c.if-out-needed.false, ap length c.pass-r.ensures.buffer) in
+    let q = c.put_piece.ensures in
     let w = q.1 ∙ ap (λ (o : List ℕ). sets o 0 (fields New is)) c.pass-r.ensures.buffer in
-    puts (grown (tape (goal.at.returns-else-out-needed c).After-pass-r) _ n is) (fields New is) (piece_whole (tape (goal.at.returns-else-out-needed c).After-pass-r) n is (length a.out.now) e room)
-    (grew (tape (goal.at.returns-else-out-needed c).After-pass-r) _ n _ _ is _ c.pass-r.ensures.counted q.0) (counted (goal.at.returns-else-out-needed c).After-pass-r) (omega (arith, counted (goal.at.returns-else-out-needed c).After-pass-r, room)) w
+    puts (grown a.tape _ n is) (fields New is) (piece_whole a.tape n is (length a.out.now) e room) (grew a.tape _ n _ _ is _ c.pass-r.ensures.counted q.0) (counted p) (omega (arith, counted p, room)) w

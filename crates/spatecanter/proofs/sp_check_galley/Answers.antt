@@ -6,4 +6,4 @@ use Rattle.octets.specs.Answer.{numbers_of}
 use Rattle.spatecanter.proofs.sp_check_galley.Goals as goal
 
 pub returns : goal.returns
-returns c = c.numbers.ensures ∙ ap numbers_of c.check_galley-a.ensures
+returns c = c.numbers.ensures ∙ ap numbers_of c.check_galley.ensures

@@ -5,4 +5,4 @@ use Rattle.octets.specs.AnswerLaws.{gives_numbers}
 use Rattle.spatecanter.proofs.sp_galley_to_old.Goals as goal
 
 pub returns : goal.returns
-returns c = gives_numbers c.numbers.ensures c.galley_to_old-a.ensures
+returns c = gives_numbers c.numbers.ensures c.galley_to_old.ensures

@@ -9,5 +9,5 @@ use Rattle.spatecanter.proofs.sp_read_back.Goals as goal
 
 pub returns : goal.returns
 returns c =
-    let r = c.read_back-f.ensures in
+    let r = c.read_back-found.ensures in
     (c.found_numbers.ensures ∙ ap (λ (f : FoundOutcome). numbers_of (outcome_of_found f)) r, c.found_character.ensures ∙ ap found_numbers r)

@@ -5,4 +5,4 @@ use Rattle.octets.specs.AnswerLaws.{gives_numbers}
 use Rattle.spatecanter.proofs.sp_read_tape.Goals as goal
 
 pub returns : goal.returns
-returns c = gives_numbers c.numbers.ensures c.read_tape-a.ensures
+returns c = gives_numbers c.numbers.ensures c.read_tape.ensures

@@ -8,5 +8,5 @@ returns c = record {
   for_file = _;
   for_sheet = _;
   numbers_are = c.numbers.ensures;
-  reprints = c.reprint-a.ensures;
+  reprints = c.reprint.ensures;
 }

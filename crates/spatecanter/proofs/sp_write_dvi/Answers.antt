@@ -5,4 +5,4 @@ use Rattle.octets.specs.AnswerLaws.{gives_numbers}
 use Rattle.spatecanter.proofs.sp_write_dvi.Goals as goal
 
 pub returns : goal.returns
-returns c = gives_numbers c.numbers.ensures c.write_dvi-a.ensures
+returns c = gives_numbers c.numbers.ensures c.write_dvi.ensures

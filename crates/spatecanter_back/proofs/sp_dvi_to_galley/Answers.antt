@@ -5,4 +5,4 @@ use Rattle.octets.specs.AnswerLaws.{gives_numbers}
 use Rattle.spatecanter_back.proofs.sp_dvi_to_galley.Goals as goal
 
 pub returns : goal.returns
-returns c = gives_numbers c.numbers.ensures c.dvi_to_galley-a.ensures
+returns c = gives_numbers c.numbers.ensures c.dvi_to_galley.ensures

@@ -5,4 +5,4 @@ use Rattle.octets.specs.AnswerLaws.{gives_numbers}
 use Rattle.spatecanter_dvi2.proofs.sp_read_dvi2.Goals as goal
 
 pub returns : goal.returns
-returns c = gives_numbers c.numbers.ensures c.read_dvi2-a.ensures
+returns c = gives_numbers c.numbers.ensures c.read_dvi2.ensures

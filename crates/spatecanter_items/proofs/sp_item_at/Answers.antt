@@ -7,5 +7,5 @@ use Rattle.spatecanter_items.proofs.sp_item_at.Goals as goal
 
 pub returns : goal.returns
 returns c =
-    let r = c.item_at-h.ensures in
+    let r = c.item_at-here.ensures in
     (c.here_numbers.ensures ∙ ap (λ (h : HereOutcome). numbers_of (outcome_of_here h)) r, c.here_item.ensures ∙ ap here_numbers r)

@@ -5,4 +5,4 @@ use Rattle.octets.specs.AnswerLaws.{gives_numbers}
 use Rattle.spatecanter_plain.proofs.sp_read_dvi_plain.Goals as goal
 
 pub returns : goal.returns
-returns c = gives_numbers c.numbers.ensures c.read_dvi_plain-a.ensures
+returns c = gives_numbers c.numbers.ensures c.read_dvi_plain.ensures

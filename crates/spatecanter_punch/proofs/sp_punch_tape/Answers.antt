@@ -3,4 +3,4 @@
 use Rattle.spatecanter_punch.proofs.sp_punch_tape.Goals as goal
 
 pub returns : goal.returns
-returns c = record { given = _; numbers_are = c.numbers.ensures; punches = c.punch_tape-a.ensures }
+returns c = record { given = _; numbers_are = c.numbers.ensures; punches = c.punch_tape.ensures }

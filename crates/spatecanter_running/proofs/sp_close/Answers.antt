@@ -6,4 +6,4 @@ use Rattle.spatecanter_running.proofs.sp_close.Goals as goal
 
 pub returns : goal.returns
 returns c =
-    leaves_words (close_of) c.tape_in.ensures c.numbers.ensures c.words_of.ensures c.closed-f.ensures
+    leaves_words (close_of) c.tape_in.ensures c.numbers.ensures c.words_of.ensures c.closed-reply.ensures

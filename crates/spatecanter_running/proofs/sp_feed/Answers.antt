@@ -8,4 +8,4 @@ use Rattle.spatecanter_running.proofs.sp_feed.Goals as goal
 pub returns : goal.returns
 returns c =
     let a = c.args in
-    leaves_words (λ (r : Running). feed_of r a.piece.now) c.tape_in.ensures c.numbers.ensures c.words_of.ensures c.fed-f.ensures
+    leaves_words (λ (r : Running). feed_of r a.piece.now) c.tape_in.ensures c.numbers.ensures c.words_of.ensures c.fed-reply.ensures

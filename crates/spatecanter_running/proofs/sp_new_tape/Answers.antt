@@ -5,4 +5,4 @@ use Rattle.spatecanter_running.specs.Words.{Holds}
 use Rattle.spatecanter_running.proofs.sp_new_tape.Goals as goal
 
 pub returns : goal.returns
-returns c = subst (Holds _) c.new_tape-r.ensures c.words_of.ensures
+returns c = subst (Holds _) c.new.ensures c.words_of.ensures

@@ -12,7 +12,7 @@ use Rattle.tape_stretch.proofs.count_stretch.Goals as goal
 pub loop-r-init : goal.loop-r-init
 loop-r-init c =
     let a = c.args in
-    subst (λ (r : Stretch). Strides a.tape.now a.s a.d.font (stretch_at a.s a.from a.before) r × (r.count ≤ r.next)) (sym c.at_state-r.ensures)
+    subst (λ (r : Stretch). Strides a.tape.now a.s a.d.font (stretch_at a.s a.from a.before) r × (r.count ≤ r.next)) (sym c.at-r.ensures)
     (stands, c.requires.1)
 
 pub overflow_add-r : goal.overflow_add-r
@@ -21,12 +21,6 @@ overflow_add-r c =
     let l = c.loop-r in
     omega (arith, f.ensures, one_at_most (get_or c.args.tape.now l.r.next 0), l.invariant.1, c.loop-r-test.true, c.well_formed)
 
-pub overflow_add-r-in-At : goal.overflow_add-r-in-At
-overflow_add-r-in-At c = omega (arith, c.loop-r-test.true, c.well_formed)
-
-pub loop-r-smaller : goal.loop-r-smaller
-loop-r-smaller c = omega (arith, c.loop-r-test.true)
-
 pub loop-r-preserved : goal.loop-r-preserved
 loop-r-preserved c =
     let a = c.args in
@@ -34,18 +28,9 @@ loop-r-preserved c =
     let r = l.r in
     let code = get_or a.tape.now r.next 0 in
     let test = c.loop-r-test.true in
-    let takes = c.takes.ensures c.if-takes.true in
+    let takes = c.takes.ensures c.if-not-takes.false in
     let n = c.flashes_in in
-    let more = strides_more a.tape.now a.s a.d c.requires.0.1 (stretch_at a.s a.from a.before) r l.invariant.0 test takes c.in-At.c (cc (c.escape.ensures, c.escape_by.ensures, c.in-At.is)) in (
-      subst (λ (m : ℕ). Strides a.tape.now a.s a.d.font (stretch_at a.s a.from a.before) (record { next = r.next + 1; carriage = c.in-At.c; count = r.count + m })) (sym n.ensures) more,
+    let more = strides_more a.tape.now a.s a.d c.requires.0.1 (stretch_at a.s a.from a.before) r l.invariant.0 test takes c.in-Some.carriage (cc (c.escape.ensures, c.escape_by.ensures, c.in-Some.is)) in (
+      subst (λ (m : ℕ). Strides a.tape.now a.s a.d.font (stretch_at a.s a.from a.before) (record { next = r.next + 1; carriage = c.in-Some.carriage; count = r.count + m })) (sym n.ensures) more,
       omega (arith, n.ensures, one_at_most code, l.invariant.1),
     )
-
-pub returns-in-Outside : goal.returns-in-Outside
-returns-in-Outside c = c.loop-r.invariant.0
-
-pub returns-else-takes : goal.returns-else-takes
-returns-else-takes c = c.loop-r.invariant.0
-
-pub returns : goal.returns
-returns c = c.loop-r.invariant.0

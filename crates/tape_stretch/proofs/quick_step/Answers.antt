@@ -1,4 +1,4 @@
--- `tape_stretch::quick_step` meets its contract: what it answers, `Quicks` shows to be the code's effect.
+-- `tape_stretch::quick_step` meets its contract: what it answers, `Stretches` shows to be the code's effect.
 -- Assumes nothing.
 use mathlib.Core.Path.{ap, ◌∙◌}
 use Prim.Native.Nat.{◌≤◌}
@@ -16,23 +16,21 @@ returns-then-b-eq0 c = let a = c.args in quick_ignored a.s a.b c.if-b-eq0.true
 flashing : (c : Else-b-eq0) → let a = c.args in Flashing a.s a.d
 flashing c = c.requires.1.flashing (omega (arith, c.if-b-eq0.false, c.if-b-d.true))
 
-pub code_in-code-requires : goal.code_in-code-requires
-code_in-code-requires c =
+pub code-requires : goal.code-requires
+code-requires c =
     let a = c.args in
-    (half_taken a.s.modes.upper_half a.b (omega (arith, (flashing (goal.at.code_in-code-requires c).Else-b-eq0).last, c.if-b-d.true))).1
+    (half_taken a.s.modes.upper_half a.b (omega (arith, (flashing (goal.at.code-requires c).Else-b-eq0).last, c.if-b-d.true))).1
 
 pub returns-then-b-d : goal.returns-then-b-d
 returns-then-b-d c =
     let a = c.args in
-    let x = c.x-x in
-    let d = c.is_double in
-    quick_set a.s a.b a.d (flashing (goal.at.returns-then-b-d c).Else-b-eq0) (omega (arith, c.if-b-eq0.false)) c.if-b-d.true x.result c.code_in-code.result
-    (x.ensures ∙ ap (x_of a.s.carriage.0) d.ensures) c.code_in-code.ensures
+    quick_set a.s a.b a.d (flashing (goal.at.returns-then-b-d c).Else-b-eq0) (omega (arith, c.if-b-eq0.false)) c.if-b-d.true c.x.result c.code.result
+    (c.x.ensures ∙ ap (x_of a.s.carriage.0) c.is_double.ensures) c.code.ensures
 
-pub returns-in-At : goal.returns-in-At
-returns-in-At c =
+pub returns : goal.returns
+returns c =
     let a = c.args in
     let low : 128 ≤ a.b = omega (arith, c.if-b-eq0-2.false) in
     let high = c.if-d-b.false in
-    quick_at a.s a.b (c.requires.1.escaping (omega (arith, low, high))) low (omega (arith, high, c.requires.1.escapes)) c.in-At.c
-    (cc (c.escape.ensures, c.escape_size.ensures, c.in-At.is))
+    quick_at a.s a.b (c.requires.1.escaping (omega (arith, low, high))) low (omega (arith, high, c.requires.1.escapes)) c.in_ok-carriage.carriage
+    (cc (c.escape.ensures, c.escape_size.ensures, c.in_ok-carriage.was))

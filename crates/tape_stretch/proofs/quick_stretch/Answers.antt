@@ -1,16 +1,10 @@
--- `tape_stretch::quick_stretch` meets its contract: one stretch or the other; where nothing is written, the trace of the count is such a run.
+-- `tape_stretch::quick_stretch` meets its contract: where nothing is written, the trace of the count is such a run.
 -- Assumes nothing.
 use mathlib.Core.Path.{sym, subst}
 use mathlib.Core.Bool.{Bool}
 use Rattle.tape_stretch.specs.Further.{Stretched}
 use Rattle.tape_stretch.specs.FurtherLaws.{further_strides}
 use Rattle.tape_stretch.proofs.quick_stretch.Goals as goal
-
-pub returns-then-writing : goal.returns-then-writing
-returns-then-writing c =
-    let a = c.args in
-    let w = c.write_stretch in
-    subst (λ (t : Bool). Stretched t a.tape.now a.out.now a.s a.before a.cuts a.from w.result w.new.out) (sym c.if-writing.true) w.ensures
 
 pub returns-else-writing : goal.returns-else-writing
 returns-else-writing c =

@@ -1,19 +1,26 @@
 -- `xgp_reader::pass` meets its contract: the laws of a turn, a stretch of characters and one code, come first; those of the invariant are in `Passes`.
 -- Assumes nothing.
-use Rattle.std.proofs.Common.{◌≡◌, true, ◌<◌, ◌≤◌, ℕ, ◌+◌, ◌-◌, List, [], ◌++◌, length, sym, ap, ◌∙◌, arith}
-use Rattle.std.proofs.Math.ListN.{length-append}
+use Rattle.std.specs.Prelude.{Result, Err, Some, get_or, drop}
+use Rattle.std.proofs.Common.{◌≡◌, true, ◌<◌, ◌≤◌, ℕ, ◌+◌, ◌-◌, List, [], ◌++◌, length, sym, ap, ◌∙◌, subst, arith, rules, length-append, length-drop}
+use Rattle.octets.specs.Answer.{number_in}
+use Rattle.octets.specs.Pass.{Passed}
+use Rattle.octets.specs.declared.refusal.Refusal.{Refusal}
+use Rattle.sheet.specs.Shown.{shown_result}
+use Rattle.octets.specs.AnswerLaws.{handed_on}
+use Rattle.xgp.specs.Effect.{effect_of}
+use Rattle.xgp.specs.declared.state.Effect.{Effect}
 use Rattle.sheet.specs.Sheet.{Mark, mark_fields}
 use Rattle.sheet.specs.SheetLaws.{fields_most, mark_fields_append}
 use Rattle.sheet.specs.ShownLaws.{shown_room}
 use Rattle.sheet.specs.Filled.{Filled, filled_start, filled_still, filled_more, filled_refused, filled_finished}
 use Rattle.xgp.specs.State.{with_x, page_marks, set_marks}
-use Rattle.xgp.specs.File.{Step, go_on}
-use Rattle.xgp.proofs.FileLaws.{due, length_page_marks, step_here}
+use Rattle.xgp.specs.File.{Step, go_on, after_effect, read_xgp}
+use Rattle.xgp.proofs.FileLaws.{due, SoundStep, length_page_marks, step_sound, step_here}
 use Rattle.xgp.specs.declared.state.State.{State}
 use Rattle.xgp_step.specs.Step.{step_of}
 use Rattle.xgp_step.specs.declared.stretch.Stretch.{Stretch}
 use Rattle.xgp_step.proofs.Puts.{length_set_fields}
-use Rattle.xgp_reader.proofs.Passes.{Standing, standing_start, standing_next, standing_few, standing_refused, standing_ended, standing_stretch}
+use Rattle.xgp_reader.proofs.Passes.{Standing, standing_start, standing_next, standing_few, standing_refused, standing_ended, standing_stretch, stepped_off, stepped_on, stepped_within}
 use Rattle.xgp_reader.proofs.pass.Goals as goal
 use Rattle.xgp_reader.proofs.pass.Goals.{After-set_run-q}
 
@@ -85,58 +92,64 @@ set_run-q-requires-clause-room c =
       length-append (mark_fields i.0) (mark_fields ms),
     )
 
-pub returns-in-Refuse : goal.returns-in-Refuse
+pub returns-in_err-stepped : goal.returns-in_err-stepped
 unfolding with_x
-returns-in-Refuse c =
-    let k = (goal.at.returns-in-Refuse c).After-set_run-q in
-    filled_refused (filled k) (standing_refused (standing k) c.if-at-file.true c.in-Refuse.k (sym c.step-r.ensures ∙ ap (step_of (state k)) c.in-Refuse.is)) c.requires.roomy
+returns-in_err-stepped c =
+    let k = (goal.at.returns-in_err-stepped c).After-set_run-q in
+    let t = stepped_off _ _ _ c.map_err.ensures.cases c.in_err-stepped.was in
+    let q : c.in_err-stepped.field-0.0 ≡ record { reason = t.0; place = (ended k).next } = search rules in
+    let r : c.from_residual.result ≡ Err (record { reason = t.0; place = (ended k).next }) = handed_on c.from_residual.ensures.1 (ap Err (sym q)) in
+    subst (λ (x : Result ℕ Refusal). Passed (shown_result (read_xgp c.args.widths.now c.args.spacing c.args.file.now)) c.args.writing c.args.out.now x c.set_run-q.new.out) (sym r)
+    (filled_refused (filled k) {r = record { reason = t.0; place = (ended k).next }} (standing_refused (standing k) c.if-at-file.true (number_in t.0) (sym c.step-found.ensures ∙ ap (step_of (state k)) t.1)) c.requires.roomy)
 
-pub overflow_add-at-in-Go : goal.overflow_add-at-in-Go
+pub overflow_add-at-then-at-file : goal.overflow_add-at-then-at-file
 unfolding with_x
-overflow_add-at-in-Go c =
-    let k = (goal.at.overflow_add-at-in-Go c).After-set_run-q in
-    let f = further k c.if-at-file.true c.in-Go.t [] c.in-Go.n (sym c.step-r.ensures ∙ ap (step_of (state k)) c.in-Go.is) in
-    record { fits = omega (arith, f.0.within, c.requires.file_len_bound) }
+overflow_add-at-then-at-file c =
+    let a = c.args in
+    let k = (goal.at.overflow_add-at-then-at-file c).After-set_run-q in
+    let d = c.in_ok-stepped.stepped in
+    let bs = drop ((ended k).next + 1) a.file.now in
+    let e = sym c.step-found.ensures ∙ ap (step_of (state k)) (stepped_on _ _ _ c.map_err.ensures.cases c.in_ok-stepped.was) in
+    let h = stepped_within (length bs) d.after (state k) d.effect (subst (SoundStep (length bs) (state k)) e (step_sound a.widths.now a.spacing (state k) (get_or a.file.now (ended k).next 0) bs)) in
+    record { fits = omega (arith, h, length-drop ((ended k).next + 1) a.file.now, c.requires.file_len_bound, c.if-at-file.true) }
 
-pub loop-at-preserved-in-Go : goal.loop-at-preserved-in-Go
-unfolding with_x
-loop-at-preserved-in-Go c =
-    let k = (goal.at.loop-at-preserved-in-Go c).After-set_run-q in
-    let f = further k c.if-at-file.true c.in-Go.t [] c.in-Go.n (sym c.step-r.ensures ∙ ap (step_of (state k)) c.in-Go.is) in
+pub loop-at-preserved-in-Moved : goal.loop-at-preserved-in-Moved
+unfolding with_x after_effect
+loop-at-preserved-in-Moved c =
+    let k = (goal.at.loop-at-preserved-in-Moved c).After-set_run-q in
+    let d = c.in_ok-stepped.stepped in
+    let e = sym c.step-found.ensures ∙ ap (step_of (state k)) (stepped_on _ _ _ c.map_err.ensures.cases c.in_ok-stepped.was) in
+    let f = further k c.if-at-file.true c.in-Moved.t [] d.after (e ∙ ap (λ (x : Effect). after_effect d.after (effect_of (state k) (Some x))) c.in-Moved.is) in
     (_, (f.0, filled_still (filled k) _ (omega (arith, f.1))))
 
-pub show_set-next-requires : goal.show_set-next-requires
-unfolding with_x
-show_set-next-requires c =
-    let k = (goal.at.show_set-next-requires c).After-set_run-q in
+pub show_set-to-requires : goal.show_set-to-requires
+unfolding with_x after_effect
+show_set-to-requires c =
+    let k = (goal.at.show_set-to-requires c).After-set_run-q in
     let p = filled k in
     let d = length_page_marks (state k) in
     let f = fields_most (page_marks (state k)) in
     let ms = set_marks (state k) c.in-Set.y.0 c.in-Set.c in
-    let g = further k c.if-at-file.true c.in-Set.t ms c.in-Set.n (sym c.step-r.ensures ∙ ap (step_of (state k)) c.in-Set.is) in (
+    let j = c.in_ok-stepped.stepped in
+    let e = sym c.step-found.ensures ∙ ap (step_of (state k)) (stepped_on _ _ _ c.map_err.ensures.cases c.in_ok-stepped.was) in
+    let g = further k c.if-at-file.true c.in-Set.t ms j.after (e ∙ ap (λ (x : Effect). after_effect j.after (effect_of (state k) (Some x))) c.in-Set.is) in (
       omega (arith, p.near, c.requires.file_len_bound, c.if-at-file.true),
       (
         omega (arith, (standing k).pages, (standing k).within, c.requires.file_len_bound),
-        λ w. omega (arith, room k c.in-Set.t ms c.in-Set.n g w, p.put.place, p.same, length_set_fields (state k) c.in-Set.y.0 c.in-Set.c),
+        λ w. omega (arith, room k c.in-Set.t ms j.after g w, p.put.place, p.same, length_set_fields (state k) c.in-Set.y.0 c.in-Set.c),
       ),
     )
 
-pub overflow_add-at-in-Set-2 : goal.overflow_add-at-in-Set-2
-unfolding with_x
-overflow_add-at-in-Set-2 c =
-    let k = (goal.at.overflow_add-at-in-Set-2 c).After-set_run-q in
-    let ms = set_marks (state k) c.in-Set.y.0 c.in-Set.c in
-    let f = further k c.if-at-file.true c.in-Set.t ms c.in-Set.n (sym c.step-r.ensures ∙ ap (step_of (state k)) c.in-Set.is) in
-    record { fits = omega (arith, f.0.within, c.requires.file_len_bound) }
-
 pub loop-at-preserved-in-Set : goal.loop-at-preserved-in-Set
-unfolding with_x
+unfolding with_x after_effect
 loop-at-preserved-in-Set c =
     let k = (goal.at.loop-at-preserved-in-Set c).After-set_run-q in
-    let p = c.show_set-next in
+    let p = c.show_set-to in
     let ms = set_marks (state k) c.in-Set.y.0 c.in-Set.c in
-    let f = further k c.if-at-file.true c.in-Set.t ms c.in-Set.n (sym c.step-r.ensures ∙ ap (step_of (state k)) c.in-Set.is) in
-    let m = ap (λ (n : ℕ). c.loop-at.count + ((ended k).next - c.loop-at.at) + n) (c.number-more.ensures.0 c.in-Set.y.0 c.in-Set.c) in
+    let j = c.in_ok-stepped.stepped in
+    let e = sym c.step-found.ensures ∙ ap (step_of (state k)) (stepped_on _ _ _ c.map_err.ensures.cases c.in_ok-stepped.was) in
+    let f = further k c.if-at-file.true c.in-Set.t ms j.after (e ∙ ap (λ (x : Effect). after_effect j.after (effect_of (state k) (Some x))) c.in-Set.is) in
+    let m = ap (λ (n : ℕ). c.loop-at.count + ((ended k).next - c.loop-at.at) + n) (c.number-count.ensures.0 c.in-Set.y.0 c.in-Set.c) in
     (_, (f.0, filled_more (filled k) _ ms f.1 p.ensures m p.auto.out))
 
 pub loop-at-preserved : goal.loop-at-preserved

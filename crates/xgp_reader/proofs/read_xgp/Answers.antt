@@ -1,68 +1,44 @@
--- `xgp_reader::read_xgp` meets its contract: what the first pass finds, and the room, decide the result; the second pass writes it.
+-- `xgp_reader::read_xgp` meets its contract: the tests of the whole call, and then the two passes.
 -- Assumes nothing.
-use mathlib.Core.Path.{◌≡◌, refl, sym, ◌∙◌}
-use mathlib.Core.Bool.{true≢false}
-use Prim.Native.Nat.{◌*◌, ◌≤◌}
-use borrow.Author.Tests.{eqb-true}
-use lib.ListN.{length}
-use Rattle.octets.specs.Answer.{if_room, no_sheet_room}
-use Rattle.octets.specs.AnswerLaws.{gives}
-use Rattle.octets.specs.PassLaws.{pass_refused, pass_roomy, pass_whole}
-use Rattle.sheet.specs.Shown.{shown_result}
+use Rattle.std.specs.Prelude.{◌≡◌, ◌*◌, ◌≤◌, length, Err}
+use Rattle.std.proofs.Common.{refl, sym, ap, ◌∙◌, eqb-true}
+use Rattle.octets.specs.declared.refusal.Refusal.{Refusal}
+use Rattle.octets.specs.Answer.{refused, number_in, outcome_of}
+use Rattle.octets.specs.AnswerLaws.{gives, gives_same}
 use Rattle.sheet.specs.Readable.{max_file, font_chars}
-use Rattle.sheet.specs.ReadableLaws.{call_refused, call_passed}
-use Rattle.xgp.specs.File.{read_xgp}
+use Rattle.sheet.specs.ReadableLaws.{answer_refused, answer_passed}
+use Rattle.octets.specs.AnswerLaws.{handed_on}
 use Rattle.xgp.specs.Sheet.{four_fonts, xgp_result}
 use Rattle.xgp.proofs.SheetLaws.{some_negative, readable}
 use Rattle.xgp_reader.proofs.read_xgp.Goals as goal
-use Rattle.xgp_reader.proofs.read_xgp.Goals.{After-has_negative, After-pass-found}
+use Rattle.xgp_reader.proofs.read_xgp.Goals.{After-has_negative}
 
-pub returns-then-number-ne0 : goal.returns-then-number-ne0
+pub returns-in_err-call_refusal : goal.returns-in_err-call_refusal
 unfolding xgp_result
-returns-then-number-ne0 c =
+returns-in_err-call_refusal c =
     let a = c.args in
-    gives (call_refused a.file.now (four_fonts a.widths.now) c.call_refusal-number.ensures _ c.if-number-ne0.true) refl refl
+    gives (answer_refused a.file.now (four_fonts a.widths.now) c.in_err-call_refusal.ensures _)
+    (ap outcome_of (handed_on {x = Err c.in_err-call_refusal.field-0.0} c.from_residual.ensures.1 refl)) refl
 
 -- the file and the table are of lengths that are taken
-module _ (c : After-has_negative) where
-  passed : (length c.args.file.now ≤ max_file) × (length c.args.widths.now ≡ 4 * font_chars)
-  passed =
-      let k = call_passed c.args.file.now (four_fonts c.args.widths.now) c.call_refusal-number.ensures c.if-number-ne0.false in
-      (k.0, eqb-true (length c.args.widths.now) (4 * font_chars) k.1)
+passed : (c : After-has_negative) → (length c.args.file.now ≤ max_file) × (length c.args.widths.now ≡ 4 * font_chars)
+passed c =
+    let k = answer_passed c.args.file.now (four_fonts c.args.widths.now) c.in_ok-call_refusal.ensures in
+    (k.0, eqb-true (length c.args.widths.now) (4 * font_chars) k.1)
 
 pub returns-then-has_negative : goal.returns-then-has_negative
 returns-then-has_negative c =
     let a = c.args in
-    let e = sym c.has_negative.ensures ∙ c.if-has_negative.true in
-    gives (some_negative a.file.now a.spacing a.widths.now (length a.sheet.now) (passed (goal.at.returns-then-has_negative c).After-has_negative).0 (passed (goal.at.returns-then-has_negative c).After-has_negative).1 e) refl refl
+    let p = passed (goal.at.returns-then-has_negative c).After-has_negative in
+    gives (some_negative a.file.now a.spacing a.widths.now (length a.sheet.now) p.0 p.1 (sym c.has_negative.ensures ∙ c.if-has_negative.true))
+    (ap (λ (r : Refusal). refused (number_in r.reason) r.place) c.at.ensures) refl
+
+pub invariant_of-input : goal.invariant_of-input
+invariant_of-input c = record { within = (passed (goal.at.invariant_of-input c).After-has_negative).0 }
 
 -- and no width is negative
-reads : (c : After-pass-found)
-    → let a = c.args in
-    (length a.file.now ≤ max_file) × (length a.widths.now ≡ 4 * font_chars)
-    → xgp_result a.file.now a.spacing a.widths.now (length a.sheet.now)
-    ≡ if_room no_sheet_room (length a.sheet.now) (shown_result (read_xgp a.widths.now a.spacing a.file.now))
-reads c p =
-    let a = c.args in
-    let e = sym c.has_negative.ensures ∙ c.if-has_negative.false in
-    readable a.file.now a.spacing a.widths.now (length a.sheet.now) p.0 p.1 e
-
-pub pass-found-requires : goal.pass-found-requires
-pass-found-requires c = record { file_len_bound = (passed (goal.at.pass-found-requires c).After-has_negative).0; roomy = λ w. absurd (true≢false (sym w)) }
-
-pub returns-in_default : goal.returns-in_default
-returns-in_default c =
-    let p = goal.at.returns-in_default c in
-    pass_refused no_sheet_room c.answered-given.result c.pass-found.ensures c.answered-given.ensures (reads p.After-pass-found (passed p.After-has_negative)) c.in_default.is
-
-pub pass-requires : goal.pass-requires
-pass-requires c =
-    record {
-      file_len_bound = (passed (goal.at.pass-requires c).After-has_negative).0;
-      roomy = λ _. pass_roomy no_sheet_room c.answered-given.result c.pass-found.ensures c.answered-given.ensures c.in-Accepted.is;
-    }
-
 pub returns : goal.returns
 returns c =
-    let p = goal.at.returns c in
-    pass_whole no_sheet_room c.answered-given.result c.pass-found.ensures c.answered-given.ensures (reads p.After-pass-found (passed p.After-has_negative)) c.in-Accepted.is c.pass.ensures
+    let a = c.args in
+    let p = passed (goal.at.returns c).After-has_negative in
+    gives_same (readable a.file.now a.spacing a.widths.now (length a.sheet.now) p.0 p.1 (sym c.has_negative.ensures ∙ c.if-has_negative.false)) c.in_two_passes.ensures

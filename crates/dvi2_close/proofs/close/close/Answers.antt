@@ -8,24 +8,24 @@ use Rattle.dvi2.specs.Writer as W
 use Rattle.dvi2_frame.specs.Frame.{post_post_of}
 use Rattle.dvi2_reading.specs.Reading.{closing, fill}
 use Rattle.dvi2_reading.specs.Standing.{Standing}
-use Rattle.dvi2_close.proofs.Expected.{inside_to, reads_to_standing, reads_to_fault}
+use Rattle.dvi2_close.proofs.Expected.{inside_to, reads_to_standing, reads_to_fault, ended_fault}
 use Rattle.dvi2_close.proofs.Closes.{closing_is}
 use Rattle.dvi2_close.proofs.close.close.Goals as goal
 
-pub definitions-r-requires : goal.definitions-r-requires
-definitions-r-requires c = c.requires.0
+pub definitions-requires : goal.definitions-requires
+definitions-requires c = c.requires.0
 
 pub closed-requires : goal.closed-requires
-closed-requires c = (inside_to c.in-To.is c.definitions-r.ensures.0, c.requires.1)
+closed-requires c = (inside_to c.in_ok-to.was c.definitions.ensures.0, c.requires.1)
 
-pub returns-in-To : goal.returns-in-To
-returns-in-To c =
+pub returns : goal.returns
+returns c =
     let a = c.args in
     let s = a.dvi.now in
-    λ is f q k. c.closed.ensures is q (reads_to_standing c.in-To.is (c.definitions-r.ensures.1 is _ f (subst (λ (es : List (List ℕ)). Standing s (closing is es) a.at) (closing_is is a.post q) k)))
+    λ is f q k. c.closed.ensures is q (reads_to_standing c.in_ok-to.was (c.definitions.ensures.1 is _ f (subst (λ (es : List (List ℕ)). Standing s (closing is es) a.at) (closing_is is a.post q) k)))
 
-pub returns-in-Fault : goal.returns-in-Fault
-returns-in-Fault c =
+pub returns-in_err-to : goal.returns-in_err-to
+returns-in_err-to c =
     let a = c.args in
     let s = a.dvi.now in
-    λ is f q k. reads_to_fault s (closing is (post_post_of a.post ∷ fill (W.fillers (length (W.command_bytes is))))) c.in-Fault.is (c.definitions-r.ensures.1 is _ f (subst (λ (es : List (List ℕ)). Standing s (closing is es) a.at) (closing_is is a.post q) k))
+    λ is f q k. ended_fault s is _ c.from_residual.ensures.1 (reads_to_fault s (closing is (post_post_of a.post ∷ fill (W.fillers (length (W.command_bytes is))))) c.in_err-to.was (c.definitions.ensures.1 is _ f (subst (λ (es : List (List ℕ)). Standing s (closing is es) a.at) (closing_is is a.post q) k)))

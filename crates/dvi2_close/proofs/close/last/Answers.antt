@@ -2,15 +2,15 @@
 -- Assumes nothing.
 use mathlib.Core.List.{[]}
 use Rattle.dvi2_reading.specs.Reading.{closing}
-use Rattle.dvi2_close.proofs.Expected.{reads_to_standing, reads_to_fault}
+use Rattle.dvi2_close.proofs.Expected.{reads_to_standing, reads_to_fault, ended_fault}
 use Rattle.dvi2_close.proofs.Closes.{closed_more, closed_end}
 use Rattle.dvi2_close.proofs.close.last.Goals as goal
 
+pub returns-in_err-to : goal.returns-in_err-to
+returns-in_err-to c = λ is k. ended_fault _ is _ c.from_residual.ensures.1 (reads_to_fault _ (closing is []) c.in_err-to.was (c.fillers.ensures.1 is k))
+
 pub returns-then-to-dvi : goal.returns-then-to-dvi
-returns-then-to-dvi c = λ is k. closed_more _ is _ (reads_to_standing c.in-To.is (c.fillers-r.ensures.1 is k)) c.if-to-dvi.true
+returns-then-to-dvi c = λ is k. closed_more _ is _ (reads_to_standing c.in_ok-to.was (c.fillers.ensures.1 is k)) c.if-to-dvi.true
 
-pub returns-else-to-dvi : goal.returns-else-to-dvi
-returns-else-to-dvi c = λ is k. closed_end _ is _ (reads_to_standing c.in-To.is (c.fillers-r.ensures.1 is k)) c.if-to-dvi.false
-
-pub returns-in-Fault : goal.returns-in-Fault
-returns-in-Fault c = λ is k. reads_to_fault _ (closing is []) c.in-Fault.is (c.fillers-r.ensures.1 is k)
+pub returns : goal.returns
+returns c = λ is k. closed_end _ is _ (reads_to_standing c.in_ok-to.was (c.fillers.ensures.1 is k)) c.if-to-dvi.false

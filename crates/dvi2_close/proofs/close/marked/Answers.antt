@@ -3,8 +3,8 @@
 use mathlib.Core.Path.{sym, ap, ◌∙◌}
 use mathlib.Core.Bool.{Bool, cond}
 use borrow.Author.Rules.{rules}
+use Rattle.std.specs.Prelude.{Ok}
 use Rattle.dvi2.specs.Writer.{definition}
-use Rattle.dvi2_close.specs.declared.expect.Reading.TheVariants.{To}
 use Rattle.dvi2_close.specs.Reading.{expected}
 use Rattle.dvi2_close.proofs.close.marked.Goals as goal
 
@@ -16,11 +16,11 @@ returns-then-has_font c =
     let a = c.args in
     let s = a.dvi.now in
     c.expect.ensures
-    ∙ ap (expected s a.at) c.definition-e.ensures
-    ∙ ap (λ (t : Bool). cond t (expected s a.at (definition a.f)) (To a.at)) (sym c.if-has_font.true ∙ c.has_font.ensures)
+    ∙ ap (expected s a.at) c.definition.ensures
+    ∙ ap (λ (t : Bool). cond t (expected s a.at (definition a.f)) (Ok a.at)) (sym c.if-has_font.true ∙ c.has_font.ensures)
 
-pub returns : goal.returns
-returns c =
+pub returns-else-has_font : goal.returns-else-has_font
+returns-else-has_font c =
     let a = c.args in
     let s = a.dvi.now in
-    ap (λ (t : Bool). cond t (expected s a.at (definition a.f)) (To a.at)) (sym c.if-has_font.false ∙ c.has_font.ensures)
+    ap (λ (t : Bool). cond t (expected s a.at (definition a.f)) (Ok a.at)) (sym c.if-has_font.false ∙ c.has_font.ensures)

@@ -20,8 +20,8 @@ returns-then-magnitude-lt128 c =
     let h : mag c.args.z < 128 = omega (arith, size (goal.at.returns-then-magnitude-lt128 c).After-magnitude, c.if-magnitude-lt128.true) in
     (rw (lt-ltb _ _ h), omega arith)
 
-pub returns : goal.returns
+pub returns-else-magnitude-lt128 : goal.returns-else-magnitude-lt128
 unfolding parameter_width
-returns c =
-    let h : 128 ≤ mag c.args.z = omega (arith, size (goal.at.returns c).After-magnitude, c.if-magnitude-lt128.false) in
+returns-else-magnitude-lt128 c =
+    let h : 128 ≤ mag c.args.z = omega (arith, size (goal.at.returns-else-magnitude-lt128 c).After-magnitude, c.if-magnitude-lt128.false) in
     (rw (le-ltb _ _ h) (c.signed_width.ensures.0 ∙ ap octets.width_of (plain c.ranges.z)), omega (arith, c.signed_width.ensures.1))

@@ -27,7 +27,7 @@ returns-then-out-at c =
 pub put_signed-requires : goal.put_signed-requires
 put_signed-requires c =
     let w = c.parameter_width-width in
-    (room_after c.put_byte-to.ensures 1 w.result refl (omega (arith, c.if-out-at.false)), w.ensures.1)
+    record { room = room_after c.put_byte-to.ensures 1 w.result refl (omega (arith, c.if-out-at.false)); widths = w.ensures.1 }
 
 pub returns : goal.returns
 returns c =

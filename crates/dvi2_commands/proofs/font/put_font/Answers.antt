@@ -18,13 +18,13 @@ returns-then-known c =
     let a = c.args in
     put_if_room_named (sym (other_font _ _ _ c.if-last-f.false ∙ ap (λ (t : Bool). font_commands t a.f) c.if-known.true)) c.put_select.ensures
 
-pub put_select-requires-2 : goal.put_select-requires-2
-put_select-requires-2 c =
+pub put_select-requires-else-known : goal.put_select-requires-else-known
+put_select-requires-else-known c =
     (omega (arith, c.requires.0, c.put_definition-to.ensures.next_is, length_definition c.args.f), c.requires.1)
 
-pub returns : goal.returns
+pub returns-else-known : goal.returns-else-known
 unfolding font_commands
-returns c =
+returns-else-known c =
     let a = c.args in
     put_if_room_named (sym (other_font _ _ _ c.if-last-f.false ∙ ap (λ (t : Bool). font_commands t a.f) c.if-known.false))
-    (put_if_room_then c.put_definition-to.ensures c.put_select-2.ensures)
+    (put_if_room_then c.put_definition-to.ensures c.put_select-else-known.ensures)

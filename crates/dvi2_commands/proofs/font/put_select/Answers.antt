@@ -6,8 +6,8 @@ use Rattle.dvi2_commands.proofs.font.put_select.Goals as goal
 
 pub returns-then-f-lt-FNTNUMS : goal.returns-then-f-lt-FNTNUMS
 unfolding selects
-returns-then-f-lt-FNTNUMS c = rw (lt-ltb _ _ c.if-f-lt-FNTNUMS.true) c.put_byte.ensures
+returns-then-f-lt-FNTNUMS c = rw (lt-ltb _ _ c.if-f-lt-FNTNUMS.true) c.put_bytes.ensures
 
-pub returns : goal.returns
+pub returns-else-f-lt-FNTNUMS : goal.returns-else-f-lt-FNTNUMS
 unfolding selects
-returns c = rw (le-ltb _ _ c.if-f-lt-FNTNUMS.false) c.put_two.ensures
+returns-else-f-lt-FNTNUMS c = rw (le-ltb _ _ c.if-f-lt-FNTNUMS.false) c.put_bytes-else-f-lt-FNTNUMS.ensures

@@ -12,20 +12,20 @@ use Rattle.dvi.specs.FontOrNone.{font_some}
 use Rattle.dvi2_page.proofs.Selects.{s_low_go, s_low_bad}
 use Rattle.dvi2_page.proofs.fonts.select_low.Goals as goal
 
-pub returns-then-may_choose : goal.returns-then-may_choose
+pub returns : goal.returns
 unfolding page_state_after with_font
-returns-then-may_choose c =
+returns c =
     let a = c.args in
     let p = c.requires in
     let f = get_or a.s.now a.at 0 - 171 in
     let n : f ≡ 255 → ⊥ = λ e. omega arith in
     λ is l k.
-    ap (λ (g : PageState). go (in_page (page_state_of is g)) 0) c.with_font-g.ensures
+    ap (λ (g : PageState). go (in_page (page_state_of is g)) 0) c.with_font.ensures
     ∙ (λ i. go (in_page (record { items = is; stage = Page.chosen; position = record { font = font_some f n i; x = a.h.x.0; y = (page_position a.h).y } })) 0)
-    ∙ s_low_go a.s.now a.at a.h p.1 is l a.used.low a.used.high k p.0.1.0 p.0.1.1 (sym (c.may_choose.ensures is k) ∙ c.if-may_choose.true)
+    ∙ s_low_go a.s.now a.at a.h p.1 is l a.used.low a.used.high k p.0.1.0 p.0.1.1 (sym (c.may_choose.ensures is k) ∙ c.if-not-may_choose.false)
 
-pub returns : goal.returns
-returns c =
+pub returns-then-not-may_choose : goal.returns-then-not-may_choose
+returns-then-not-may_choose c =
     let a = c.args in
     let p = c.requires in
-    λ is l k. s_low_bad a.s.now a.at a.h p.1 is l a.used.low a.used.high k p.0.1.0 p.0.1.1 (sym (c.may_choose.ensures is k) ∙ c.if-may_choose.false)
+    λ is l k. s_low_bad a.s.now a.at a.h p.1 is l a.used.low a.used.high k p.0.1.0 p.0.1.1 (sym (c.may_choose.ensures is k) ∙ c.if-not-may_choose.true)

@@ -1,7 +1,9 @@
 -- `dvi2_state::begin::down_begins` meets its contract: no move, or the bytes of the move.
 -- Assumes nothing.
 use mathlib.Core.Path.{◌≡◌, sym, ap, ◌∙◌}
+use mathlib.Core.Bool.{not}
 use native.Mathlib.Omega.{arith}
+use borrow.Author.Tests.{eq-eqb}
 use lib.IntN.{ℤ, pos, ◌-ℤ◌, ◌*ℤ◌}
 use lib.ListN.{drop}
 use mir.Syntax.{w32}
@@ -50,13 +52,14 @@ overflow_sub-m c = rw (lower-is (goal.at.overflow_sub-m c).Start) (lower-fits (g
 pub overflow_mul-m : goal.overflow_mul-m
 overflow_mul-m c = rw (by-is (goal.at.overflow_mul-m c).Start) (by_fits (goal.at.overflow_mul-m c).Start)
 
-pub returns-then-m-eq0 : goal.returns-then-m-eq0
-returns-then-m-eq0 c =
-    still_down (drop c.args.at c.args.s.now) (page_position c.args.h) (pos 3 *ℤ c.args.to.0)
-    (sym (by-dif (goal.at.returns-then-m-eq0 c).Start) ∙ sym (by-is (goal.at.returns-then-m-eq0 c).Start) ∙ same_bits {w = w32} {b = pos 0} (rw (by-is (goal.at.returns-then-m-eq0 c).Start) (by_fits (goal.at.returns-then-m-eq0 c).Start)) (record { sfits = omega arith }) c.if-m-eq0.true)
+pub returns-else-m-ne0 : goal.returns-else-m-ne0
+returns-else-m-ne0 c =
+    ap not (eq-eqb _ _ c.if-m-ne0.false)
+    ∙ still_down (drop c.args.at c.args.s.now) (page_position c.args.h) (pos 3 *ℤ c.args.to.0)
+    (sym (by-dif (goal.at.returns-else-m-ne0 c).Start) ∙ sym (by-is (goal.at.returns-else-m-ne0 c).Start) ∙ same_bits {w = w32} {b = pos 0} (rw (by-is (goal.at.returns-else-m-ne0 c).Start) (by_fits (goal.at.returns-else-m-ne0 c).Start)) (record { sfits = omega arith }) c.if-m-ne0.false)
 
-pub returns : goal.returns
-returns c =
+pub returns-then-m-ne0 : goal.returns-then-m-ne0
+returns-then-m-ne0 c =
     c.begins_move.ensures
-    ∙ ap (λ (m : ℤ). begins (drop c.args.at c.args.s.now) (shortest 157 m)) (rw (by-is (goal.at.returns c).Start) (plain (by_fits (goal.at.returns c).Start) ∙ by-dif (goal.at.returns c).Start))
-    ∙ moves_down (drop c.args.at c.args.s.now) (page_position c.args.h) (pos 3 *ℤ c.args.to.0) (λ e. c.if-m-eq0.false (ap (of_z w32) (by-is (goal.at.returns c).Start ∙ by-dif (goal.at.returns c).Start ∙ e)))
+    ∙ ap (λ (m : ℤ). begins (drop c.args.at c.args.s.now) (shortest 157 m)) (rw (by-is (goal.at.returns-then-m-ne0 c).Start) (plain (by_fits (goal.at.returns-then-m-ne0 c).Start) ∙ by-dif (goal.at.returns-then-m-ne0 c).Start))
+    ∙ moves_down (drop c.args.at c.args.s.now) (page_position c.args.h) (pos 3 *ℤ c.args.to.0) (λ e. c.if-m-ne0.true (ap (of_z w32) (by-is (goal.at.returns-then-m-ne0 c).Start ∙ by-dif (goal.at.returns-then-m-ne0 c).Start ∙ e)))

@@ -1,7 +1,9 @@
 -- `dvi2_state::begin::right_begins` meets its contract: no move, no place for a character, or the bytes of the move.
 -- Assumes nothing.
 use mathlib.Core.Path.{◌≡◌, sym, ap, ◌∙◌}
+use mathlib.Core.Bool.{not}
 use native.Mathlib.Omega.{arith}
+use borrow.Author.Tests.{eq-eqb}
 use lib.IntN.{ℤ, pos, ◌-ℤ◌}
 use lib.ListN.{drop}
 use mir.Syntax.{w32}
@@ -11,9 +13,9 @@ use Rattle.integers.specs.Bits.{plain, same_bits}
 use Rattle.dvi2.specs.Writer.{shortest}
 use Rattle.dvi2_reading.specs.PageReading.{begins}
 use Rattle.dvi2_state.specs.Page.{page_position}
-use Rattle.dvi2_state.proofs.Searches.{still_right, outside, moves_right}
+use Rattle.dvi2_state.proofs.Searches.{no_truth, still_right, outside, moves_right}
 use Rattle.dvi2_state.proofs.begin.right_begins.Goals as goal
-use Rattle.dvi2_state.proofs.begin.right_begins.Goals.{Start}
+use Rattle.dvi2_state.proofs.begin.right_begins.Goals.{Start, then-m-ne0, else-m-ne0}
 
 -- the move is the difference of two places
 module _ (s : Start) where
@@ -35,19 +37,28 @@ module _ (s : Start) where
 pub overflow_sub-m : goal.overflow_sub-m
 overflow_sub-m c = rw (by-is (goal.at.overflow_sub-m c).Start) (by_fits (goal.at.overflow_sub-m c).Start)
 
-pub returns-then-m-eq0 : goal.returns-then-m-eq0
-returns-then-m-eq0 c =
-    still_right (drop c.args.at c.args.s.now) (page_position c.args.h) c.args.to.0
-    (sym (by-is (goal.at.returns-then-m-eq0 c).Start) ∙ same_bits {w = w32} {b = pos 0} (rw (by-is (goal.at.returns-then-m-eq0 c).Start) (by_fits (goal.at.returns-then-m-eq0 c).Start)) (record { sfits = omega arith }) c.if-m-eq0.true)
+pub returns-then-valid_in : goal.returns-then-valid_in
+returns-then-valid_in c =
+    let s = (goal.at.returns-then-valid_in c).Start in
+    elim c.if-m-ne0.branch [
+      | then-m-ne0 w ↦
+          c.begins_move.ensures
+          ∙ ap (λ (m : ℤ). begins (drop c.args.at c.args.s.now) (shortest 143 m)) (rw (by-is s) (plain (by_fits s)))
+          ∙ moves_right (drop c.args.at c.args.s.now) (page_position c.args.h) c.args.to.0 (λ e. w.if-m-ne0.true (ap (of_z w32) (by-is s ∙ e)))
+          (sym w.valid_in.ensures ∙ sym w.value-is ∙ c.if-valid_in.true)
+      | else-m-ne0 w ↦ no_truth _ c.if-valid_in.true (w.value-is ∙ ap not (eq-eqb _ _ w.if-m-ne0.false))
+    ]
 
-pub returns-then-not-valid_in : goal.returns-then-not-valid_in
-returns-then-not-valid_in c =
-    outside (drop c.args.at c.args.s.now) (page_position c.args.h) c.args.to.0 (λ e. c.if-m-eq0.false (ap (of_z w32) (by-is (goal.at.returns-then-not-valid_in c).Start ∙ e)))
-    (sym c.valid_in.ensures ∙ c.if-not-valid_in.true)
-
-pub returns : goal.returns
-returns c =
-    c.begins_move.ensures
-    ∙ ap (λ (m : ℤ). begins (drop c.args.at c.args.s.now) (shortest 143 m)) (rw (by-is (goal.at.returns c).Start) (plain (by_fits (goal.at.returns c).Start)))
-    ∙ moves_right (drop c.args.at c.args.s.now) (page_position c.args.h) c.args.to.0 (λ e. c.if-m-eq0.false (ap (of_z w32) (by-is (goal.at.returns c).Start ∙ e)))
-    (sym c.valid_in.ensures ∙ c.if-not-valid_in.false)
+pub returns-else-valid_in : goal.returns-else-valid_in
+returns-else-valid_in c =
+    let s = (goal.at.returns-else-valid_in c).Start in
+    elim c.if-m-ne0.branch [
+      | then-m-ne0 w ↦
+          c.if-valid_in.false
+          ∙ outside (drop c.args.at c.args.s.now) (page_position c.args.h) c.args.to.0 (λ e. w.if-m-ne0.true (ap (of_z w32) (by-is s ∙ e)))
+          (sym w.valid_in.ensures ∙ sym w.value-is ∙ c.if-valid_in.false)
+      | else-m-ne0 w ↦
+          c.if-valid_in.false
+          ∙ still_right (drop c.args.at c.args.s.now) (page_position c.args.h) c.args.to.0
+          (sym (by-is s) ∙ same_bits {w = w32} {b = pos 0} (rw (by-is s) (by_fits s)) (record { sfits = omega arith }) w.if-m-ne0.false)
+    ]

@@ -1,8 +1,6 @@
 -- `dvi2_turn::turn::to_page` meets its contract: the bop of the page after this one, by the tally.
 -- Assumes nothing.
 use mathlib.Core.Path.{ap, ◌∙◌}
-use native.Mathlib.Omega.{arith}
-use borrow.Author.Rules.{rules}
 use lib.IntN.{pos}
 use mir.Syntax.{w32}
 use mir.Val.{SFits}
@@ -11,18 +9,6 @@ use Rattle.integers.specs.Bits.{plain_pos}
 use Rattle.dvi2.specs.Writer.{bop_bytes}
 use Rattle.dvi2_turn.proofs.Turns.{page_reads_to}
 use Rattle.dvi2_turn.proofs.turn.to_page.Goals as goal
-
-pub overflow_cast-t : goal.overflow_cast-t
-overflow_cast-t c = omega (arith, c.requires.1.few_cuts)
-
-pub overflow_add-t : goal.overflow_add-t
-overflow_add-t c = omega (arith, c.requires.1.few_cuts)
-
-pub overflow_cast-t-2 : goal.overflow_cast-t-2
-overflow_cast-t-2 c = omega (arith, c.requires.1.bop_small)
-
-pub expect-requires : goal.expect-requires
-expect-requires c = (omega (arith, c.requires.0.0), search rules)
 
 pub returns : goal.returns
 returns c =

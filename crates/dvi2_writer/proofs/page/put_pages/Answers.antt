@@ -27,12 +27,9 @@ ends_at {o} {o'} {bs} {i} w e = subst (λ (n : ℕ). PutIfRoom o i bs o' n) e w
 pub put_bop-requires : goal.put_bop-requires
 put_bop-requires c = omega (arith, c.put_preamble-bop.ensures.next_is, length_preamble)
 
-pub put_items-p-requires : goal.put_items-p-requires
-put_items-p-requires c = c.requires
-
-pub put_byte-requires : goal.put_byte-requires
-put_byte-requires c =
-    omega (arith, c.put_items-p.ensures.0.next_is, items_bytes_most first_writing (items_of New c.args.g.now), few _ _ c.requires)
+pub put_bytes-requires : goal.put_bytes-requires
+put_bytes-requires c =
+    omega (arith, c.put_items-p.ensures.0.next_is, items_bytes_most first_writing (items_of New c.args.galley.bytes.now), few c.args.galley)
 
 pub returns : goal.returns
 unfolding pages_bytes
@@ -42,6 +39,6 @@ returns c =
     let v = c.put_items-p.ensures in
     let x = v.1.tallied in (
       put_if_room_then e
-          (put_if_room_then (ends_at b (omega (arith, e.next_is, b.next_is, length_preamble, length_bop 1 (negsuc 0)))) (put_if_room_then v.0 c.put_byte.ensures)),
+          (put_if_room_then (ends_at b (omega (arith, e.next_is, b.next_is, length_preamble, length_bop 1 (negsuc 0)))) (put_if_room_then v.0 c.put_bytes.ensures)),
       record { extents_are = x.extents_are; page_is = x.page_is; bop_is = x.bop_is },
     )

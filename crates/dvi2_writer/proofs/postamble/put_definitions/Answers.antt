@@ -1,4 +1,4 @@
--- `dvi2_writer::postamble::put_definitions` meets its contract. Written are the definitions of the marked fonts below f; what is left of 120 falls.
+-- `dvi2_writer::postamble::put_definitions` meets its contract. Written are the definitions of the marked fonts below f.
 -- Assumes nothing.
 use mathlib.Core.Path.{◌≡◌, sym}
 use mathlib.Core.List.{flatten}
@@ -11,27 +11,18 @@ use Rattle.dvi2_writer.proofs.postamble.put_definitions.Goals as goal
 
 pub loop-f-init : goal.loop-f-init
 unfolding marked_fonts flatten
-loop-f-init c = (omega arith, put_if_room_none _ _)
+loop-f-init c = put_if_room_none _ _
 
 pub put_marked-to-requires : goal.put_marked-to-requires
 put_marked-to-requires c =
     let l = c.loop-f in
-    let h : l.f < 120 = omega (arith, c.loop-f-test.true) in
-    (omega (arith, c.requires, l.invariant.0, l.invariant.1.next_is, define_most c.args.fonts.low c.args.fonts.high l.f), h)
-
-pub overflow_add-f : goal.overflow_add-f
-overflow_add-f c = omega (arith, c.loop-f-test.true)
-
-pub loop-f-smaller : goal.loop-f-smaller
-loop-f-smaller c = omega (arith, c.loop-f-test.true)
+    let h : l.f < 120 = omega arith in
+    (omega (arith, c.requires, l.invariant.next_is, define_most c.args.fonts.low c.args.fonts.high l.f), h)
 
 pub loop-f-preserved : goal.loop-f-preserved
 loop-f-preserved c =
     let l = c.loop-f in
-    (omega (arith, c.loop-f-test.true), put_if_room_named (sym (define_more _ _ l.f)) (put_if_room_then l.invariant.1 c.put_marked-to.ensures))
-
-pub shape_of-out : goal.shape_of-out
-shape_of-out c = c.loop-f.invariant.1.same_length
+    put_if_room_named (sym (define_more _ _ l.f)) (put_if_room_then l.invariant c.put_marked-to.ensures)
 
 pub returns : goal.returns
-returns c = let l = c.loop-f in let e : l.f ≡ 120 = omega (arith, l.invariant.0, c.loop-f-test.false) in rw e at l.invariant.1
+returns c = let l = c.loop-f in let e : l.f ≡ 120 = omega arith in rw e at l.invariant

@@ -1,11 +1,7 @@
-use Prim.Native.Nat.{◌-◌, ◌≤◌}
 use Rattle.extents.specs.FontMarks.{marked_fonts}
 use Rattle.dvi2.specs.Writer.{definition_bytes}
 use Rattle.octets.specs.PutIfRoom.{PutIfRoom}
 use Rattle.dvi2_writer.proofs.postamble.put_definitions.Given as goal
 
 abbrev pub invariant-loop-f : goal.invariant-loop-f
-invariant-loop-f l = (l.f ≤ 120) × PutIfRoom l.initial.out l.at (definition_bytes (marked_fonts l.f l.fonts.low l.fonts.high)) l.out l.to
-
-abbrev pub decreases-loop-f : goal.decreases-loop-f
-decreases-loop-f l = 120 - l.f
+invariant-loop-f l = PutIfRoom l.initial.out l.at (definition_bytes (marked_fonts l.f l.fonts.low l.fonts.high)) l.out l.to

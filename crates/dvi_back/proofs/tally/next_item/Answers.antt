@@ -5,42 +5,31 @@ use native.Mathlib.Omega.{arith}
 use Rattle.dvi_galley.specs.Back.{with_one_item}
 use Rattle.dvi_galley.specs.Taken.{taken_of}
 use Rattle.dvi_back.specs.Tally.{tally_of}
-use Rattle.dvi_galley.specs.declared.item.Taken.{Taken}
-use Rattle.dvi_galley.specs.declared.item.Taken.TheVariants.{Is}
 use Rattle.dvi_back.proofs.Items.{full_item, no_item, character_item, cut_item}
+use Rattle.std.specs.Prelude.{Option, Some}
+use Rattle.galley_file.specs.declared.item.Item.{Item}
 use Rattle.dvi_back.proofs.tally.next_item.Goals as goal
 
--- src/tally.rt:60:21
--- src/tally.rt:61:9
 pub returns-then-cuts-characters-ge-MAX_ITEMS : goal.returns-then-cuts-characters-ge-MAX_ITEMS
 returns-then-cuts-characters-ge-MAX_ITEMS c b e =
     let a = c.args in
     full_item a.cuts a.characters a.at b (taken_of a.i) e c.if-cuts-characters-ge-MAX_ITEMS.true
 
--- src/tally.rt:64:19
--- src/tally.rt:65:51
--- src/tally.rt:65:51
--- src/tally.rt:66:39
--- src/tally.rt:66:39
--- src/tally.rt:68:23
--- src/tally.rt:57:1
-pub returns-in-Placed : goal.returns-in-Placed
-returns-in-Placed c b e =
+pub returns-in-Some-Placed : goal.returns-in-Some-Placed
+returns-in-Some-Placed c b e =
     let a = c.args in
-    let i = c.in-Is.is ∙ ap Is c.in-Placed.is in
-    character_item a.cuts a.characters a.at b c.in-Placed.field-0 e (omega (arith, c.if-cuts-characters-ge-MAX_ITEMS.false))
-    ∙ ap (λ (k : Taken). tally_of (with_one_item b a.at (taken_of k))) (sym i)
+    let f = c.in-Some-Placed in
+    character_item a.cuts a.characters a.at b f.field-0-0 e (omega (arith, c.if-cuts-characters-ge-MAX_ITEMS.false))
+    ∙ ap (λ (k : Option Item). tally_of (with_one_item b a.at (taken_of k))) (sym (f.is ∙ ap Some (rw f.is at f.field-0-is)))
 
--- src/tally.rt:57:1
-pub returns-in-Cut : goal.returns-in-Cut
-returns-in-Cut c b e =
+pub returns-in-Some-Cut : goal.returns-in-Some-Cut
+returns-in-Some-Cut c b e =
     let a = c.args in
-    let i = c.in-Is.is ∙ ap Is c.in-Cut.is in
+    let f = c.in-Some-Cut in
     cut_item a.cuts a.characters a.at b e (omega (arith, c.if-cuts-characters-ge-MAX_ITEMS.false))
-    ∙ ap (λ (k : Taken). tally_of (with_one_item b a.at (taken_of k))) (sym i)
+    ∙ ap (λ (k : Option Item). tally_of (with_one_item b a.at (taken_of k))) (sym (f.is ∙ ap Some (rw f.is at f.field-0-is)))
 
--- src/tally.rt:57:1
-pub returns-in-Not : goal.returns-in-Not
-returns-in-Not c b e =
+pub returns-in-None : goal.returns-in-None
+returns-in-None c b e =
     let a = c.args in
-    no_item a.cuts a.characters a.at b e ∙ ap (λ (k : Taken). tally_of (with_one_item b a.at (taken_of k))) (sym c.in-Not.is)
+    no_item a.cuts a.characters a.at b e ∙ ap (λ (k : Option Item). tally_of (with_one_item b a.at (taken_of k))) (sym c.in-None.is)

@@ -26,7 +26,7 @@ pub returns : goal.returns
 unfolding head_bytes
 returns c =
     let g = c.args in
-    let fy : SFits w32 g.y.0 = search rules in
-    let fx : SFits w32 g.x.0 = search rules in
+    let fy : SFits w32 g.sizes.y.0 = search rules in
+    let fx : SFits w32 g.sizes.x.0 = search rules in
     then c.put_byte-to.ensures (then (named (sym (signed_bytes_pos 4 g.last)) c.put_nat4-to.ensures)
     (then (named (ap (signed_bytes 4) (plain fy)) c.put_signed4-to.ensures) (named (ap (signed_bytes 4) (plain fx)) c.put_signed4.ensures)))

@@ -16,8 +16,8 @@ use Rattle.dvi_frame.proofs.postamble.put_postamble.Goals.{Start}
 room : (s : Start) → s.args.at + (26 + length (definition_bytes (marked_fonts 120 s.args.e.fonts.low s.args.e.fonts.high))) ≤ length s.args.out.now
 room s = omega (arith, s.requires.1.0, length_post s.args.last s.args.at s.args.e)
 
-pub sizes_of-sizes-requires : goal.sizes_of-sizes-requires
-sizes_of-sizes-requires c = c.requires.0
+pub of-sizes-requires : goal.of-sizes-requires
+of-sizes-requires c = c.requires.0
 
 pub put_head-to-requires : goal.put_head-to-requires
 put_head-to-requires c = omega (arith, room (goal.at.put_head-to-requires c).Start)
@@ -37,6 +37,6 @@ put_trailer-requires c =
 pub returns : goal.returns
 unfolding postamble_of
 returns c =
-    let e = c.sizes_of-sizes.ensures in
+    let e = c.of-sizes.ensures in
     let l = c.args.last in
     then (named (λ i. head_bytes l (e.1 i) (e.0 i)) c.put_head-to.ensures) (then c.put_definitions-to.ensures c.put_trailer.ensures)

@@ -15,7 +15,7 @@ returns-then-n-next c =
     let f = c.ranges in
     rw (true_eq_z c.args.n c.args.next (same_bits {w = w64} (wide f.n) f.next (rw (plain f.n) at c.if-n-next.true)))
 
-pub returns : goal.returns
-returns c =
+pub returns-else-n-next : goal.returns-else-n-next
+returns-else-n-next c =
     let f = c.ranges in
     rw (false_eq_z c.args.n c.args.next (λ e. c.if-n-next.false (ap (of_z w64) (plain f.n ∙ e))))

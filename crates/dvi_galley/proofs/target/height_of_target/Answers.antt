@@ -52,6 +52,6 @@ returns-then-n-eq0 c =
       rw (true_le_z (pos 0) (pos (nat_abs (t (goal.at.returns-then-n-eq0 c).Else-z-lt0) / 32768)) (omega integers), true_le_z (pos (nat_abs (t (goal.at.returns-then-n-eq0 c).Else-z-lt0) / 32768)) (pos 1000000) (omega (integers, low (goal.at.returns-then-n-eq0 c).Else-z-lt0))),
     )
 
-pub returns : goal.returns
-returns c =
-    (height_missing (t (goal.at.returns c).Else-z-lt0) (natural (goal.at.returns c).Else-z-lt0) (rw (plain (t-fits (goal.at.returns c).Else-z-lt0)) at c.if-n-eq0.false), tt)
+pub returns-else-n-eq0 : goal.returns-else-n-eq0
+returns-else-n-eq0 c =
+    (height_missing (t (goal.at.returns-else-n-eq0 c).Else-z-lt0) (natural (goal.at.returns-else-n-eq0 c).Else-z-lt0) (rw (plain (t-fits (goal.at.returns-else-n-eq0 c).Else-z-lt0)) at c.if-n-eq0.false), tt)

@@ -15,19 +15,16 @@ use Rattle.integers.specs.Bits.{plain, plain_pos, same_bits}
 use Rattle.measure.specs.Target.{x_target, entry_x}
 use Rattle.dvi_galley.proofs.Targets.{left_of_all, right_of_all, shifted, thrice_fits, shifted_fits, shifted_natural, shifted_small, index, index_below, index_fits, index_place, place_fits, index_found, index_missing}
 use Rattle.dvi_galley.proofs.target.x_of_target.Goals as goal
-use Rattle.dvi_galley.proofs.target.x_of_target.Goals.{Else-z-2, After-target-there}
+use Rattle.dvi_galley.proofs.target.x_of_target.Goals.{Else-z-2, After-target-found, then-z-via-then-z, then-z-via-else-z+then-z-2}
 
 pub returns-then-z : goal.returns-then-z
 returns-then-z c =
     let t = c.args.t.0 in
     let f : SFits w32 t = search rules in
-    sym (left_of_all t (rw (plain f) at c.if-z.true))
-
-pub returns-then-z-2 : goal.returns-then-z-2
-returns-then-z-2 c =
-    let t = c.args.t.0 in
-    let f : SFits w32 t = search rules in
-    sym (right_of_all t (rw (plain f) at c.if-z-2.true))
+    elim c.then-z.branch [
+      | then-z-via-then-z w ↦ sym (left_of_all t (rw (plain f) at w.if-z.true))
+      | then-z-via-else-z+then-z-2 w ↦ sym (right_of_all t (rw (plain f) at w.if-z-2.true))
+    ]
 
 module _ (c : Else-z-2) where
   abbrev t : ℤ
@@ -79,28 +76,28 @@ pub overflow_add-x : goal.overflow_add-x
 overflow_add-x c =
     rw (plain (t-fits (goal.at.overflow_add-x c).Else-z-2), plain (thrice (goal.at.overflow_add-x c).Else-z-2), plain (sum (goal.at.overflow_add-x c).Else-z-2), plain_pos {w = w32} (k-fits (goal.at.overflow_add-x c).Else-z-2)) (x_fits (goal.at.overflow_add-x c).Else-z-2)
 
-pub target-there-requires : goal.target-there-requires
-target-there-requires c =
-    let p = (goal.at.target-there-requires c).Else-z-2 in
+pub target-found-requires : goal.target-found-requires
+target-found-requires c =
+    let p = (goal.at.target-found-requires c).Else-z-2 in
     let s = sum_parts (pos (k p)) (negsuc 54) in
     rw (plain (t-fits p), plain (thrice p), plain (sum p), plain_pos {w = w32} (k-fits p), plain (x_fits p))
     (record { negsuc_bound = (omega (integers, s), omega (integers, index_below (t p) (low p) (high p), s)); targets_value = search rules })
 
 -- the target there
-there-is : (c : After-target-there) → c.target-there.result.0 ≡ x_target (entry_x (k c.before.before.before))
+there-is : (c : After-target-found) → c.target-found.result.0 ≡ x_target (entry_x (k c.before.before.before))
 there-is c =
-    rw (plain (t-fits c.before.before.before), plain (thrice c.before.before.before), plain (sum c.before.before.before), plain_pos {w = w32} (k-fits c.before.before.before), plain (x_fits c.before.before.before)) at c.target-there.ensures
+    rw (plain (t-fits c.before.before.before), plain (thrice c.before.before.before), plain (sum c.before.before.before), plain_pos {w = w32} (k-fits c.before.before.before), plain (x_fits c.before.before.before)) at c.target-found.ensures
     ∙ ap x_target (index_place (t c.before.before.before) (low c.before.before.before) (high c.before.before.before))
 
-there-fits : (c : After-target-there) → SFits w32 c.target-there.result.0
+there-fits : (c : After-target-found) → SFits w32 c.target-found.result.0
 there-fits c = search rules
 
 pub returns-then-found-z : goal.returns-then-found-z
 returns-then-found-z c =
-    let q = same_bits {w = w32} (there-fits (goal.at.returns-then-found-z c).After-target-there) (t-fits (goal.at.returns-then-found-z c).Else-z-2) c.if-found-z.true in
+    let q = same_bits {w = w32} (there-fits (goal.at.returns-then-found-z c).After-target-found) (t-fits (goal.at.returns-then-found-z c).Else-z-2) c.if-found-z.true in
     rw (plain (t-fits (goal.at.returns-then-found-z c).Else-z-2), plain (thrice (goal.at.returns-then-found-z c).Else-z-2), plain (sum (goal.at.returns-then-found-z c).Else-z-2), plain_pos {w = w32} (k-fits (goal.at.returns-then-found-z c).Else-z-2), plain (x_fits (goal.at.returns-then-found-z c).Else-z-2))
-    (ap some (index_place (t (goal.at.returns-then-found-z c).Else-z-2) (low (goal.at.returns-then-found-z c).Else-z-2) (high (goal.at.returns-then-found-z c).Else-z-2)) ∙ sym (index_found (t (goal.at.returns-then-found-z c).Else-z-2) (low (goal.at.returns-then-found-z c).Else-z-2) (high (goal.at.returns-then-found-z c).Else-z-2) (sym (there-is (goal.at.returns-then-found-z c).After-target-there) ∙ q)))
+    (ap some (index_place (t (goal.at.returns-then-found-z c).Else-z-2) (low (goal.at.returns-then-found-z c).Else-z-2) (high (goal.at.returns-then-found-z c).Else-z-2)) ∙ sym (index_found (t (goal.at.returns-then-found-z c).Else-z-2) (low (goal.at.returns-then-found-z c).Else-z-2) (high (goal.at.returns-then-found-z c).Else-z-2) (sym (there-is (goal.at.returns-then-found-z c).After-target-found) ∙ q)))
 
-pub returns : goal.returns
-returns c =
-    sym (index_missing (t (goal.at.returns c).Else-z-2) (low (goal.at.returns c).Else-z-2) (high (goal.at.returns c).Else-z-2) (λ q. c.if-found-z.false (ap (of_z w32) (there-is (goal.at.returns c).After-target-there ∙ q))))
+pub returns-else-found-z : goal.returns-else-found-z
+returns-else-found-z c =
+    sym (index_missing (t (goal.at.returns-else-found-z c).Else-z-2) (low (goal.at.returns-else-found-z c).Else-z-2) (high (goal.at.returns-else-found-z c).Else-z-2) (λ q. c.if-found-z.false (ap (of_z w32) (there-is (goal.at.returns-else-found-z c).After-target-found ∙ q))))

@@ -8,11 +8,11 @@ use mir.Syntax.{w32}
 use mir.Val.{of_z}
 use Rattle.integers.specs.Bits.{same_bits}
 use Rattle.dvi_step.specs.Postamble.{after_name, FoundIn}
-use Rattle.dvi_step.specs.declared.postamble.Found.{Found}
-use Rattle.dvi_step.specs.declared.postamble.Found.TheVariants.{At}
-use Rattle.dvi_step.proofs.Postambles.{ids_short, ids_end, ids_more}
+use Prim.Native.Nat.{ℕ}
+use Rattle.std.specs.Prelude.{Option, Some}
+use Rattle.dvi_step.proofs.Postambles.{ids_short, ids_end, ids_more, none_of}
 use Rattle.dvi_step.proofs.postamble.are_definitions.Goals as goal
-use Rattle.dvi_step.proofs.postamble.are_definitions.Goals.{In-At}
+use Rattle.dvi_step.proofs.postamble.are_definitions.Goals.{In-Some}
 
 pub loop-j-init : goal.loop-j-init
 loop-j-init c = (omega arith, refl)
@@ -23,19 +23,19 @@ returns-then-s-j-lt4 c =
     let i = c.loop-j in
     sym (i.invariant.1 ∙ ids_short a.s.now i.j a.pst c.if-s-j-lt4.true)
 
-pub returns-then-id : goal.returns-then-id
-returns-then-id c =
+pub returns-then-signed4_at : goal.returns-then-signed4_at
+returns-then-signed4_at c =
     let a = c.args in
     let i = c.loop-j in
-    let n = c.signed4_at-id in
-    let e = sym n.ensures ∙ same_bits {w = w32} {b = negsuc 0} (record { sfits = n.type_inv }) (record { sfits = omega arith }) c.if-id.true in
+    let n = c.signed4_at in
+    let e = sym n.ensures ∙ same_bits {w = w32} {b = negsuc 0} (record { sfits = n.type_inv }) (record { sfits = omega arith }) c.if-signed4_at.true in
     c.is_trailer.ensures ∙ sym (i.invariant.1 ∙ ids_end a.s.now i.j a.pst (omega arith) e)
 
 -- the next ID lies further on, in the file
-further : (c : In-At) → FoundIn c.loop-j.j (At c.in-At.k) (length c.args.s.now)
+further : (c : In-Some) → FoundIn c.loop-j.j (Some c.in-Some.next) (length c.args.s.now)
 further c =
-    subst (λ (r : Found). FoundIn c.loop-j.j r (length c.args.s.now))
-    c.in-At.is c.past_definition-d.ensures.within
+    subst (λ (r : Option ℕ). FoundIn c.loop-j.j r (length c.args.s.now))
+    c.in-Some.is c.past_definition.ensures.within
 
 pub loop-j-smaller : goal.loop-j-smaller
 loop-j-smaller c = omega (arith, further c)
@@ -47,17 +47,17 @@ loop-j-preserved c =
     let s = a.s.now in (
       (further c).1,
       (i.invariant.1
-          ∙ ids_more s i.j a.pst (omega arith) (λ e. c.if-id.false (ap (of_z w32) (c.signed4_at-id.ensures ∙ e)))
-          ∙ c.past_definition-d.ensures.goes_on a.pst
-          ∙ ap (λ (r : Found). after_name a.pst r s) c.in-At.is),
+          ∙ ids_more s i.j a.pst (omega arith) (λ e. c.if-signed4_at.false (ap (of_z w32) (c.signed4_at.ensures ∙ e)))
+          ∙ c.past_definition.ensures.goes_on a.pst
+          ∙ ap (λ (r : Option ℕ). after_name a.pst r s) c.in-Some.is),
     )
 
-pub returns-in-Nothing : goal.returns-in-Nothing
-returns-in-Nothing c =
+pub returns-in_default : goal.returns-in_default
+returns-in_default c =
     let a = c.args in
     let i = c.loop-j in
     let s = a.s.now in
     sym (i.invariant.1
-    ∙ ids_more s i.j a.pst (omega arith) (λ e. c.if-id.false (ap (of_z w32) (c.signed4_at-id.ensures ∙ e)))
-    ∙ c.past_definition-d.ensures.goes_on a.pst
-    ∙ ap (λ (r : Found). after_name a.pst r s) c.in-Nothing.is)
+    ∙ ids_more s i.j a.pst (omega arith) (λ e. c.if-signed4_at.false (ap (of_z w32) (c.signed4_at.ensures ∙ e)))
+    ∙ c.past_definition.ensures.goes_on a.pst
+    ∙ ap (λ (r : Option ℕ). after_name a.pst r s) (none_of c.past_definition.result c.in_default.not-Some))

@@ -1,36 +1,19 @@
--- `dvi_step::postamble::is_filled` meets its contract. What is left decides the whole; the measure is its length.
+-- `dvi_step::postamble::is_filled` meets its contract: `all` over what is left.
 -- Assumes nothing.
-use mathlib.Core.Path.{refl, sym, ◌∙◌}
-use native.Mathlib.Omega.{arith}
-use Rattle.dvi_step.proofs.Postambles.{fill_more, fill_not, fill_none}
+use mathlib.Core.Path.{ap, ◌∙◌}
+use Prim.Native.Nat.{ℕ}
+use lib.Dec.{eqb}
+use lib.ListN.{drop}
+use Rattle.std.specs.List.{list_all}
+use Rattle.std.proofs.Common.{rules, tests}
+use Rattle.std.proofs.lemmas.List.{take_rest}
+use Rattle.std.proofs.lemmas.Iterator.{YieldsList-from_slice}
+use Rattle.std.proofs.lemmas.Iterator.Search.{all_from_yields_List}
+use Rattle.dvi_step.proofs.Postambles.{all223_is}
 use Rattle.dvi_step.proofs.postamble.is_filled.Goals as goal
-
-pub loop-j-init : goal.loop-j-init
-loop-j-init c = (omega arith, refl)
-
-pub returns-then-s-j : goal.returns-then-s-j
-returns-then-s-j c =
-    let a = c.args in
-    let i = c.loop-j in
-    sym (i.invariant.1 ∙ fill_not a.s.now i.j c.loop-j-test.true c.if-s-j.true)
-
-pub loop-j-preserved : goal.loop-j-preserved
-loop-j-preserved c =
-    let a = c.args in
-    let i = c.loop-j in
-    (omega arith, (i.invariant.1 ∙ fill_more a.s.now i.j c.loop-j-test.true c.if-s-j.false))
 
 pub returns : goal.returns
 returns c =
-    let a = c.args in
-    let i = c.loop-j in
-    sym (i.invariant.1 ∙ fill_none a.s.now i.j c.loop-j-test.false)
-
-pub bounds-s-j : goal.bounds-s-j
-bounds-s-j c = omega arith
-
-pub overflow_add-j : goal.overflow_add-j
-overflow_add-j c = omega arith
-
-pub loop-j-smaller : goal.loop-j-smaller
-loop-j-smaller c = omega arith
+    all_from_yields_List (λ b. eqb b 223) _ _ _ c.all.ensures.ran (YieldsList-from_slice _ c.iter.ensures.rest) (λ x b q k. search (rules, tests))
+    ∙ ap (list_all (λ (b : ℕ). eqb b 223)) (take_rest c.args.s.now c.args.i)
+    ∙ all223_is (drop c.args.i c.args.s.now)

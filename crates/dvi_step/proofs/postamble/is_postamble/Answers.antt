@@ -2,6 +2,7 @@
 -- Assumes nothing.
 use mathlib.Core.Path.{sym, ap, ◌∙◌}
 use Prim.Native.Nat.{◌+◌}
+use borrow.Author.Tests.{ne_eqb}
 use native.Mathlib.Omega.{arith}
 use lib.ListN.{drop, length-drop}
 use mir.Syntax.{w32}
@@ -17,19 +18,20 @@ returns-then-s-pst-lt13 c =
     let n = length-drop (a.pst + 1) a.s.now in
     postamble_short a.last a.pst (drop (a.pst + 1) a.s.now) (omega arith)
 
-pub returns-then-offset-last : goal.returns-then-offset-last
-returns-then-offset-last c =
+pub returns-else-signed4_at-last : goal.returns-else-signed4_at-last
+returns-else-signed4_at-last c =
     let a = c.args in
     let n = length-drop (a.pst + 1) a.s.now in
-    postamble_off a.last a.pst (drop (a.pst + 1) a.s.now) (omega arith) (λ e. c.if-offset-last.true (ap (of_z w32) (c.signed4_at-offset.ensures ∙ e)))
+    ne_eqb _ _ c.if-signed4_at-last.false
+    ∙ postamble_off a.last a.pst (drop (a.pst + 1) a.s.now) (omega arith) (λ e. c.if-signed4_at-last.false (ap (of_z w32) (c.signed4_at.ensures ∙ e)))
 
-pub returns : goal.returns
-returns c =
+pub returns-then-signed4_at-last : goal.returns-then-signed4_at-last
+returns-then-signed4_at-last c =
     let a = c.args in
     let s = a.s.now in
     let n = length-drop (a.pst + 1) s in
-    let o = c.signed4_at-offset in
-    let e = sym o.ensures ∙ same_bits {w = w32} (record { sfits = o.type_inv }) c.ranges.last c.if-offset-last.false in
+    let o = c.signed4_at in
+    let e = sym o.ensures ∙ same_bits {w = w32} (record { sfits = o.type_inv }) c.ranges.last c.if-signed4_at-last.true in
     c.are_definitions.ensures
     ∙ ap (definitions a.pst at_id) (sym (drop_to s 12 (a.pst + 1) (a.pst + 13) (omega arith)))
     ∙ postamble_on a.last a.pst (drop (a.pst + 1) s) (omega arith) e

@@ -1,18 +1,18 @@
 -- `dvi_step::postamble::is_trailer` meets its contract: the tests are those of `trailer`.
 -- Assumes nothing.
-use mathlib.Core.Path.{◌≡◌, sym, ap, ◌∙◌}
+use mathlib.Core.Path.{sym, ap, ◌∙◌}
+use Prim.Native.Nat.{◌+◌}
+use borrow.Author.Tests.{eqb-true, eqb-false}
 use native.Mathlib.Omega.{arith}
-use lib.IntN.{pos}
-use lib.ListN.{drop, length-drop}
+use lib.ListN.{drop, get_or, length-drop}
 use lib.Seq.{drop-drop, get_or-drop}
 use mir.Syntax.{w32}
 use mir.Val.{of_z}
 use Rattle.integers.specs.Bits.{same_bits}
-use Rattle.octets.specs.Octets.{signed_at}
 use Rattle.dvi.specs.Postamble.{all223}
 use Rattle.dvi_step.proofs.Postambles.{trailer_short, trailer_off, trailer_byte, trailer_fill}
 use Rattle.dvi_step.proofs.postamble.is_trailer.Goals as goal
-use Rattle.dvi_step.proofs.postamble.is_trailer.Goals.{Else-offset-right}
+use Rattle.dvi_step.proofs.postamble.is_trailer.Goals.{then-signed4_at-pst, else-signed4_at-pst}
 
 pub returns-then-s-i-lt9 : goal.returns-then-s-i-lt9
 returns-then-s-i-lt9 c =
@@ -20,30 +20,33 @@ returns-then-s-i-lt9 c =
     let n = length-drop a.i a.s.now in
     trailer_short a.pst (drop a.i a.s.now) (omega arith)
 
-pub returns-then-offset-right : goal.returns-then-offset-right
-returns-then-offset-right c =
-    let a = c.args in
-    let n = length-drop a.i a.s.now in
-    trailer_off a.pst (drop a.i a.s.now) (omega arith) (λ e. c.if-offset-right.true (ap (of_z w32) (c.signed4_at-offset.ensures ∙ e)))
-
--- the offset is PST's
-offset-is : (c : Else-offset-right) → signed_at 4 c.args.i c.args.s.now ≡ pos c.args.pst
-offset-is c =
-    sym c.signed4_at-offset.ensures
-    ∙ same_bits {w = w32} (record { sfits = c.signed4_at-offset.type_inv }) (record { sfits = omega arith }) c.if-offset-right.false
-
-pub returns-then-s-i-ne0 : goal.returns-then-s-i-ne0
-returns-then-s-i-ne0 c =
+pub returns-then-s-i-eq0 : goal.returns-then-s-i-eq0
+returns-then-s-i-eq0 c =
     let a = c.args in
     let s = a.s.now in
     let n = length-drop a.i s in
-    trailer_byte a.pst (drop a.i s) (omega arith) (offset-is (goal.at.returns-then-s-i-ne0 c).Else-offset-right) (λ e. c.if-s-i-ne0.true (sym (get_or-drop a.i s 4 0) ∙ e))
+    let o = c.signed4_at in
+    elim c.if-signed4_at-pst.branch [
+      | then-signed4_at-pst w ↦
+          c.is_filled.ensures
+          ∙ ap all223 (sym (drop-drop 5 a.i s))
+          ∙ trailer_fill a.pst (drop a.i s) (omega arith)
+          (sym o.ensures ∙ same_bits {w = w32} (record { sfits = o.type_inv }) (record { sfits = omega arith }) w.if-signed4_at-pst.true)
+          (get_or-drop a.i s 4 0 ∙ eqb-true (get_or s (a.i + 4) 0) 0 (sym w.value-is ∙ c.if-s-i-eq0.true))
+      | else-signed4_at-pst w ↦ absurd (w.if-signed4_at-pst.false (eqb-true _ _ (sym w.value-is ∙ c.if-s-i-eq0.true)))
+    ]
 
-pub returns : goal.returns
-returns c =
+pub returns-else-s-i-eq0 : goal.returns-else-s-i-eq0
+returns-else-s-i-eq0 c =
     let a = c.args in
     let s = a.s.now in
     let n = length-drop a.i s in
-    c.is_filled.ensures
-    ∙ ap all223 (sym (drop-drop 5 a.i s))
-    ∙ trailer_fill a.pst (drop a.i s) (omega arith) (offset-is (goal.at.returns c).Else-offset-right) (get_or-drop a.i s 4 0 ∙ c.if-s-i-ne0.false)
+    let o = c.signed4_at in
+    c.if-s-i-eq0.false
+    ∙ elim c.if-signed4_at-pst.branch [
+      | then-signed4_at-pst w ↦
+          trailer_byte a.pst (drop a.i s) (omega arith)
+          (sym o.ensures ∙ same_bits {w = w32} (record { sfits = o.type_inv }) (record { sfits = omega arith }) w.if-signed4_at-pst.true)
+          (λ e. eqb-false (get_or s (a.i + 4) 0) 0 (sym w.value-is ∙ c.if-s-i-eq0.false) (sym (get_or-drop a.i s 4 0) ∙ e))
+      | else-signed4_at-pst w ↦ trailer_off a.pst (drop a.i s) (omega arith) (λ e. w.if-signed4_at-pst.false (ap (of_z w32) (o.ensures ∙ e)))
+    ]

@@ -24,18 +24,18 @@ ends_at : {o o' bs : List ℕ} {i j k : ℕ} → Wrote o i bs o' j → j ≡ k �
 ends_at {o} {o'} {bs} {i} w e = subst (λ (n : ℕ). Wrote o i bs o' n) e w
 
 pub put_bop-requires : goal.put_bop-requires
-put_bop-requires c = omega (arith, c.requires.1, length_pages (items_of New c.args.g.now))
+put_bop-requires c = omega (arith, c.requires, length_pages (items_of New c.args.galley.bytes.now))
 
 pub put_items-p-requires : goal.put_items-p-requires
 put_items-p-requires c =
     let w = c.put_bop.ensures in
-    (c.requires.0, omega (arith, c.requires.1, length_pages (items_of New c.args.g.now), length_wrote w))
+    (omega (arith, c.requires, length_pages (items_of New c.args.galley.bytes.now), length_wrote w))
 
 pub put_byte-requires : goal.put_byte-requires
 put_byte-requires c =
     let w = c.put_bop.ensures in
     let v = c.put_items-p.ensures.0 in
-    omega (arith, c.requires.1, length_pages (items_of New c.args.g.now), v.next_is, length_wrote w, length_wrote v)
+    omega (arith, c.requires, length_pages (items_of New c.args.galley.bytes.now), v.next_is, length_wrote w, length_wrote v)
 
 pub returns : goal.returns
 unfolding pages_bytes writing_of

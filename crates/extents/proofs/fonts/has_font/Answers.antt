@@ -1,6 +1,5 @@
 -- `extents::fonts::has_font` meets its contract: its tests are those of `is_marked`.
 -- Assumes nothing.
-use borrow.Author.Rules.{rules}
 use borrow.Author.Tests.{lt-ltb, le-ltb}
 use Rattle.extents.specs.FontMarks.{digit, is_marked}
 use Rattle.extents.proofs.fonts.has_font.Goals as goal

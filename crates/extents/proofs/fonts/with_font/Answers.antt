@@ -2,7 +2,6 @@
 -- Assumes nothing.
 use mathlib.Core.Path.{refl}
 use native.Mathlib.Omega.{arith}
-use borrow.Author.Rules.{rules}
 use borrow.Author.Tests.{lt-ltb, le-ltb}
 use Rattle.extents.specs.FontMarks.{mark_low, mark_high}
 use Rattle.extents.proofs.fonts.with_font.Goals as goal

@@ -5,7 +5,6 @@ use mathlib.Core.Path.{◌≡◌, refl, sym, ap, ◌∙◌}
 use mathlib.Core.Bool.{Bool, true, false, ◌&&◌}
 use Prim.Native.Nat.{ℕ, ◌+◌, ◌≤◌}
 use native.Mathlib.Omega.{arith}
-use borrow.Author.Rules.{rules}
 use lib.IntN.{ℤ, pos, negsuc}
 use lib.Dec.{leb, ltb}
 use lib.ListN.{get_or}
@@ -21,9 +20,6 @@ use Rattle.galley_file.specs.FormLaws.{form_sizes}
 use Rattle.galley_file.specs.Character.{valid_x, valid, character_at}
 use Rattle.galley_file.proofs.character.is_valid_first.Goals as goal
 use Rattle.galley_file.proofs.character.is_valid_first.Goals.{After-character_at-c}
-
-pub nat2_at-requires : goal.nat2_at-requires
-nat2_at-requires c = omega (arith, c.requires.0, (form_sizes c.args.f).size_is)
 
 -- an x of 0 to 3,184 is valid in every size
 every-size : (d : Bool) (n : ℕ) → n ≤ 3184 → valid_x d (pos n) ≡ true

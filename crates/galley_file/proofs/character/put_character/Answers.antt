@@ -24,9 +24,6 @@ use Rattle.galley_file.proofs.character.put_character.Goals.{Start, After-put_he
 room : (s : Start) → s.args.at + (3 + (2 + (height_bytes s.args.f + 2))) ≤ length s.args.out.now
 room s = omega (arith, s.requires, (form_sizes s.args.f).size_is)
 
-pub put_head-to-requires : goal.put_head-to-requires
-put_head-to-requires c = omega (arith, room (goal.at.put_head-to-requires c).Start)
-
 -- the room after the head, after x, and after the height
 after-head : (c : After-put_head-to) → c.put_head-to.result + (2 + (height_bytes c.args.f + 2)) ≤ length c.put_head-to.new.out
 unfolding bytes

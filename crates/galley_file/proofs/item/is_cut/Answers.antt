@@ -1,5 +1,4 @@
 -- `galley_file::item::is_cut` meets its contract.
-use borrow.Author.Rules.{rules}
 use Rattle.galley_file.specs.Item.{is_cut}
 use Rattle.galley_file.proofs.item.is_cut.Goals as goal
 

@@ -1,5 +1,4 @@
 -- `galley_file::item::put_cut` meets its contract.
-use borrow.Author.Rules.{rules}
 use Rattle.octets.specs.Octets.{bytes}
 use Rattle.octets.specs.Field.{field}
 use Rattle.galley_file.specs.Item.{field_of_cut}

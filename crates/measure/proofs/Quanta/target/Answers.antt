@@ -13,11 +13,6 @@ use Rattle.measure.proofs.Quanta.target.Goals.{After-struct_told-1}
 product-fits : (c : After-struct_told-1) → SFits w32 (pos 32768 *ℤ c.args.self.0)
 product-fits c = omega (integers, scale_parts 32768 c.args.self.0)
 
-pub overflow_mul-result : goal.overflow_mul-result
-overflow_mul-result c =
-    let f : SFits w32 c.args.self.0 = search rules in
-    rw (plain f) (product-fits c)
-
 pub returns : goal.returns
 unfolding y_target
 returns c =

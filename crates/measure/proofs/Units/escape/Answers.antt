@@ -1,45 +1,29 @@
--- `measure::Units::escape` meets its contract: the test of the range says where the move ends, and what is in range fits.
+-- `measure::Units::escape` meets its contract: the place is made of what the move reached.
 -- Assumes nothing.
-use mathlib.Core.Path.{◌≡◌, sym, ap, ◌∙◌}
-use borrow.Author.Rules.{rules}
-use lib.IntN.{ℤ, ◌+ℤ◌}
-use mir.Syntax.{w32, w64}
-use mir.Val.{SFits, to_z, of_z}
-use Rattle.integers.specs.Parts.{integers}
-use Rattle.integers.specs.Bits.{plain, returned}
-use Rattle.measure.specs.Place.{carriage_end, directed_by, within, carriage_at}
-use Rattle.measure.specs.PlaceLaws.{within_range}
+use Rattle.std.proofs.Common.{rules, sym, ap, ◌∙◌, ◌≡◌, ℤ, ◌+ℤ◌, SFits}
+use Rattle.std.specs.Int.{w32}
+use Rattle.integers.specs.Bits.{plain}
+use Rattle.measure.specs.declared.Units.{Units}
+use Rattle.measure.specs.Place.{carriage_end, directed_by, reached, carriage_at}
+use Rattle.measure.specs.PlaceLaws.{reached_place, reached_none}
 use Rattle.measure.proofs.Units.escape.Goals as goal
-use Rattle.measure.proofs.Units.escape.Goals.{After-is_within, Then-is_within}
+use Rattle.measure.proofs.Units.escape.Goals.{After-reached}
 
--- where the move leads, and what the test says of it
-module _ (c : After-is_within) where
-  abbrev to : ℤ
-  to =
-      let a = c.args in
-      a.self.0 +ℤ directed_by a.backward a.by
+abbrev made : ℤ → Units
+made z = record { 0 = z }
 
-  leads : to_z w64 (of_z w64 c.moved-to.result) ≡ to
-  leads =
-      let f : SFits w32 c.args.self.0 = search rules in
-      let d = c.directed in
-      returned w64 c.moved-to.type_inv (rw (plain f, returned w32 d.type_inv d.ensures) at c.moved-to.ensures)
+-- what was reached, of the numbers themselves
+reached_is : (c : After-reached) → c.reached.result ≡ reached carriage_end (c.args.self.0 +ℤ directed_by c.args.backward c.args.by)
+reached_is c = let f : SFits w32 c.args.self.0 = search rules in c.reached.ensures ∙ ap (λ (z : ℤ). reached carriage_end (z +ℤ directed_by c.args.backward c.args.by)) (plain f)
 
-  tested : c.is_within.result ≡ within carriage_end to
-  tested = c.is_within.ensures ∙ ap (within carriage_end) leads
-
-fits : (c : Then-is_within) → SFits w32 (to c.before)
-fits c =
-    let r = within_range carriage_end (to c.before) (sym (tested c.before) ∙ c.if-is_within.true) in
-    omega (integers, r.low, r.high)
-
-pub overflow_cast-result : goal.overflow_cast-result
-overflow_cast-result c = rw (leads (goal.at.overflow_cast-result c).After-is_within) (fits c)
-
-pub returns-then-is_within : goal.returns-then-is_within
+pub returns-in_err-to : goal.returns-in_err-to
 unfolding carriage_at
-returns-then-is_within c = rw (leads (goal.at.returns-then-is_within c).After-is_within, plain (fits c), sym (tested (goal.at.returns-then-is_within c).After-is_within), c.if-is_within.true)
+returns-in_err-to c =
+    c.from_residual.ensures
+    ∙ reached_none made carriage_end _ (sym (reached_is (goal.at.returns-in_err-to c).After-reached) ∙ c.in_err-to.was)
 
-pub returns-else-is_within : goal.returns-else-is_within
+pub returns : goal.returns
 unfolding carriage_at
-returns-else-is_within c = rw (sym (tested (goal.at.returns-else-is_within c).After-is_within), c.if-is_within.false)
+returns c =
+    let f : SFits w32 c.in_ok-to.to = search rules in
+    rw (plain f) (reached_place made carriage_end _ (sym (reached_is (goal.at.returns c).After-reached) ∙ c.in_ok-to.was))

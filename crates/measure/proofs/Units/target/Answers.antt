@@ -8,7 +8,7 @@ use lib.IntN.{ℤ, pos, negsuc, nat_abs, ◌-ℤ◌}
 use lib.ListN.{get_or}
 use mir.Syntax.{w32}
 use mir.Val.{SFits, to_z, of_z}
-use Rattle.integers.specs.Parts.{integers, up, dn, dif_parts, abs_parts, range_parts, non_neg_by}
+use Rattle.integers.specs.Parts.{integers, up, dn, dif_parts, abs_parts, range_parts}
 use Rattle.integers.specs.Bits.{plain}
 use Rattle.measure.specs.Target.{x_target, entry_x}
 use Rattle.measure.proofs.TargetLaws.{target_parts, target_entry}
@@ -40,20 +40,6 @@ module _ (c : After-struct_told-2-1) where
 
   target_fits : SFits w32 (x_target x)
   target_fits = omega (integers, target_parts x)
-
-pub overflow_sub-k : goal.overflow_sub-k
-overflow_sub-k c = rw (plain (x_fits c)) (index_fits c)
-
-pub overflow_cast-k : goal.overflow_cast-k
-overflow_cast-k c =
-    rw (plain (x_fits c), plain (index_fits c))
-    (non_neg_by (index c) (omega (integers, index-parts c)), omega (integers, index_below c))
-
-pub offset_bounds-targets-k : goal.offset_bounds-targets-k
-offset_bounds-targets-k c = rw (plain (x_fits c), plain (index_fits c)) (omega (integers, index_below c))
-
-pub bounds-targets-k : goal.bounds-targets-k
-bounds-targets-k c = rw (plain (x_fits c), plain (index_fits c)) (index_below c)
 
 pub returns : goal.returns
 returns c =

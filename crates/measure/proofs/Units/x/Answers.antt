@@ -15,11 +15,6 @@ shifted c =
     let f : SFits w32 c.args.self.0 = search rules in
     omega (integers, bounds f, dif_parts c.args.self.0 (pos 55))
 
-pub overflow_sub-result : goal.overflow_sub-result
-overflow_sub-result c =
-    let f : SFits w32 c.args.self.0 = search rules in
-    rw (plain f) (shifted c)
-
 pub returns-then-double : goal.returns-then-double
 unfolding x_of
 returns-then-double c =

@@ -4,7 +4,6 @@ use native.Mathlib.Omega.{arith}
 use Rattle.octets.specs.Octets.{bytes}
 use Rattle.octets.specs.Field.{field, end_field}
 use Rattle.octets.specs.Write.{then}
-use borrow.Author.Rules.{rules}
 use Rattle.octets.proofs.field.put_end.Goals as goal
 
 pub put_nat4-requires : goal.put_nat4-requires

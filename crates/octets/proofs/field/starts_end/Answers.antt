@@ -6,7 +6,6 @@ use native.Mathlib.Omega.{arith}
 use lib.Dec.{eqb}
 use Rattle.octets.specs.Field.{starts_end}
 use Rattle.octets.specs.FieldLaws.{starts}
-use borrow.Author.Rules.{rules}
 use Rattle.octets.proofs.field.starts_end.Goals as goal
 
 pub nat4_at-requires : goal.nat4_at-requires

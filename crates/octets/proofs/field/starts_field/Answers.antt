@@ -5,7 +5,6 @@ use Rattle.octets.specs.Field.{starts_field}
 use mathlib.Core.Path.{ap}
 use Prim.Native.Nat.{ℕ}
 use lib.Dec.{eqb}
-use borrow.Author.Rules.{rules}
 use Rattle.octets.proofs.field.starts_field.Goals as goal
 
 pub returns-then-s-len : goal.returns-then-s-len

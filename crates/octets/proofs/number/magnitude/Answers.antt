@@ -2,7 +2,6 @@
 -- Assumes nothing.
 use mathlib.Core.Path.{◌≡◌, sym, ap, ◌∙◌}
 use native.Mathlib.Omega.{arith}
-use borrow.Author.Rules.{rules}
 use Rattle.integers.specs.Parts.{integers}
 use Rattle.integers.specs.Bits.{plain}
 use Rattle.octets.specs.Octets.{residue}

@@ -2,7 +2,6 @@
 -- Assumes nothing.
 use native.Mathlib.Omega.{arith}
 use Rattle.octets.specs.OctetsLaws.{nat_at_more}
-use borrow.Author.Rules.{rules}
 use Rattle.octets.proofs.number.nat3_at.Goals as goal
 
 pub returns : goal.returns

@@ -2,7 +2,6 @@
 -- Assumes nothing.
 use native.Mathlib.Omega.{arith}
 use Rattle.octets.specs.WordLaws.{nat_at_halves}
-use borrow.Author.Rules.{rules}
 use Rattle.octets.proofs.number.nat4_at.Goals as goal
 
 pub returns : goal.returns

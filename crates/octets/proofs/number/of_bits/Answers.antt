@@ -8,14 +8,7 @@ use mir.Val.{SFits}
 use Rattle.integers.specs.Parts.{integers, dif_parts}
 use Rattle.integers.specs.Bits.{plain, plain_pos}
 use Rattle.octets.specs.OctetsLaws.{twos_low, twos_high}
-use borrow.Author.Rules.{rules}
 use Rattle.octets.proofs.number.of_bits.Goals as goal
-
-pub overflow_sub-result-else-v-lt2147483648 : goal.overflow_sub-result-else-v-lt2147483648
-overflow_sub-result-else-v-lt2147483648 c =
-    let v = c.args.v in
-    let f : SFits w32 (pos (4294967295 - v)) = omega integers in
-    rw (plain_pos f) (omega (integers, dif_parts (negsuc 0) (pos (4294967295 - v))))
 
 pub returns-then-v-lt2147483648 : goal.returns-then-v-lt2147483648
 returns-then-v-lt2147483648 c =

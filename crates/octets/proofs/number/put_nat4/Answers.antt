@@ -1,7 +1,6 @@
 -- `octets::number::put_nat4` meets its contract: two bytes, and two more.
 -- Assumes nothing.
 use native.Mathlib.Omega.{arith}
-use borrow.Author.Rules.{rules}
 use Rattle.octets.specs.Octets.{bytes}
 use Rattle.octets.specs.WordLaws.{bytes_halves}
 use Rattle.octets.specs.Write.{then, named}

@@ -5,7 +5,6 @@ use mathlib.Core.List.{[], ◌∷◌}
 use Prim.Native.Nat.{ℕ, ◌%◌}
 use native.Mathlib.Nat.{div-one}
 use native.Mathlib.Omega.{arith}
-use borrow.Author.Rules.{rules}
 use Rattle.integers.specs.Bits.{plain}
 use Rattle.octets.specs.Octets.{bytes, residue}
 use Rattle.octets.specs.OctetsLaws.{word_bytes}

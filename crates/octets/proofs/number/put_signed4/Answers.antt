@@ -6,7 +6,6 @@ use native.Mathlib.Omega.{arith}
 use Rattle.integers.specs.Bits.{plain}
 use Rattle.octets.specs.Octets.{bytes, residue}
 use Rattle.octets.specs.OctetsLaws.{word_bytes}
-use borrow.Author.Rules.{rules}
 use Rattle.octets.proofs.number.put_signed4.Goals as goal
 
 pub returns : goal.returns

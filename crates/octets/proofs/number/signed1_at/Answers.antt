@@ -4,7 +4,6 @@ use mathlib.Core.Path.{sym, ◌∙◌}
 use Prim.Native.Nat.{◌<◌}
 use native.Mathlib.Omega.{arith}
 use Rattle.octets.specs.WordLaws.{nat_at_one, signed_at_shifted}
-use borrow.Author.Rules.{rules}
 use Rattle.octets.proofs.number.signed1_at.Goals as goal
 
 pub returns : goal.returns

@@ -3,7 +3,6 @@
 use Prim.Native.Nat.{◌<◌}
 use native.Mathlib.Omega.{arith}
 use Rattle.octets.specs.WordLaws.{signed_at_shifted}
-use borrow.Author.Rules.{rules}
 use Rattle.octets.proofs.number.signed3_at.Goals as goal
 
 pub returns : goal.returns

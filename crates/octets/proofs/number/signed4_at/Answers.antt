@@ -5,7 +5,6 @@ use mir.Syntax.{w32}
 use Rattle.integers.specs.Bits.{returned}
 use Rattle.octets.specs.Octets.{twos}
 use Rattle.octets.specs.OctetsLaws.{signed_at_twos}
-use borrow.Author.Rules.{rules}
 use Rattle.octets.proofs.number.signed4_at.Goals as goal
 
 pub returns : goal.returns

@@ -1,18 +1,17 @@
--- `octets::pass::answered` meets its contract: each arm is given what was found, and the test is that of the definition.
+-- `octets::pass::answered` meets its contract: a refusal is handed on, and the test is that of the definition.
 -- Assumes nothing.
-use borrow.Author.Rules.{rules}
-use borrow.Author.Tests.{lt-ltb, le-ltb}
+use Rattle.std.proofs.Common.{rules, lt-ltb, le-ltb}
 use Rattle.octets.specs.Pass.{decided}
 use Rattle.octets.proofs.pass.answered.Goals as goal
 
+pub returns-in_err-needed : goal.returns-in_err-needed
+unfolding decided
+returns-in_err-needed c = search rules
+
 pub returns-then-room-needed : goal.returns-then-room-needed
 unfolding decided
-returns-then-room-needed c = let a = c.args in rw (c.in-Needs.is, lt-ltb a.room c.in-Needs.needed c.if-room-needed.true)
+returns-then-room-needed c = rw (c.in_ok-needed.was, lt-ltb c.args.room c.in_ok-needed.needed c.if-room-needed.true, c.at.ensures)
 
-pub returns-else-room-needed : goal.returns-else-room-needed
+pub returns : goal.returns
 unfolding decided
-returns-else-room-needed c = let a = c.args in rw (c.in-Needs.is, le-ltb a.room c.in-Needs.needed c.if-room-needed.false)
-
-pub returns-in-Fault : goal.returns-in-Fault
-unfolding decided
-returns-in-Fault c = rw c.in-Fault.is
+returns c = rw (c.in_ok-needed.was, le-ltb c.args.room c.in_ok-needed.needed c.if-room-needed.false)

@@ -1,12 +1,10 @@
 -- `punch_codes::item::put_moving` meets its contract: sideways, and then up or down.
 -- Assumes nothing.
-use mathlib.Core.Path.{◌≡◌, sym, ap}
-use native.Mathlib.Omega.{arith}
+use mathlib.Core.Path.{sym}
 use mir.Syntax.{w32}
 use mir.Val.{SFits}
 use Rattle.integers.specs.Parts.{integers}
 use Rattle.integers.specs.Bits.{plain}
-use Rattle.punch_codes.specs.declared.put.Axis.{Axis}
 use Rattle.punch_codes.specs.Codes.{escapes, leads, motion_codes, moving_codes}
 use Rattle.octets.specs.Write.{put_named, put_then}
 use Rattle.octets.specs.Space.{space_named, space_first, space_then}
@@ -29,33 +27,27 @@ module _ (s : Start) where
   to-y = omega (integers, s.requires.0.1.height_in_lem.low, s.requires.0.1.height_in_lem.high)
 
 pub put_motion-to-requires : goal.put_motion-to-requires
-unfolding moving_codes
+unfolding moving_codes motion_codes
 put_motion-to-requires c =
-    let a = c.args in
-    let e = c.escapes.ensures in
-    let l : c.escapes.result.longest ≡ 127 = ap (λ (x : Axis). x.longest) e in
-    let k : c.escapes.result.code ≡ 128 = ap (λ (x : Axis). x.code) e in (
-      ((omega (arith, l), omega (arith, l, k)), (rw (plain (from-x (goal.at.put_motion-to-requires c).Start)) c.requires.0.0.carriage_in.low, rw (plain (to-x (goal.at.put_motion-to-requires c).Start)) c.requires.0.1.carriage_in.low)),
-      space_named (sym (same_motion a.s.modes.escape_back a.t.modes.escape_back e (plain (from-x (goal.at.put_motion-to-requires c).Start)) (plain (to-x (goal.at.put_motion-to-requires c).Start))))
+    let a = c.args in (
+      (rw (plain (from-x (goal.at.put_motion-to-requires c).Start)) c.requires.0.0.carriage_in.low, rw (plain (to-x (goal.at.put_motion-to-requires c).Start)) c.requires.0.1.carriage_in.low),
+      space_named (sym (same_motion escapes a.s.modes.escape_back a.t.modes.escape_back (plain (from-x (goal.at.put_motion-to-requires c).Start)) (plain (to-x (goal.at.put_motion-to-requires c).Start))))
           (space_first (motion_codes escapes a.s.modes.escape_back a.t.modes.escape_back a.s.carriage.0 a.t.carriage.0) (motion_codes leads a.s.modes.lead_back a.t.modes.lead_back a.s.height.0 a.t.height.0) c.requires.1),
     )
 
 pub put_motion-requires : goal.put_motion-requires
-unfolding moving_codes
+unfolding moving_codes motion_codes
 put_motion-requires c =
     let a = c.args in
-    let e = c.leads.ensures in
-    let l : c.leads.result.longest ≡ 31 = ap (λ (x : Axis). x.longest) e in
-    let k : c.leads.result.code ≡ 96 = ap (λ (x : Axis). x.code) e in
-    let p = put_named (same_motion a.s.modes.escape_back a.t.modes.escape_back c.escapes.ensures (plain (from-x (goal.at.put_motion-requires c).Start)) (plain (to-x (goal.at.put_motion-requires c).Start))) c.put_motion-to.ensures in (
-      ((omega (arith, l), omega (arith, l, k)), (rw (plain (from-y (goal.at.put_motion-requires c).Start)) c.requires.0.0.height_in_lem.low, rw (plain (to-y (goal.at.put_motion-requires c).Start)) c.requires.0.1.height_in_lem.low)),
-      space_named (sym (same_motion a.s.modes.lead_back a.t.modes.lead_back e (plain (from-y (goal.at.put_motion-requires c).Start)) (plain (to-y (goal.at.put_motion-requires c).Start))))
+    let p = put_named (same_motion escapes a.s.modes.escape_back a.t.modes.escape_back (plain (from-x (goal.at.put_motion-requires c).Start)) (plain (to-x (goal.at.put_motion-requires c).Start))) c.put_motion-to.ensures in (
+      (rw (plain (from-y (goal.at.put_motion-requires c).Start)) c.requires.0.0.height_in_lem.low, rw (plain (to-y (goal.at.put_motion-requires c).Start)) c.requires.0.1.height_in_lem.low),
+      space_named (sym (same_motion leads a.s.modes.lead_back a.t.modes.lead_back (plain (from-y (goal.at.put_motion-requires c).Start)) (plain (to-y (goal.at.put_motion-requires c).Start))))
           (space_then (motion_codes escapes a.s.modes.escape_back a.t.modes.escape_back a.s.carriage.0 a.t.carriage.0) (motion_codes leads a.s.modes.lead_back a.t.modes.lead_back a.s.height.0 a.t.height.0) p c.requires.1),
     )
 
 pub returns : goal.returns
-unfolding moving_codes
+unfolding moving_codes motion_codes
 returns c =
     let a = c.args in
-    put_then (put_named (same_motion a.s.modes.escape_back a.t.modes.escape_back c.escapes.ensures (plain (from-x (goal.at.returns c).Start)) (plain (to-x (goal.at.returns c).Start))) c.put_motion-to.ensures)
-    (put_named (same_motion a.s.modes.lead_back a.t.modes.lead_back c.leads.ensures (plain (from-y (goal.at.returns c).Start)) (plain (to-y (goal.at.returns c).Start))) c.put_motion.ensures)
+    put_then (put_named (same_motion escapes a.s.modes.escape_back a.t.modes.escape_back (plain (from-x (goal.at.returns c).Start)) (plain (to-x (goal.at.returns c).Start))) c.put_motion-to.ensures)
+    (put_named (same_motion leads a.s.modes.lead_back a.t.modes.lead_back (plain (from-y (goal.at.returns c).Start)) (plain (to-y (goal.at.returns c).Start))) c.put_motion.ensures)

@@ -1,35 +1,36 @@
--- `punch_codes::setting::backward_to` meets its contract: the tests are those of the definition.
+-- `punch_codes::setting::backward_to` meets its contract: the comparison makes the tests of the definition.
 -- Assumes nothing.
-use mathlib.Core.Path.{◌≡◌}
-use mathlib.Core.Bool.{false}
-use lib.Signed.{lt_z}
+use mathlib.Core.Path.{◌≡◌, refl}
+use mathlib.Core.Bool.{Bool, true, false, cond}
+use Rattle.std.specs.declared.cmp.Ordering.TheVariants.{Less, Equal, Greater}
 use Rattle.integers.specs.Bits.{plain}
 use Rattle.punch_codes.specs.Codes.{backward_to}
 use Rattle.punch_codes.proofs.setting.backward_to.Goals as goal
-use Rattle.punch_codes.proofs.setting.backward_to.Goals.{Else-to-from}
 
-pub returns-then-to-from : goal.returns-then-to-from
+module _ (old : Bool) where
+  less : (a b : Bool) → Less ≡ cond a Less (cond b Greater Equal) → true ≡ cond a true (cond b false old)
+  less true b e = refl
+  less false true e = cc
+  less false false e = cc
+
+  equal : (a b : Bool) → Equal ≡ cond a Less (cond b Greater Equal) → old ≡ cond a true (cond b false old)
+  equal true b e = cc
+  equal false true e = cc
+  equal false false e = refl
+
+  greater : (a b : Bool) → Greater ≡ cond a Less (cond b Greater Equal) → false ≡ cond a true (cond b false old)
+  greater true b e = cc
+  greater false true e = refl
+  greater false false e = cc
+
+pub returns-in-Less : goal.returns-in-Less
 unfolding backward_to
-returns-then-to-from c =
-    let f = c.ranges in
-    let l = rw (plain f.to, plain f.from) at c.if-to-from.true in
-    rw l
+returns-in-Less c = less c.args.old _ _ (rw (plain c.ranges.to, plain c.ranges.from) at c.in-Less.ensures)
 
--- `to` is not before `from`
-module _ (c : Else-to-from) where
-  not-before : lt_z c.args.to c.args.from ≡ false
-  not-before = rw (plain c.ranges.to, plain c.ranges.from) at c.if-to-from.false
-
-pub returns-then-from-to : goal.returns-then-from-to
+pub returns-in-Equal : goal.returns-in-Equal
 unfolding backward_to
-returns-then-from-to c =
-    let f = c.ranges in
-    let m = rw (plain f.to, plain f.from) at c.if-from-to.true in
-    rw (not-before (goal.at.returns-then-from-to c).Else-to-from, m)
+returns-in-Equal c = equal c.args.old _ _ (rw (plain c.ranges.to, plain c.ranges.from) at c.in-Equal.ensures)
 
-pub returns-else-from-to : goal.returns-else-from-to
+pub returns-in-Greater : goal.returns-in-Greater
 unfolding backward_to
-returns-else-from-to c =
-    let f = c.ranges in
-    let m = rw (plain f.to, plain f.from) at c.if-from-to.false in
-    rw (not-before (goal.at.returns-else-from-to c).Else-to-from, m)
+returns-in-Greater c = greater c.args.old _ _ (rw (plain c.ranges.to, plain c.ranges.from) at c.in-Greater.ensures)

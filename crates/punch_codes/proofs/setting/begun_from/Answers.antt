@@ -6,4 +6,4 @@ use Rattle.typesetter.specs.Machine.{origin, off_switch_at}
 use Rattle.punch_codes.proofs.setting.begun_from.Goals as goal
 
 pub returns : goal.returns
-returns c = ap (λ (t : State). off_switch_at t origin) c.initialized-t.ensures
+returns c = ap (λ (t : State). off_switch_at t origin) c.after_initialize.ensures

@@ -26,6 +26,6 @@ pub returns : goal.returns
 returns c =
     let a = c.args in
     let f = c.font_of-font.ensures in
-    let e = c.backward_to-escape_back.ensures ∙ (λ i. backward_to a.s.modes.escape_back (plain (carriage-fits (goal.at.returns c).Start) i) (plain (across-fits (goal.at.returns c).Start) i)) in
-    let l = c.backward_to-lead_back.ensures ∙ (λ i. backward_to a.s.modes.lead_back (plain (height-fits (goal.at.returns c).Start) i) (plain (high_fits (goal.at.returns c).Start) i)) in
+    let e = c.backward_to.ensures ∙ (λ i. backward_to a.s.modes.escape_back (plain (carriage-fits (goal.at.returns c).Start) i) (plain (across-fits (goal.at.returns c).Start) i)) in
+    let l = c.backward_to-2.ensures ∙ (λ i. backward_to a.s.modes.lead_back (plain (height-fits (goal.at.returns c).Start) i) (plain (high_fits (goal.at.returns c).Start) i)) in
     λ i. record { escape_back = e i; lead_back = l i; upper_half = upper_half_of a.c.code; upper_rail = upper_rail_of (f i); upper_mag = upper_mag_of (f i); tilt_down = tilt_down_of (f i) }

@@ -2,9 +2,7 @@
 -- Assumes nothing.
 use lib.IntN.{pos}
 use mir.Syntax.{w32}
-use mir.Val.{SFits}
-use Rattle.integers.specs.Parts.{integers}
-use Rattle.integers.specs.Bits.{plain, plain_pos}
+use Rattle.integers.specs.Bits.{plain, returned}
 use Rattle.sheet.specs.Sheet.{char_mark, mark_field}
 use Rattle.octets.specs.Write.{put_named}
 use Rattle.xgp_step.proofs.Puts.{put_one}
@@ -14,9 +12,8 @@ use Rattle.xgp_step.proofs.fields.show_char.Goals as goal
 pub returns : goal.returns
 returns c =
     let a = c.args in
-    let f : SFits w32 (pos a.s.font) = omega integers in
     let x = plain {w = w32} {z = a.s.x.0} (search rules) in
     let y = plain {w = w32} {z = a.y.0} (search rules) in
-    let e = plain_pos f in
+    let e = returned w32 c.from.type_inv c.from.ensures in
     put_one (char_mark a.s.x.0 a.y.0 (pos a.s.font) a.c)
     (put_named (λ i. mark_field (char_mark (x i) (y i) (e i) a.c)) c.show_char.ensures)

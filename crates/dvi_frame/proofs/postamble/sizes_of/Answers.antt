@@ -1,7 +1,0 @@
--- `dvi_frame::postamble::sizes_of` meets its contract: the extents are in the table's range.
--- Assumes nothing.
-use Rattle.integers.specs.Parts.{integers}
-use Rattle.dvi_frame.proofs.postamble.sizes_of.Goals as goal
-
-pub target-x-requires : goal.target-x-requires
-target-x-requires c = let h = c.requires in record { negsuc_bound = (omega (integers, h.x_least), h.x_most); targets_value = c.targets-targets.ensures }

@@ -1,8 +1,0 @@
--- `dvi_writer::plan::none` meets its contract: no byte, and the extents of no character.
--- Assumes nothing.
-use mathlib.Core.Path.{refl}
-use Rattle.dvi_writer.proofs.Passes.{plan_none}
-use Rattle.dvi_writer.proofs.plan.none.Goals as goal
-
-pub returns : goal.returns
-returns c = plan_none _ refl c.none-extents.ensures
