@@ -3,7 +3,7 @@
 use mathlib.Core.Path.{◌≡◌, refl, ap, ◌∙◌}
 use mathlib.Core.Bool.{cond}
 use mathlib.Core.List.{List, [], ◌∷◌, ◌++◌}
-use Prim.Native.Nat.{ℕ, zero, suc, ◌+◌, ◌*◌, ◌-◌, ◌≤◌}
+use Prim.Native.Nat.{ℕ, zero, suc, ◌+◌, ◌*◌, ◌-◌, ◌%◌, ◌≤◌, ◌<◌}
 use native.Mathlib.Nat.{suc-add}
 use native.Mathlib.Numerals.{add-one}
 use native.Mathlib.Omega.{arith}
@@ -13,8 +13,10 @@ use Rattle.galley_file.specs.declared.item.Item.{Item}
 use Rattle.galley_file.specs.Item.{characters_of}
 use Rattle.extents.specs.FontMarks.{used_fonts, is_marked, marked_fonts}
 use Rattle.extents.proofs.FontMarksLaws.{fonts_marked}
-use Rattle.dvi2.specs.Writer.{first_writing, writing_after_all, pages_bytes, definition_bytes, postamble_bytes, bytes223}
-use Rattle.dvi2.specs.WriterLaws.{length_definitions, definitions_append}
+use Rattle.octets.specs.PutIfRoom.{PutIfRoom}
+use Rattle.octets.specs.PutIfRoomLaws.{put_if_room_none, put_if_room_then, put_if_room_named}
+use Rattle.dvi2.specs.Writer.{first_writing, writing_after_all, pages_bytes, definition_bytes, postamble_bytes, fillers, bytes223}
+use Rattle.dvi2.specs.WriterLaws.{length_definitions, definitions_append, length_223}
 use Rattle.dvi2_writer.specs.declared.writing.Writing.{Writing}
 use Rattle.dvi2_writer.specs.Writing.{Tallied}
 use Rattle.dvi2_writer.specs.Postamble.{postamble_of}
@@ -42,14 +44,30 @@ module _ (low high : ℕ) where
 
 -- ---- the bytes 223
 
--- the first of them
-pub take_223 : (k d : ℕ) → take k (bytes223 (k + d)) ≡ bytes223 k
+more_223 : (n : ℕ) → bytes223 n ++ (223 ∷ []) ≡ bytes223 (suc n)
 unfolding bytes223
-take_223 zero d = refl
-take_223 (suc k) d = rw suc-add (ap (λ (l : List ℕ). 223 ∷ l) (take_223 k d))
+more_223 zero = refl
+more_223 (suc n) = ap (λ (l : List ℕ). 223 ∷ l) (more_223 n)
 
-pub some_223 : (k : ℕ) → k ≤ 7 → take k (bytes223 7) ≡ bytes223 k
-some_223 k h = let e : k + (7 - k) ≡ 7 = omega arith in rw e at (take_223 k (7 - k))
+-- some of them are written
+pub record Filled (first : List ℕ) (at end : ℕ) (out : List ℕ) (to : ℕ) : Type 0 where
+  pub many : ℕ
+  pub puts : PutIfRoom first at (bytes223 many) out to
+  pub within : to ≤ end
+
+pub filled_start : (first : List ℕ) (at end : ℕ) → at ≤ end → Filled first at end first at
+unfolding bytes223
+filled_start first at end h = record { many = 0; puts = put_if_room_none first at; within = h }
+
+pub filled_more : (first : List ℕ) (at end : ℕ) (out : List ℕ) (to : ℕ) → Filled first at end out to → to < end → (o : List ℕ) (r : ℕ) → PutIfRoom out to (223 ∷ []) o r → Filled first at end o r
+filled_more first at end out to f h o r p =
+    record { many = suc f.many; puts = put_if_room_named (more_223 f.many) (put_if_room_then f.puts p); within = omega (arith, p.next_is) }
+
+pub filled_end : (first : List ℕ) (at : ℕ) (out : List ℕ) (to : ℕ) → Filled first at (at + 4 + (4 - at % 4) % 4) out to → at + 4 + (4 - at % 4) % 4 ≤ to → PutIfRoom first at (bytes223 (fillers at)) out to
+unfolding fillers
+filled_end first at out to f h =
+    let e : f.many ≡ 4 + (4 - at % 4) % 4 = omega (arith, f.within, f.puts.next_is, length_223 f.many) in
+    put_if_room_named (ap bytes223 e) f.puts
 
 -- ---- the postamble
 

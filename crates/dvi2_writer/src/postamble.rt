@@ -51,6 +51,11 @@ pub fn put_fillers(out: &mut [u8], at: usize) -> usize
     requires { at < 2147483648 }
     ensures { PutIfRoom out.old at (bytes223 (fillers at)) out.new result }
 {
-    let count = 4 + (4 - at % 4) % 4;
-    put::put_bytes(out, at, &[opcode::FILLER; 7][..count])
+    let end = at + 4 + (4 - at % 4) % 4;
+    let mut to = at;
+    // One by one: by a part of an array of them, the archive for C would need memset from outside, which nothing else of this edition does.
+    while to < end {
+        to = put::put_bytes(out, to, &[opcode::FILLER]);
+    }
+    to
 }

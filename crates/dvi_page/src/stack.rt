@@ -1,7 +1,7 @@
 // The stack: 200 entries of six numbers in one array, entry d from place 6 d on. The array has numbers; a page has rsu.
-ghost use Rattle.std.specs.Prelude.{◌≡◌, ◌∷◌, ◌+◌, ◌<◌};
+ghost use Rattle.std.specs.Prelude.{◌≡◌, ◌∷◌, ◌+◌, ◌<◌, length};
 ghost use Rattle.dvi.specs.Page.{max_stack};
-ghost use Rattle.dvi_page.specs.Stack.{six_numbers, entry_at, stack_of};
+ghost use Rattle.dvi_page.specs.Stack.{stack_size, six_numbers, entry_at, stack_of};
 
 use measure::Rsu;
 
@@ -24,8 +24,8 @@ pub struct Numbers {
 }
 
 // Puts n on top of d entries.
-pub fn put_entry(stack: &mut Entries, d: usize, n: Numbers)
-    requires { d < max_stack }
+pub fn put_entry(stack: &mut [i32], d: usize, n: Numbers)
+    requires { (d < max_stack) × (length stack.old ≡ stack_size) }
     ensures { stack_of stack.new (d + 1) ≡ six_numbers n ∷ stack_of stack.old d }
 {
     let i = 6 * d;
@@ -38,8 +38,8 @@ pub fn put_entry(stack: &mut Entries, d: usize, n: Numbers)
 }
 
 // Entry d, counted from the bottom.
-pub fn entry(stack: &Entries, d: usize) -> Numbers
-    requires { d < max_stack }
+pub fn entry(stack: &[i32], d: usize) -> Numbers
+    requires { (d < max_stack) × (length stack.now ≡ stack_size) }
     ensures { six_numbers result ≡ entry_at stack.now d }
 {
     let i = 6 * d;

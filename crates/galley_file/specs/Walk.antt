@@ -4,6 +4,7 @@
 --     midway_start   at the first field
 --     midway_next    past the next item
 --     midway_end     at End
+--     midway_turn    in a turn of a `for` over the items: this turn's item stands behind the fields of those gone by
 -- Assumes nothing.
 use Rattle.std.specs.Prelude.{◌≡◌, refl, true, List, [], ◌∷◌, ◌++◌, ℕ, ◌+◌, ◌≤◌, ◌<◌, length, drop}
 use Rattle.std.proofs.Common.{sym, ap, subst, ◌∙◌, append_assoc, append-nil, arith, length-append, length-drop, drop-drop}
@@ -103,3 +104,20 @@ module _ (form : Form) (g : List ℕ) (is done : List Item) (at : ℕ) (m : Midw
   -- what reading it asks
   pub midway_whole : at + 7 < length g → WholeAt form g at
   midway_whole h = let n = midway_next h in record { inside = omega (arith, n.room); is_valid = n.is_valid }
+
+-- past the items gone by
+walk_past : (form : Form) (g : List ℕ) (more gone rest : List Item) (at : ℕ) → Walk form g gone (more ++ rest) at → Walk form g (gone ++ more) rest (length (fields form (gone ++ more)))
+walk_past form g [] gone rest at w =
+    subst (λ (is : List Item). Walk form g is rest (length (fields form is))) (sym (append-nil gone)) (subst (λ (n : ℕ). Walk form g gone rest n) w.at_is w)
+walk_past form g (i ∷ more) gone rest at w =
+    subst (λ (is : List Item). Walk form g is rest (length (fields form is))) (append_assoc gone (i ∷ []) more) (walk_past form g more (gone ++ (i ∷ [])) rest (at + item_size form i) (walk_step form g gone i (more ++ rest) at w).walk)
+
+pub midway_turn : (form : Form) (g : List ℕ) (is : List Item) → read_galley form g ≡ whole is → (done : List Item) (i : Item) (rest : List Item) → is ≡ done ++ (i ∷ rest) → Onward form g is done (length (fields form done)) i
+midway_turn form g is e done i rest a =
+    let w = walk_past form g done [] (i ∷ rest) 0 (subst (λ (js : List Item). Walk form g [] js 0) a (walk_start form g is e)) in
+    let s = walk_step form g done i rest (length (fields form done)) w in
+    record {
+      is_valid = s.is_valid;
+      room = s.room;
+      next = record { rest = rest; all = a ∙ sym (append_assoc done (i ∷ []) rest); walk = s.walk };
+    }

@@ -31,31 +31,31 @@ pub const LAST_CODE: u8 = 108;
 // The greatest x of a double size, which is valid in every size.
 const LAST_DOUBLE_X: Units = Units(measure::CARRIAGE_END.0 - measure::DOUBLE_SHIFT.0);
 
-// Whether x is valid in a single or a double size. With && the check of a galley takes 30% more: its loop is then compiled once for both forms.
+// Whether x is valid in a single or a double size.
 pub fn valid_x(double: bool, x: Units) -> bool
     ensures { result ≡ valid_x double x.0 }
 {
-    let v = x.0;
     if double {
-        if measure::FIRST_X.0 <= v {
-            v <= LAST_DOUBLE_X.0
-        } else {
-            false
-        }
+        measure::FIRST_X.0 <= x.0 && x.0 <= LAST_DOUBLE_X.0
     } else {
-        if 0 <= v {
-            v <= measure::CARRIAGE_END.0
-        } else {
-            false
-        }
+        0 <= x.0 && x.0 <= measure::CARRIAGE_END.0
     }
 }
 
-// Whether c is valid but for its height, where `across` says whether its x is.
+// Whether c is valid but for its height, where `across` says whether its x is. With && here and in `is_character` the check of a galley takes 30% more.
 fn valid_beside_x(c: Character, across: bool) -> bool
     ensures { result ≡ (ltb c.font 120 && leb 1 c.code && leb c.code 108 && across) }
 {
-    c.font < crate::font::FONTS && 1 <= c.code && c.code <= LAST_CODE && across
+    if crate::font::FONTS <= c.font {
+        return false;
+    }
+    if c.code < 1 {
+        return false;
+    }
+    if LAST_CODE < c.code {
+        return false;
+    }
+    across
 }
 
 // Whether c is valid but for its height.
@@ -112,9 +112,15 @@ fn is_valid_first(f: Form, s: &[u8]) -> bool
 pub fn is_character(f: Form, s: &[u8]) -> bool
     ensures { result ≡ is_character f s.now }
 {
-    field::starts_field(s, form::character_tag(f), form::body_bytes(f))
-        && height_at(f, s, HEIGHT_AT) <= form::greatest_height(f).0 as u32
-        && is_valid_first(f, s)
+    if field::starts_field(s, form::character_tag(f), form::body_bytes(f)) {
+        if height_at(f, s, HEIGHT_AT) <= form::greatest_height(f).0 as u32 {
+            is_valid_first(f, s)
+        } else {
+            false
+        }
+    } else {
+        false
+    }
 }
 
 // Writes a height; gives the place after it.

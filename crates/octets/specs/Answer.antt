@@ -199,10 +199,13 @@ length_of (refused number place) = 0
 abbrev pub numbers_of : Outcome → List ℕ
 numbers_of o = number_of o ∷ place_of o ∷ length_of o ∷ []
 
--- the outcome that each case of an answer stands for
+-- the outcome that each case of an answer stands for, by the length of what is accepted, and the number and the place of a refusal
+abbrev pub outcome_by : {T E : Type 0} → (T → ℕ) → (E → ℕ) → (E → ℕ) → ResultOf T E → Outcome
+outcome_by length number place (Ok n) = accepted (length n)
+outcome_by length number place (Err r) = refused (number r) (place r)
+
 abbrev pub outcome_of : ResultOf ℕ Refusal → Outcome
-outcome_of (Ok n) = accepted n
-outcome_of (Err r) = refused (number_in r.reason) r.place
+outcome_of = outcome_by (λ (n : ℕ). n) (λ (r : Refusal). number_in r.reason) (λ (r : Refusal). r.place)
 
 -- ---- results
 

@@ -7,12 +7,12 @@
 -- Assumes nothing.
 use Rattle.std.specs.Prelude.{◌≡◌, Bool, List, ℕ, length, Result as ResultOf, Ok, Err}
 use Rattle.std.proofs.Math.Path.{refl}
-use Rattle.std.proofs.Common.{sym, ap, ◌∙◌, suc-ne-zero, arith}
+use Rattle.std.proofs.Common.{sym, ap, subst, ◌∙◌, suc-ne-zero, arith}
 use Rattle.std.proofs.Math.Bool.{true, false, cond}
 use borrow.Author.Tests.{ltb-false}
 use Rattle.std.proofs.Math.Dec.{ltb}
 use Rattle.std.proofs.lemmas.List.Edits.{sets}
-use Rattle.octets.specs.Answer.{accepted, refused, number_in, Result, refusal, written, outcome, outcome_of, buffer_after, if_room, Gives}
+use Rattle.octets.specs.Answer.{Outcome, accepted, refused, number_in, Result, refusal, written, outcome, outcome_of, buffer_after, if_room, Gives}
 use Rattle.octets.specs.AnswerLaws.{gives}
 use Rattle.octets.specs.Write.{sets_start, put_if}
 use Rattle.octets.specs.Pass.{bytes_of, Roomy, Passed, decided}
@@ -93,4 +93,4 @@ module _ (number : ℕ) (a : ResultOf ℕ Refusal) {x : Result} {r : ResultOf �
 
     -- and what the second pass found is what was decided
     pub pass_second : {n : ℕ} {s : ResultOf ℕ Refusal} {last : List ℕ} → a ≡ Ok n → Passed x true later s last → Gives (outcome_of s) result buffer last
-    pass_second e v = gives q (v.found ∙ sym (ap outcome (accepts e).1)) (whole_buffer e v)
+    pass_second {n} {s} {last} e v = subst (λ (o : Outcome). Gives o result buffer last) (decides ∙ ap outcome (accepts e).1 ∙ sym v.found) (pass_whole e v)

@@ -1,9 +1,9 @@
 // An operation by two passes over an input: the first counts, the second writes.
 ghost use Rattle.std.specs.Prelude.{◌≡◌, true, length};
-ghost use Rattle.octets.specs.Answer.{Result as Made, outcome_of, number_in, if_room, Gives};
+ghost use Rattle.octets.specs.Answer.{Result as Made, outcome_by, outcome_of, number_in, if_room, Gives};
 ghost use Rattle.octets.specs.Pass.{Roomy, Passed, decided};
 
-use crate::refusal::{Answer, Reason};
+use crate::refusal::{Answer, Numbered, Reason};
 
 // The input of an operation, and what one pass over it does: it counts the bytes of the result, and writes them, if writing.
 pub trait TwoPass {
@@ -16,12 +16,16 @@ pub trait TwoPass {
 }
 
 // What the first pass and the room decide: a refusal is the answer, and so is too little room.
-pub fn answered(found: Answer, room: usize, short: Reason) -> Answer
-    ensures { outcome_of result ≡ decided (number_in short) room (outcome_of found) }
+pub fn answered<E: Numbered>(
+    found: Result<usize, E>,
+    room: usize,
+    short: E::Cause,
+) -> Result<usize, E>
+    ensures { let told = outcome_by (λ n. n) E.number_is E.place_is in told result ≡ decided (E.cause_number short) room (told found) }
 {
     let needed = found?;
     if room < needed {
-        return Err(short.at(needed));
+        return Err(E::made_at(short, needed));
     }
     Ok(needed)
 }

@@ -1,6 +1,6 @@
 // Why a call is refused, and where (document 01, "Numbers given back").
-ghost use Rattle.std.specs.Prelude.{◌≡◌};
-ghost use Rattle.octets.specs.Answer.{outcome_of, numbers_of, number_in};
+ghost use Rattle.std.specs.Prelude.{◌≡◌, ℕ};
+ghost use Rattle.octets.specs.Answer.{outcome_by, numbers_of, number_in};
 
 // The reason of a refusal, with its number.
 #[derive(Clone, Copy, PartialEq, Eq)]
@@ -76,12 +76,79 @@ impl Reason {
     }
 }
 
+// A refusal, however it is kept: with a reason, or with any number.
+pub trait Numbered: Copy {
+    // What it is made of, with a place.
+    type Cause: Copy;
+
+    ghost cause_number: { Self.Cause → ℕ };
+
+    ghost number_is: { Self → ℕ };
+
+    ghost place_is: { Self → ℕ };
+
+    fn made_at(cause: Self::Cause, place: usize) -> Self
+        ensures number { number_is result ≡ cause_number cause }
+        ensures place { place_is result ≡ place };
+
+    fn number(self) -> u8
+        ensures { result ≡ number_is self };
+
+    fn place(self) -> usize
+        ensures { result ≡ place_is self };
+}
+
+impl Numbered for Refusal {
+    type Cause = Reason;
+
+    ghost cause_number = { number_in };
+
+    ghost number_is = { λ refusal. number_in refusal.reason };
+
+    ghost place_is = { λ refusal. refusal.place };
+
+    fn made_at(cause: Reason, place: usize) -> Refusal {
+        cause.at(place)
+    }
+
+    fn number(self) -> u8 {
+        self.reason.number()
+    }
+
+    fn place(self) -> usize {
+        self.place
+    }
+}
+
+// A number and a place, as they were kept: the number need be no reason's.
+impl Numbered for (u8, usize) {
+    type Cause = u8;
+
+    ghost cause_number = { λ number. number };
+
+    ghost number_is = { λ kept. kept.0 };
+
+    ghost place_is = { λ kept. kept.1 };
+
+    fn made_at(cause: u8, place: usize) -> (u8, usize) {
+        (cause, place)
+    }
+
+    fn number(self) -> u8 {
+        self.0
+    }
+
+    fn place(self) -> usize {
+        self.1
+    }
+}
+
 // Number, place and length.
-pub fn numbers(answer: Answer) -> [usize; 3]
-    ensures { result ≡ numbers_of (outcome_of answer) }
+pub fn numbers<E: Numbered>(answer: Result<usize, E>) -> [usize; 3]
+    ensures { result ≡ numbers_of (outcome_by (λ n. n) E.number_is E.place_is answer) }
 {
     match answer {
         Ok(length) => [0, 0, length],
-        Err(refusal) => [refusal.reason.number() as usize, refusal.place, 0],
+        Err(refusal) => [refusal.number() as usize, refusal.place(), 0],
     }
 }

@@ -10,9 +10,9 @@
 --     Reprints           what a reprint promises
 --     ReprintsNumbers    the same where the numbers are given in an array
 --     Distinguished      two galleys, and what is shown of them
-use Rattle.std.specs.Prelude.{ℕ, ◌+◌, ◌*◌, ◌%◌, ◌≤◌, cond, List, [], ◌∷◌, ◌++◌, ◌↔◌, ◌≡◌, ℤ, pos, length, drop, Result as ResultOf, Ok, Err}
+use Rattle.std.specs.Prelude.{ℕ, ◌+◌, ◌*◌, ◌%◌, ◌≤◌, cond, List, [], ◌∷◌, ◌++◌, ◌↔◌, ◌≡◌, ℤ, pos, length, drop, Result as ResultOf}
 use Rattle.octets.specs.declared.refusal.Refusal.{Refusal}
-use Rattle.octets.specs.Answer.{number_in, Outcome, accepted, refused, number_of, place_of, length_of, Result, refusal, written, widths_not_whole, Gives}
+use Rattle.octets.specs.Answer.{number_in, Outcome, outcome_by, accepted, number_of, place_of, length_of, Result, refusal, written, widths_not_whole, Gives}
 use Rattle.measure.specs.Place.{low_end}
 use Rattle.galley_file.specs.declared.form.Form.TheVariants.{New}
 use Rattle.galley_file.specs.declared.item.Item.{Item}
@@ -59,14 +59,18 @@ of_sheet (reprinted file bs) = written bs
 
 -- ---- what a call gives
 
--- the outcomes that each case of the answer stands for
+-- the outcomes that each case of the answer stands for, by the number and the place of a refusal
+abbrev pub file_outcome_by : {E : Type 0} → (E → ℕ) → (E → ℕ) → ResultOf Lengths E → Outcome
+file_outcome_by = outcome_by (λ (l : Lengths). l.file)
+
+abbrev pub sheet_outcome_by : {E : Type 0} → (E → ℕ) → (E → ℕ) → ResultOf Lengths E → Outcome
+sheet_outcome_by = outcome_by (λ (l : Lengths). l.sheet)
+
 abbrev pub file_outcome : ResultOf Lengths Refusal → Outcome
-file_outcome (Ok l) = accepted l.file
-file_outcome (Err r) = refused (number_in r.reason) r.place
+file_outcome = file_outcome_by (λ (r : Refusal). number_in r.reason) (λ (r : Refusal). r.place)
 
 abbrev pub sheet_outcome : ResultOf Lengths Refusal → Outcome
-sheet_outcome (Ok l) = accepted l.sheet
-sheet_outcome (Err r) = refused (number_in r.reason) r.place
+sheet_outcome = sheet_outcome_by (λ (r : Refusal). number_in r.reason) (λ (r : Refusal). r.place)
 
 -- number, place, the sheet's length and the file's
 abbrev pub both_numbers : Outcome → Outcome → List ℕ

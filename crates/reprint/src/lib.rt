@@ -8,11 +8,11 @@ ghost use Rattle.galley_file.specs.Galley.{items_of};
 ghost use Rattle.galley_check.specs.Low.{low_outcome};
 ghost use Rattle.dvi.specs.Writer.{dvi_file};
 ghost use Rattle.sheet.specs.Readable.{font_chars};
-ghost use Rattle.reprint.specs.Reprint.{reprint_result, file_outcome, sheet_outcome, both_numbers, sheet_size, GivesBoth, Reprints};
+ghost use Rattle.reprint.specs.Reprint.{reprint_result, file_outcome_by, sheet_outcome_by, file_outcome, sheet_outcome, both_numbers, sheet_size, GivesBoth, Reprints};
 
 use galley_file::{form, item};
 use octets::field;
-use octets::refusal::{Reason, Refusal};
+use octets::refusal::{Numbered, Reason, Refusal};
 
 // The fields of page 1 and of the end.
 const OTHER_FIELDS: usize = sheet::PAGE_FIELD + field::END_FIELD;
@@ -25,12 +25,12 @@ pub struct Lengths {
 }
 
 // Number, place, the sheet's length and the file's.
-pub fn numbers(answer: Result<Lengths, Refusal>) -> [usize; 4]
-    ensures { result ≡ both_numbers (file_outcome answer) (sheet_outcome answer) }
+pub fn numbers<E: Numbered>(answer: Result<Lengths, E>) -> [usize; 4]
+    ensures { result ≡ both_numbers (file_outcome_by E.number_is E.place_is answer) (sheet_outcome_by E.number_is E.place_is answer) }
 {
     match answer {
         Ok(lengths) => [0, 0, lengths.sheet, lengths.file],
-        Err(refusal) => [refusal.reason.number() as usize, refusal.place, 0, 0],
+        Err(refusal) => [refusal.number() as usize, refusal.place(), 0, 0],
     }
 }
 

@@ -6,11 +6,11 @@ mod close;
 
 ghost use Rattle.std.specs.Prelude.{◌≡◌, Ok, Err};
 ghost use Rattle.octets.specs.Answer.{number_of, place_of, outcome};
-ghost use Rattle.running.specs.Answer.{outcome_in};
+ghost use Rattle.running.specs.Answer.{kept_number, kept_place, outcome_in};
 ghost use Rattle.running.specs.Running.{is_sound, failed, new_tape, begun, close_of, start_of, Leaves};
 
 use extents::Extents;
-use octets::refusal::{Reason, Refusal};
+use octets::refusal::{Numbered, Reason, Refusal};
 use typesetter::code::Machine;
 use typesetter::machine::State;
 
@@ -39,6 +39,34 @@ pub struct Running {
 pub enum Refused {
     Now(Refusal),
     Again(u8, usize),
+}
+
+impl Numbered for Refused {
+    type Cause = u8;
+
+    ghost cause_number = { λ number. number };
+
+    ghost number_is = { kept_number };
+
+    ghost place_is = { kept_place };
+
+    fn made_at(cause: u8, place: usize) -> Refused {
+        Refused::Again(cause, place)
+    }
+
+    fn number(self) -> u8 {
+        match self {
+            Refused::Now(refusal) => refusal.number(),
+            Refused::Again(number, _) => number,
+        }
+    }
+
+    fn place(self) -> usize {
+        match self {
+            Refused::Now(refusal) => refusal.place,
+            Refused::Again(_, place) => place,
+        }
+    }
 }
 
 // The length of what a call wrote, or its refusal.

@@ -5,23 +5,12 @@ pub mod words;
 
 ghost use Rattle.std.specs.Prelude.{◌≡◌};
 ghost use Rattle.octets.specs.Answer.{numbers_of, outcome};
-ghost use Rattle.running.specs.Answer.{outcome_in};
 ghost use Rattle.running.specs.Running.{new_tape, start_of, feed_of, close_of};
 ghost use Rattle.spatecanter_running.specs.Words.{tape_in, reach_of, font_marks, Holds, LeavesWords};
 
-use running::{Answer, Refused, Running};
+use octets::refusal;
+use running::Running;
 use words::TapeWords;
-
-// Number, place and length. A refusal that is repeated has its number and place as the words hold them.
-fn numbers(answer: Answer) -> [usize; 3]
-    ensures { result ≡ numbers_of (outcome_in answer) }
-{
-    match answer {
-        Ok(length) => [0, 0, length],
-        Err(Refused::Now(refusal)) => [usize::from(refusal.reason.number()), refusal.place, 0],
-        Err(Refused::Again(number, place)) => [usize::from(number), place, 0],
-    }
-}
 
 // A running tape before any start.
 #[unsafe(no_mangle)]
@@ -38,7 +27,7 @@ pub extern "C" fn sp_start(tape: &mut TapeWords, machine: u32, answer: &mut [usi
 {
     let reply = words::tape_in(*tape).started(machine);
     *tape = words::words_of(reply.tape);
-    *answer = numbers(reply.answer);
+    *answer = refusal::numbers(reply.answer);
 }
 
 // A piece of the tape: its fields go into the lent buffer, without an End.
@@ -53,7 +42,7 @@ pub extern "C" fn sp_feed(
 {
     let reply = running_piece::fed(words::tape_in(*tape), piece, out);
     *tape = words::words_of(reply.tape);
-    *answer = numbers(reply.answer);
+    *answer = refusal::numbers(reply.answer);
 }
 
 // The end of the tape: End goes into the lent buffer.
@@ -63,7 +52,7 @@ pub extern "C" fn sp_close(tape: &mut TapeWords, out: &mut [u8], answer: &mut [u
 {
     let reply = words::tape_in(*tape).closed(out);
     *tape = words::words_of(reply.tape);
-    *answer = numbers(reply.answer);
+    *answer = refusal::numbers(reply.answer);
 }
 
 // Farthest x and greatest height of the characters gone out since the start, and the marks of their fonts.

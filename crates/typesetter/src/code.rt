@@ -100,20 +100,26 @@ impl Machine {
         }
     }
 
-    // The class of a code.
-    #[tactic(auto, unfolding(crate::specs::Code::code_of))]
+    // The top bits sort a code.
     pub fn classify(self, b: u8) -> Code
         ensures { result ≡ code_of self b }
     {
-        match b {
-            0x00 => Code::Ignored,
-            0x01..=0x3F => Code::Instructs(Instruction::Flash(b)),
-            0x40..=0x4F => self.control(b - 0x40),
-            0x50..=0x5E => Code::Instructs(Instruction::Size(b - 0x50)),
-            0x5F => Code::Illegal,
-            0x60..=0x7F => Code::Instructs(Instruction::Lead(lead_size(b))),
-            0x80..=0xFE => Code::Instructs(Instruction::Escape(escape_size(b))),
-            0xFF => Code::Illegal,
+        if b == 0 {
+            Code::Ignored
+        } else if b == 255 {
+            Code::Illegal
+        } else if b >> 7 == 1 {
+            Code::Instructs(Instruction::Escape(escape_size(b)))
+        } else if b >> 6 == 0 {
+            Code::Instructs(Instruction::Flash(b))
+        } else if b >> 5 == 3 {
+            Code::Instructs(Instruction::Lead(lead_size(b)))
+        } else if b >> 4 == 4 {
+            self.control(b & 15)
+        } else if b == 95 {
+            Code::Illegal
+        } else {
+            Code::Instructs(Instruction::Size(b & 15))
         }
     }
 }

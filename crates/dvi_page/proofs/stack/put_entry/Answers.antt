@@ -4,6 +4,7 @@ use mathlib.Core.Path.{◌≡◌, ◌∙◌, ap}
 use mathlib.Core.List.{◌∷◌}
 use native.Mathlib.Omega.{arith}
 use lib.IntN.{ℤ}
+use lib.ListN.{length-set}
 use mir.Syntax.{w32}
 use mir.Val.{to_z, of_z}
 use Rattle.integers.specs.Bits.{plain}
@@ -38,3 +39,21 @@ pub returns : goal.returns
 returns c =
     let a = c.args in
     stored_stack a.stack.now a.d (omega arith) _ _ _ _ _ _ ∙ ap (λ (n : Numbers). n ∷ stack_of a.stack.now a.d) (six (goal.at.returns c).After-struct_told-1)
+
+pub bounds-stack-i-2 : goal.bounds-stack-i-2
+bounds-stack-i-2 c = simp length-set (omega arith)
+
+pub bounds-stack-i-3 : goal.bounds-stack-i-3
+bounds-stack-i-3 c = simp length-set (omega arith)
+
+pub bounds-stack-i-4 : goal.bounds-stack-i-4
+bounds-stack-i-4 c = simp length-set (omega arith)
+
+pub bounds-stack-i-5 : goal.bounds-stack-i-5
+bounds-stack-i-5 c = simp length-set (omega arith)
+
+pub bounds-stack-i-6 : goal.bounds-stack-i-6
+bounds-stack-i-6 c = simp length-set (omega arith)
+
+pub shape_of-stack : goal.shape_of-stack
+shape_of-stack c = simp length-set

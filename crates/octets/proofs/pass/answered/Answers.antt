@@ -6,12 +6,12 @@ use Rattle.octets.proofs.pass.answered.Goals as goal
 
 pub returns-in_err-needed : goal.returns-in_err-needed
 unfolding decided
-returns-in_err-needed c = search rules
+returns-in_err-needed g c = search rules
 
 pub returns-then-room-needed : goal.returns-then-room-needed
 unfolding decided
-returns-then-room-needed c = rw (c.in_ok-needed.was, lt-ltb c.args.room c.in_ok-needed.needed c.if-room-needed.true, c.at.ensures)
+returns-then-room-needed g c = rw (c.in_ok-needed.was, lt-ltb c.args.room c.in_ok-needed.needed c.if-room-needed.true, c.made_at.ensures.number, c.made_at.ensures.place)
 
 pub returns : goal.returns
 unfolding decided
-returns c = rw (c.in_ok-needed.was, le-ltb c.args.room c.in_ok-needed.needed c.if-room-needed.false)
+returns g c = rw (c.in_ok-needed.was, le-ltb c.args.room c.in_ok-needed.needed c.if-room-needed.false)

@@ -5,7 +5,9 @@ use Rattle.galley_file.specs.declared.form.Form.TheVariants.{New}
 use Rattle.galley_file.specs.Items.{items_left}
 use Rattle.galley_file.specs.ItemsLaws.{items_turn, items_over}
 use Rattle.galley_file.specs.Galley.{fields, items_of}
-use Rattle.galley_file.specs.FieldsLaws.{galley_long, galley_fields, length_more, fields_room}
+use Rattle.galley_file.specs.GalleyLaws.{read_as}
+use Rattle.galley_file.specs.FieldsLaws.{galley_fields, length_more}
+use Rattle.galley_file.specs.Walk.{midway_turn}
 use Rattle.galley_file.specs.Outcome.{check_outcome}
 use Rattle.galley_file.specs.declared.items.Items.{Items}
 use Rattle.octets.specs.declared.refusal.Refusal.{Refusal}
@@ -59,9 +61,8 @@ returns-then-not-is_low c =
 pub overflow_add-at : goal.overflow_add-at
 overflow_add-at c =
     let a = goal.at.overflow_add-at c in
-    let r = fields_room New c.loop-item.yielded c.in-Some.item _ _ (turn a.In-Some) in
-    let g = galley_long New c.args.bytes.now _ (accepted_is a.In_ok-galley) in
-    omega (arith, r, g, c.loop-item.invariant.0, c.item_size-at.ensures, c.well_formed)
+    let m = midway_turn New c.args.bytes.now _ (read_as New _ _ (accepted_is a.In_ok-galley)) c.loop-item.yielded c.in-Some.item _ (turn a.In-Some) in
+    omega (arith, m.room, c.loop-item.invariant.0, c.item_size-at.ensures, c.well_formed)
 
 pub loop-item-preserved : goal.loop-item-preserved
 loop-item-preserved c =
