@@ -42,7 +42,8 @@ pub fn valid_x(double: bool, x: Units) -> bool
     }
 }
 
-// Whether c is valid but for its height, where `across` says whether its x is. With && here and in `is_character` the check of a galley takes 30% more.
+// Whether c is valid but for its height, where `across` says whether its x is. With && here and in `is_character` going from item to
+// item takes 5% more.
 fn valid_beside_x(c: Character, across: bool) -> bool
     ensures { result ≡ (ltb c.font 120 && leb 1 c.code && leb c.code 108 && across) }
 {

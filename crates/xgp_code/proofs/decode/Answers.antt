@@ -1,4 +1,4 @@
--- `xgp_code::decode` meets its contract: the arms are the rows of the table.
+-- `xgp_code::decode` meets its contract: its tests and arms are the rows of the table.
 -- Assumes nothing.
 use Rattle.xgp_code.specs.Code.{escaped, usual, of_seven_bits, decode}
 use Rattle.octets.specs.AnswerLaws.{handed_on}
